@@ -1,0 +1,1 @@
+// Theory only: cones, their leaves and their reach, in specs/.

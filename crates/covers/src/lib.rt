@@ -1,0 +1,1 @@
+// Definitions and theory only: covers and the written cover, in specs/.

@@ -1,0 +1,5 @@
+pub mod Parts
+pub mod Order
+pub mod Height
+pub mod Lag
+pub mod Cover

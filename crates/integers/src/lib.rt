@@ -1,0 +1,1 @@
+// Theory only: facts about whole numbers, in specs/.

@@ -1,0 +1,1 @@
+// Definitions and theory only: labellings, in specs/.

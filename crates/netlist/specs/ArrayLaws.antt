@@ -1,0 +1,102 @@
+-- Laws of a net kept as arrays: its sizes, and the pins of each gate by their places.
+use mathlib.Core.Path.{_≡_, refl, sym, ap, _∙_, subst}
+use mathlib.Core.List.{List, [], _∷_}
+use Prim.Native.Nat.{ℕ, zero, suc, _+_, _-_, _*_, _≤_, _<_}
+use native.Mathlib.Nat.{add-zero, add-suc, suc-add, zero-add, not-suc-le-zero, le-of-suc-le-suc}
+use native.Mathlib.Omega.{arith}
+use lib.ListN.{length, getD}
+use Rattle.sequences.specs.Member.{_∈_, here, there, not-in-nil}
+use Rattle.netlist.specs.Net.{Net, Pin, Gate, IsGate, gate, pins, nothing, size}
+use Rattle.netlist.specs.Arrays.{Arrays, netIn, pinsIn, gatesIn, stride}
+
+pub length-pinsIn : (s c : List ℕ) (at n : ℕ) → length (pinsIn s c at n) ≡ n
+unfolding pinsIn
+length-pinsIn s c at zero = refl
+length-pinsIn s c at (suc n) = ap suc (length-pinsIn s c (suc at) n)
+
+-- the pin at place i
+abbrev pub pinAt : List ℕ → List ℕ → ℕ → Pin
+pinAt s c i = record { src = getD s i 0; count = getD c i 0 }
+
+pub getD-pinsIn : (s c : List ℕ) (at n j : ℕ) (d : Pin) → j < n → getD (pinsIn s c at n) j d ≡ pinAt s c (at + j)
+unfolding pinsIn
+getD-pinsIn s c at zero j d h = absurd (not-suc-le-zero h)
+getD-pinsIn s c at (suc n) zero d h = ap (pinAt s c) (sym (add-zero at))
+getD-pinsIn s c at (suc n) (suc j) d h = getD-pinsIn s c (suc at) n j d (le-of-suc-le-suc h) ∙ ap (pinAt s c) (suc-add at j ∙ sym (add-suc at j))
+
+-- a pin is at one of the places
+pub pinsIn-in : (s c : List ℕ) (at n : ℕ) (p : Pin) → p ∈ pinsIn s c at n → (j : ℕ) × (j < n) × (p ≡ pinAt s c (at + j))
+unfolding pinsIn
+pinsIn-in s c at zero p h = absurd (not-in-nil h)
+pinsIn-in s c at (suc n) p h = go (pinsIn-in s c (suc at) n p) h
+  where
+    go : (p ∈ pinsIn s c (suc at) n → (j : ℕ) × (j < n) × (p ≡ pinAt s c (suc at + j)))
+      → p ∈ pinAt s c at ∷ pinsIn s c (suc at) n → (j : ℕ) × (j < suc n) × (p ≡ pinAt s c (at + j))
+    go rest (here e) = (zero, omega arith, e ∙ ap (pinAt s c) (sym (add-zero at)))
+    go rest (there m) =
+      let r = rest m in
+      (suc (r .0), omega (arith, r .1), r .2 ∙ ap (pinAt s c) (suc-add at (r .0) ∙ sym (add-suc at (r .0))))
+
+-- each place has its pin
+pub in-pinsIn : (s c : List ℕ) (at n j : ℕ) → j < n → pinAt s c (at + j) ∈ pinsIn s c at n
+unfolding pinsIn
+in-pinsIn s c at zero j h = absurd (not-suc-le-zero h)
+in-pinsIn s c at (suc n) zero h = here (ap (pinAt s c) (add-zero at))
+in-pinsIn s c at (suc n) (suc j) h =
+  there (subst (λ (i : ℕ). pinAt s c i ∈ pinsIn s c (suc at) n) (suc-add at j ∙ sym (add-suc at j)) (in-pinsIn s c (suc at) n j (le-of-suc-le-suc h)))
+
+pub length-gatesIn : (ps s c ts : List ℕ) (g n : ℕ) → length (gatesIn ps s c ts g n) ≡ n
+unfolding gatesIn
+length-gatesIn ps s c ts g zero = refl
+length-gatesIn ps s c ts g (suc n) = ap suc (length-gatesIn ps s c ts (suc g) n)
+
+abbrev pub gateAt : List ℕ → List ℕ → List ℕ → List ℕ → ℕ → Gate
+gateAt ps s c ts g = record { pins = pinsIn s c (stride * g) (getD ps g 0); table = getD ts g 0 }
+
+pub getD-gatesIn : (ps s c ts : List ℕ) (g n i : ℕ) (d : Gate) → i < n → getD (gatesIn ps s c ts g n) i d ≡ gateAt ps s c ts (g + i)
+unfolding gatesIn
+getD-gatesIn ps s c ts g zero i d h = absurd (not-suc-le-zero h)
+getD-gatesIn ps s c ts g (suc n) zero d h = ap (gateAt ps s c ts) (sym (add-zero g))
+getD-gatesIn ps s c ts g (suc n) (suc i) d h =
+  getD-gatesIn ps s c ts (suc g) n i d (le-of-suc-le-suc h) ∙ ap (gateAt ps s c ts) (suc-add g i ∙ sym (add-suc g i))
+
+module _ (a : Arrays) where
+  pub gates-netIn : length ((netIn a) .gates) ≡ a .gates
+  unfolding netIn
+  gates-netIn = length-gatesIn (a .pins) (a .sources) (a .counts) (a .tables) 0 (a .gates)
+
+  pub inputs-netIn : (netIn a) .inputs ≡ a .inputs
+  unfolding netIn
+  inputs-netIn = refl
+
+  pub outputs-netIn : (netIn a) .outputs ≡ pinsIn (a .outSources) (a .outCounts) 0 (a .outputs)
+  unfolding netIn
+  outputs-netIn = refl
+
+  pub size-netIn : size (netIn a) ≡ a .inputs + a .gates
+  unfolding netIn
+  size-netIn = ap (λ (n : ℕ). a .inputs + n) gates-netIn
+
+  -- the pins of gate g of the net, which is node inputs + g
+  pub pins-netIn : (v g : ℕ) → v ≡ a .inputs + g → g < a .gates → pins (netIn a) v ≡ pinsIn (a .sources) (a .counts) (stride * g) (getD (a .pins) g 0)
+  unfolding netIn gate
+  pins-netIn v g e h =
+    let i : v - a .inputs ≡ g = omega arith in
+    ap (λ (x : Gate). x .pins) (ap (λ (n : ℕ). getD (gatesIn (a .pins) (a .sources) (a .counts) (a .tables) 0 (a .gates)) n nothing) i
+      ∙ getD-gatesIn (a .pins) (a .sources) (a .counts) (a .tables) 0 (a .gates) g nothing h)
+    ∙ ap (λ (n : ℕ). pinsIn (a .sources) (a .counts) (stride * n) (getD (a .pins) n 0)) (zero-add g)
+
+  pub isGate-netIn : (v g : ℕ) → v ≡ a .inputs + g → g < a .gates → IsGate (netIn a) v
+  isGate-netIn v g e h =
+    let z = size-netIn in
+    let i = inputs-netIn in
+    record { low = omega arith; high = omega arith }
+
+  -- a gate's place among the gates
+  pub placeOfGate : (v : ℕ) → IsGate (netIn a) v → (g : ℕ) × (v ≡ a .inputs + g) × (g < a .gates)
+  placeOfGate v h =
+    let z = size-netIn in
+    let i = inputs-netIn in
+    let l = h .low in
+    let u = h .high in
+    (v - a .inputs, omega arith, omega arith)

@@ -1,0 +1,7 @@
+pub mod Net
+pub mod Checks
+pub mod Copies
+pub mod Tables
+pub mod Runs
+pub mod Arrays
+pub mod ArrayLaws

@@ -1,0 +1,1 @@
+// Definitions only: nets, copies, cones, cuts, tables and runs, in specs/.

@@ -1,0 +1,4 @@
+pub mod CoverBytes
+pub mod Listing
+pub mod Marking
+pub mod Outcomes

@@ -1,0 +1,164 @@
+-- Definitions: the outcome of map and of mark for every input (document 01, "What is turned back"): the answer, the cover area, the scratch.
+use mathlib.Core.Path.{_≡_, refl}
+use mathlib.Core.Bool.{Bool, true, false, cond, not, _||_}
+use mathlib.Core.List.{List, [], _∷_, _++_}
+use Prim.Native.Nat.{ℕ, zero, suc, _-_, _≤_, suc-le-suc, zero-le}
+use lib.Dec.{ltb}
+use lib.ListN.{length, drop, replicate}
+use Rattle.netlist.specs.Net.{Net}
+use Rattle.netlist.specs.Checks.{Sound, Fits, Loopless, AllReached, AllLeading, Passed}
+use Rattle.covers.specs.Covers.{LeastPeriod}
+use Rattle.covers.specs.Key.{Key, Entry, entries}
+use Rattle.netbytes.specs.Limits.{leastK, mostK, mostPeriod, coverArea, scratchArea}
+use Rattle.netbytes.specs.Reading.{Result, got, refused, between}
+use Rattle.netbytes.specs.Walk.{netReader}
+use Rattle.records.specs.CoverBytes.{Record, coverReader, coverBytes}
+use Rattle.records.specs.Marking.{CutsRight, TablesRight, AllFed, EnoughRegisters, ShortChains}
+
+-- The answer of map, the record's length, or of mark, the excess; or "A refusal returns its number and no count."
+pub data Answer : Type 0 where
+  accepted : ℕ → Answer
+  turnedBack : ℕ → Answer
+
+-- What the theory decides or finds, for the definitions below to use.
+pub record Decisions : Type 0 where
+  pub sound : (k : ℕ) (s rest : List ℕ) (N : Net) → netReader k s ≡ got N rest → Sound N
+  pub fits : (k : ℕ) (s rest : List ℕ) (N : Net) → netReader k s ≡ got N rest → Fits N k
+  pub loopless : (N : Net) → Sound N → Dec (Loopless N)
+  pub reached : (N : Net) → Sound N → Dec (AllReached N)
+  pub leading : (N : Net) → Sound N → Dec (AllLeading N)
+  pub key : (N : Net) (k φ : ℕ) → Passed N k → 1 ≤ φ → Dec (Key N k φ)
+  pub leastPeriod : (N : Net) (k : ℕ) → Passed N k → (φ : ℕ) × LeastPeriod N k φ × Key N k φ
+  pub cuts : (N : Net) (k : ℕ) → Passed N k → (es : List Entry) → Dec (CutsRight N k es)
+  pub tables : (N : Net) (k : ℕ) → Passed N k → (es : List Entry) → Dec (TablesRight N k es)
+  pub fed : (N : Net) (es : List Entry) → Dec (AllFed N es)
+  pub enough : (N : Net) (es : List Entry) → Dec (EnoughRegisters N es)
+  pub chains : (N : Net) (k : ℕ) → Passed N k → (period : ℕ) (es : List Entry) → Dec (ShortChains N period es)
+
+-- Checks 4 to 11: the net with all that they ask of it, or the first refusal.
+pub data Checked (k : ℕ) : Type 0 where
+  passes : (N : Net) → Passed N k → Checked k
+  fails : ℕ → Checked k
+
+-- "9. A loop has no register. 10. Some gate is reached from no input. 11. Some gate leads to no output."
+unfoldable pub checkGraph : (N : Net) (k : ℕ) → Sound N → Fits N k → Dec (Loopless N) → Dec (AllReached N) → Dec (AllLeading N) → Checked k
+checkGraph N k s f (no a) b c = fails 9
+checkGraph N k s f (yes a) (no b) c = fails 10
+checkGraph N k s f (yes a) (yes b) (no c) = fails 11
+checkGraph N k s f (yes a) (yes b) (yes c) = passes N (record { sound = s; fits = f; loopless = a; reached = b; leading = c })
+
+module _ (D : Decisions) where
+  unfoldable pub checkRead : (k : ℕ) (s : List ℕ) (r : Result Net) → netReader k s ≡ r → Checked k
+  unfolding checkGraph
+  checkRead k s (refused n) e = fails n
+  checkRead k s (got N rest) e =
+    let sound = D .sound k s rest N e in
+    checkGraph N k sound (D .fits k s rest N e) (D .loopless N sound) (D .reached N sound) (D .leading N sound)
+
+  -- "4 to 8 arise in one walk from the first byte, the first met counting", then 9, 10, 11.
+  unfoldable pub checkNet : (k : ℕ) → List ℕ → Checked k
+  unfolding checkRead
+  checkNet k s = checkRead k s (netReader k s) refl
+
+-- ---- map
+
+pub record MapOutcome : Type 0 where
+  pub answer : Answer
+  pub area : List ℕ
+  pub scratch : List ℕ
+
+-- "its first 65,536 bytes are 0, the rest kept"
+unfoldable pub cleared : ℕ → List ℕ → List ℕ
+cleared n s = replicate n 0 ++ drop n s
+
+-- the record in front; "bytes behind it are kept"
+abbrev pub written : List ℕ → List ℕ → List ℕ
+written bytes area = bytes ++ drop (length bytes) area
+
+-- 1, 2 and 3, in this order; 0 if all pass
+unfoldable pub mapSizes : ℕ → ℕ → List ℕ → List ℕ → ℕ
+mapSizes k target area scratch =
+  cond (not (between leastK mostK k)) 1
+    (cond (ltb mostPeriod target) 2 (cond (ltb (length area) coverArea || ltb (length scratch) scratchArea) 3 0))
+
+-- the period and the written cover for a target, or refusal 12
+pub data Mapped (N : Net) (k : ℕ) : Type 0 where
+  covered : (φ : ℕ) → Key N k φ → Mapped N k
+  unreachable : Mapped N k
+
+unfoldable pub forTarget : (N : Net) (k φ : ℕ) → Dec (Key N k φ) → Mapped N k
+forTarget N k φ (yes K) = covered φ K
+forTarget N k φ (no n) = unreachable
+
+unfoldable pub mapWritten : {N : Net} {k : ℕ} → Mapped N k → List ℕ → List ℕ → MapOutcome
+mapWritten (covered φ K) area scratch =
+  let bytes = coverBytes φ (entries K) in
+  record { answer = accepted (length bytes); area = written bytes area; scratch = cleared scratchArea scratch }
+mapWritten unreachable area scratch = record { answer = turnedBack 12; area = area; scratch = cleared scratchArea scratch }
+
+module _ (D : Decisions) where
+  -- "12. The target is not 0 and is not reachable." "(0 means the least period)"
+  unfoldable pub mapped : (N : Net) (k target : ℕ) → Passed N k → Mapped N k
+  unfolding forTarget
+  mapped N k zero p = let l = D .leastPeriod N k p in covered (l .0) (l .2)
+  mapped N k (suc t) p = forTarget N k (suc t) (D .key N k (suc t) p (suc-le-suc zero-le))
+
+  unfoldable pub mapChecked : (k target : ℕ) → Checked k → List ℕ → List ℕ → MapOutcome
+  unfolding mapped mapWritten
+  mapChecked k target (fails n) area scratch = record { answer = turnedBack n; area = area; scratch = cleared scratchArea scratch }
+  mapChecked k target (passes N p) area scratch = mapWritten (mapped N k target p) area scratch
+
+  unfoldable pub mapSized : ℕ → (k target : ℕ) → List ℕ → List ℕ → List ℕ → MapOutcome
+  unfolding mapChecked checkNet
+  mapSized zero k target net area scratch = mapChecked k target (checkNet D k net) area scratch
+  mapSized (suc n) k target net area scratch = record { answer = turnedBack (suc n); area = area; scratch = scratch }
+
+  -- Map for every input: net, k, target, cover area and scratch.
+  unfoldable pub mapOutcome : List ℕ → (k target : ℕ) → List ℕ → List ℕ → MapOutcome
+  unfolding mapSized mapSizes
+  mapOutcome net k target area scratch = mapSized (mapSizes k target area scratch) k target net area scratch
+
+-- ---- mark
+
+pub record MarkOutcome : Type 0 where
+  pub answer : Answer
+  pub scratch : List ℕ
+
+-- 1 and 3; 0 if both pass
+unfoldable pub markSizes : ℕ → List ℕ → ℕ
+markSizes k scratch = cond (not (between leastK mostK k)) 1 (cond (ltb (length scratch) scratchArea) 3 0)
+
+-- "13 to 18 are each tested over the whole record before the next."
+unfoldable pub judged : (N : Net) (k : ℕ) (r : Record)
+  → Dec (CutsRight N k (r .entries)) → Dec (TablesRight N k (r .entries)) → Dec (AllFed N (r .entries)) → Dec (EnoughRegisters N (r .entries))
+  → Dec (ShortChains N (r .period) (r .entries)) → ℕ → Answer
+judged N k r (no a) b c d e excess = turnedBack 14
+judged N k r (yes a) (no b) c d e excess = turnedBack 15
+judged N k r (yes a) (yes b) (no c) d e excess = turnedBack 16
+judged N k r (yes a) (yes b) (yes c) (no d) e excess = turnedBack 17
+judged N k r (yes a) (yes b) (yes c) (yes d) (no e) excess = turnedBack 18
+judged N k r (yes a) (yes b) (yes c) (yes d) (yes e) excess = accepted excess
+
+module _ (D : Decisions) where
+  -- "Mark returns the excess, stated period minus least period."
+  unfoldable pub markRead : (N : Net) (k : ℕ) → Passed N k → Result Record → Answer
+  unfolding judged
+  markRead N k p (refused n) = turnedBack n
+  markRead N k p (got r rest) =
+    judged N k r (D .cuts N k p (r .entries)) (D .tables N k p (r .entries)) (D .fed N (r .entries)) (D .enough N (r .entries))
+      (D .chains N k p (r .period) (r .entries)) (r .period - (D .leastPeriod N k p) .0)
+
+  unfoldable pub markChecked : (k : ℕ) → Checked k → List ℕ → Answer
+  unfolding markRead
+  markChecked k (fails n) bytes = turnedBack n
+  markChecked k (passes N p) bytes = markRead N k p (coverReader N k bytes)
+
+  unfoldable pub markSized : ℕ → (k : ℕ) → List ℕ → List ℕ → List ℕ → MarkOutcome
+  unfolding markChecked checkNet
+  markSized zero k net bytes scratch = record { answer = markChecked k (checkNet D k net) bytes; scratch = cleared scratchArea scratch }
+  markSized (suc n) k net bytes scratch = record { answer = turnedBack (suc n); scratch = scratch }
+
+  -- Mark for every input: net, k, the candidate's record and scratch.
+  unfoldable pub markOutcome : List ℕ → (k : ℕ) → List ℕ → List ℕ → MarkOutcome
+  unfolding markSized markSizes
+  markOutcome net k bytes scratch = markSized (markSizes k scratch) k net bytes scratch

@@ -1,0 +1,1 @@
+// Theory only: facts about lists, in specs/.

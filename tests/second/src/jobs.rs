@@ -1,0 +1,115 @@
+//! The jobs map and mark with all refusals, and what they do to the areas.
+
+use crate::cover::{read_record, write_record};
+use crate::cuts::Limits;
+use crate::mark::check_cover;
+use crate::net::read_net;
+use crate::solve::{least_period_within, solve, Stop};
+
+/// The least lengths of the two areas.
+pub const COVER_BYTES: usize = 962;
+pub const SCRATCH_BYTES: usize = 65_536;
+
+/// The largest target.
+pub const MOST_TARGET: u32 = 32;
+
+#[derive(Clone, Copy, Debug, PartialEq, Eq)]
+pub enum Answer {
+    /// Map: the record's length. Mark: the excess.
+    Done(u32),
+    Refused(u8),
+    /// Too many cuts; not one of the proved mapper's answers. The areas are kept.
+    GaveUp,
+}
+
+impl From<Stop> for Answer {
+    fn from(stop: Stop) -> Answer {
+        match stop {
+            Stop::Refused(number) => Answer::Refused(number),
+            Stop::GaveUp => Answer::GaveUp,
+        }
+    }
+}
+
+/// The cover of a net for k and a target is written to the cover area.
+pub fn map(net: &[u8], k: u32, target: u32, cover: &mut [u8], scratch: &mut [u8]) -> Answer {
+    map_within(Limits::default(), net, k, target, cover, scratch)
+}
+
+/// The same with limits of one's own.
+pub fn map_within(
+    limits: Limits,
+    net: &[u8],
+    k: u32,
+    target: u32,
+    cover: &mut [u8],
+    scratch: &mut [u8],
+) -> Answer {
+    if !(2..=6).contains(&k) {
+        return Answer::Refused(1);
+    }
+    if target > MOST_TARGET {
+        return Answer::Refused(2);
+    }
+    if cover.len() < COVER_BYTES || scratch.len() < SCRATCH_BYTES {
+        return Answer::Refused(3);
+    }
+    match map_record(limits, net, k, target) {
+        Ok(record) => {
+            cover[..record.len()].copy_from_slice(&record);
+            scratch[..SCRATCH_BYTES].fill(0);
+            Answer::Done(record.len() as u32)
+        }
+        Err(Stop::Refused(number)) => {
+            scratch[..SCRATCH_BYTES].fill(0);
+            Answer::Refused(number)
+        }
+        Err(Stop::GaveUp) => Answer::GaveUp,
+    }
+}
+
+fn map_record(limits: Limits, net: &[u8], k: u32, target: u32) -> Result<Vec<u8>, Stop> {
+    let net = read_net(net, k).map_err(Stop::Refused)?;
+    let (cover, _) = solve(&net, k, target, limits)?;
+    Ok(write_record(&cover))
+}
+
+/// The excess of a candidate's record: its period less the least period.
+pub fn mark(net: &[u8], k: u32, record: &[u8], scratch: &mut [u8]) -> Answer {
+    mark_within(Limits::default(), net, k, record, scratch)
+}
+
+/// The same with limits of one's own.
+pub fn mark_within(
+    limits: Limits,
+    net: &[u8],
+    k: u32,
+    record: &[u8],
+    scratch: &mut [u8],
+) -> Answer {
+    if !(2..=6).contains(&k) {
+        return Answer::Refused(1);
+    }
+    if scratch.len() < SCRATCH_BYTES {
+        return Answer::Refused(3);
+    }
+    let answer = match mark_excess(limits, net, k, record) {
+        Ok(excess) => Answer::Done(excess),
+        Err(stop) => Answer::from(stop),
+    };
+    if answer != Answer::GaveUp {
+        scratch[..SCRATCH_BYTES].fill(0);
+    }
+    answer
+}
+
+fn mark_excess(limits: Limits, net: &[u8], k: u32, record: &[u8]) -> Result<u32, Stop> {
+    let net = read_net(net, k).map_err(Stop::Refused)?;
+    let cover = read_record(&net, k, record).map_err(Stop::Refused)?;
+    check_cover(&net, &cover).map_err(Stop::Refused)?;
+    let least = least_period_within(&net, k, limits).ok_or(Stop::GaveUp)?;
+    Ok(cover
+        .period
+        .checked_sub(least)
+        .expect("a cover below the least period"))
+}

@@ -1,0 +1,33 @@
+//! A second mapper: LUT covers with moved registers, by listing every k-cut.
+//!
+//! It answers the same questions as the proved mapper by another method, so that
+//! the two can be compared: all k-cuts of each gate are searched for, labels are
+//! the least fixed point over those cuts, the chosen cut is found by comparing all
+//! of them, and the least period by trying 1, 2, and so on. No flow is used.
+//! On nets with too many cuts it gives up and says so.
+
+pub mod bytes;
+pub mod cone;
+pub mod cover;
+pub mod cuts;
+pub mod damage;
+pub mod encode;
+pub mod generate;
+pub mod jobs;
+pub mod labels;
+pub mod listing;
+pub mod mark;
+pub mod net;
+pub mod random;
+pub mod run;
+pub mod solve;
+
+pub use cone::{cone_of, lut_table};
+pub use cover::{read_record, write_record, Cover, Lut};
+pub use cuts::{all_cuts, all_cuts_within, Cut, CutSets, Limits};
+pub use jobs::{map, map_within, mark, mark_within, Answer};
+pub use labels::{chosen_cut, lag_of, least_labels, least_labels_over, Outcome};
+pub use listing::{listing, listing_within};
+pub use net::{check_net, parse_net, read_net, Gate, Net, NodeCopy, Output, Pin};
+pub use random::Random;
+pub use solve::{least_period, solve, Stop};
