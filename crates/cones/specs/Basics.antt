@@ -1,11 +1,10 @@
--- Copies are compared and ordered; what feeds a copy is listed and decided; the leaves of a set of copies are listed, rising, and are known
+-- What feeds a copy is decided; the leaves of a set of copies are listed, rising, and are known
 -- by the set; a walk back out of a set crosses a leaf.
 use mathlib.Core.Path.{_≡_, refl, sym, ap, subst}
 use mathlib.Core.Logic.{_⊎_, inl, inr}
 use mathlib.Core.List.{List, [], _∷_, _++_}
 use Prim.Native.Nat.{ℕ, _+_, _≤_, _<_}
-use native.Mathlib.Omega.{arith}
-use native.Mathlib.Decide.{ℕ-discrete, decLe, decLt}
+use native.Mathlib.Decide.{decLe, decLt}
 use lib.ListN.{length}
 use Rattle.sequences.specs.Member.{_∈_, here, there, not-in-nil, in-equal, Within, memb?, memb-step, in-append-left, in-append-right, in-append-cases, in-map, map-in}
 use Rattle.sequences.specs.Decide.{dec-¬, dec-×, dec-map, any?, any-step}
@@ -16,18 +15,8 @@ use Rattle.sequences.specs.Rising.{sort, Sorted, rising-distinct, rising-unique
 use Rattle.netlist.specs.Net.{Net, Pin, IsGate, pins}
 use Rattle.netlist.specs.Copies.{Copy, copy, Feeds, Leaf, Before, Rising, IsLeaves}
 use Rattle.netlist.specs.Tables.{feeding}
-
-pub copy-path : {a b : Copy} → a .node ≡ b .node → a .back ≡ b .back → a ≡ b
-copy-path p q = λ i. record { node = p i; back = q i }
-
-unfoldable pub copy-step : {a b : Copy} → Dec (a .node ≡ b .node) → Dec (a .back ≡ b .back) → Dec (a ≡ b)
-copy-step (yes p) (yes q) = yes (copy-path p q)
-copy-step (yes p) (no n) = no (λ e. n (ap (λ (c : Copy). c .back) e))
-copy-step (no n) d = no (λ e. n (ap (λ (c : Copy). c .node) e))
-
-unfoldable pub Copy-dec : Discrete Copy
-unfolding copy-step ℕ-discrete
-Copy-dec a b = copy-step (ℕ-discrete (a .node) (b .node)) (ℕ-discrete (a .back) (b .back))
+pub use Rattle.netlist.specs.CopyLaws.{copy-path, feeds-in, in-feeding, before-irrefl, before-trans, before-asym}
+unfoldable pub use Rattle.netlist.specs.CopyLaws.{copy-step, Copy-dec, before-step, before-cmp}
 
 unfoldable pub member? : (c : Copy) (C : List Copy) → Dec (c ∈ C)
 unfolding memb? memb-step Copy-dec
@@ -42,14 +31,6 @@ unfolding dec-map dec-× decLe decLt gate-pair
 isGate? N v = dec-map gate-pair (λ g. (g .low, g .high)) (dec-× (decLe (N .inputs) v) (decLt v (N .inputs + length (N .gates))))
 
 -- ---- what feeds a copy
-pub feeds-in : {N : Net} {y x : Copy} → Feeds N y x → y ∈ feeding N x
-feeds-in {N} {y} {x} f = in-equal (copy-path (f .source) (f .depth)) (in-map (λ (p : Pin). copy (p .src) (x .back + p .count)) (f .isPin))
-
-pub in-feeding : {N : Net} {y x : Copy} → IsGate N (x .node) → y ∈ feeding N x → Feeds N y x
-in-feeding {N} {y} {x} g h =
-    let r = map-in (λ (p : Pin). copy (p .src) (x .back + p .count)) (pins N (x .node)) h in
-    record { gate = g; pin = r .0; isPin = r .1; source = ap (λ (c : Copy). c .node) (r .2); depth = ap (λ (c : Copy). c .back) (r .2) }
-
 unfoldable pub feeds-step : {N : Net} {y x : Copy} → Dec (IsGate N (x .node)) → Dec (y ∈ feeding N x) → Dec (Feeds N y x)
 feeds-step (yes g) (yes h) = yes (in-feeding g h)
 feeds-step (yes g) (no n) = no (λ f. n (feeds-in f))
@@ -66,32 +47,7 @@ unfoldable pub Leaf? : (N : Net) (C : List Copy) (y : Copy) → Dec (Leaf N C y)
 unfolding dec-map dec-× dec-¬ any? any-step member? Feeds? leaf-tuple
 Leaf? N C y = dec-map leaf-tuple (λ l. (l .outside, (l .member, l .isMember, l .feeds))) (dec-× (dec-¬ (member? y C)) (any? C (λ x h. Feeds? N y x)))
 
--- ---- the order of leaves
-pub before-irrefl : (a : Copy) → ¬ Before a a
-before-irrefl a (inl h) = omega arith
-before-irrefl a (inr h) = omega arith
-
-pub before-trans : (a b c : Copy) → Before a b → Before b c → Before a c
-before-trans a b c (inl h) (inl k) = inl (omega arith)
-before-trans a b c (inl h) (inr k) = inl (omega arith)
-before-trans a b c (inr h) (inl k) = inl (omega arith)
-before-trans a b c (inr h) (inr k) = inr (omega arith)
-
-unfoldable pub before-step : (a b : Copy) → Dec (a .node < b .node) → Dec (b .node < a .node) → Dec (a .back < b .back) → Dec (b .back < a .back) → Before a b ⊎ ((a ≡ b) ⊎ Before b a)
-before-step a b (yes h) d e f = inl (inl h)
-before-step a b (no n) (yes h) e f = inr (inr (inl h))
-before-step a b (no n) (no m) (yes h) f = inl (inr (omega arith))
-before-step a b (no n) (no m) (no p) (yes h) = inr (inr (inr (omega arith)))
-before-step a b (no n) (no m) (no p) (no q) = inr (inl (copy-path (omega arith) (omega arith)))
-
--- Of two copies one is before the other, or they are equal.
-unfoldable pub before-cmp : (a b : Copy) → Before a b ⊎ ((a ≡ b) ⊎ Before b a)
-unfolding before-step decLt
-before-cmp a b = before-step a b (decLt (a .node) (b .node)) (decLt (b .node) (a .node)) (decLt (a .back) (b .back)) (decLt (b .back) (a .back))
-
-pub before-asym : (a b : Copy) → Before a b → ¬ Before b a
-before-asym a b h k = before-irrefl a (before-trans a b a h k)
-
+-- ---- rising lists of copies
 pub to-sorting : {L : List Copy} → Rising L → Sorting.Rising Before L
 to-sorting {L = []} r = Sorting.rising-nil
 to-sorting {L = a ∷ L} r = Sorting.rising-cons (r .0) (to-sorting (r .1))

@@ -1,7 +1,9 @@
 -- Definitions: the chosen roots and the written cover (document 01, "Labels and the written cover").
 use mathlib.Core.Path.{_≡_}
+use mathlib.Core.Bool.{cond}
 use mathlib.Core.List.{List, [], _∷_, map}
-use Prim.Native.Nat.{ℕ, _<_}
+use Prim.Native.Nat.{ℕ, suc, _<_}
+use lib.Dec.{eqb}
 use lib.IntN.{ℤ}
 use Rattle.integers.specs.Lag.{lag}
 use Rattle.sequences.specs.Member.{_∈_}
@@ -9,6 +11,7 @@ use Rattle.netlist.specs.Net.{Net, Pin, IsGate}
 use Rattle.netlist.specs.Copies.{Copy, Chosen, Any}
 use Rattle.netlist.specs.Tables.{tableOf}
 use Rattle.labelling.specs.Labels.{Least, OutputsMet, Low, LowCut}
+use Rattle.covers.specs.Covers.{Lut, Cover, output}
 
 -- "Chosen roots are the gate sources of outputs and then the gate leaves of chosen roots", where gate v takes the leaves `leaves v`.
 pub data Root (N : Net) (leaves : ℕ → List Copy) : ℕ → Type 0 where
@@ -47,3 +50,23 @@ pub record Entry : Type 0 where
 unfoldable pub entries : {N : Net} {k φ : ℕ} → Key N k φ → List Entry
 entries {N} {k} {φ} K =
     map (λ (v : ℕ). record { root = v; leaves = K .leaves v; lag = lag φ (K .label v); table = tableOf N v (K .cone v) (K .leaves v) }) (K .roots)
+
+-- one of the LUTs has the root u
+abbrev pub HasLut : List Entry → ℕ → Type 0
+HasLut es u = (e : Entry) × (e ∈ es) × (e .root ≡ u)
+
+-- the place of the LUT with root u; the number of LUTs if there is none
+unfoldable pub placeOf : List Entry → ℕ → ℕ
+placeOf [] u = 0
+placeOf (e ∷ es) u = cond (eqb (e .root) u) 0 (suc (placeOf es u))
+
+abbrev pub asLut : Entry → Lut
+asLut e = record { root = e .root; leaves = e .leaves; lag = e .lag }
+
+-- The cover that a record describes: "one per root", so a gate leaf and a gate source are fed by the LUT of their root.
+abbrev pub asCover : Net → List Entry → Cover
+asCover N es = record {
+  luts = map asLut es;
+  feeder = λ i y. placeOf es (y .node);
+  named = λ o. placeOf es ((output N o) .src);
+}

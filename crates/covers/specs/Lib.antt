@@ -1,3 +1,11 @@
 pub mod Covers
 pub mod Board
 pub mod Key
+pub mod Depths
+pub mod Labels
+pub mod Written
+pub mod KeyOf
+pub mod Joined
+pub mod Period
+pub mod Satisfies
+pub mod KeyUnique

@@ -19,74 +19,74 @@ use Rattle.cuts.specs.Lattice.{meetCut, meetLeaves, unionCut, unionLeave
 -- ---- a cut under other limits, and over another list of the same members
 
 unfoldable pub widen : {N : Net} {m n v : ℕ} {A B : Copy → Type 0} → Cut N m v A B → m ≤ n → Cut N n v A B
-widen K h = record
-  { cone = K .cone
-  ; leaves = K .leaves
-  ; isCone = K .isCone
-  ; isLeaves = K .isLeaves
-  ; few = le-trans (K .few) h
-  ; allowed = K .allowed
-  ; inside = K .inside
-  }
+widen K h = record {
+  cone = K .cone;
+  leaves = K .leaves;
+  isCone = K .isCone;
+  isLeaves = K .isLeaves;
+  few = le-trans (K .few) h;
+  allowed = K .allowed;
+  inside = K .inside;
+}
 
 unfoldable pub tighten : {N : Net} {m n v : ℕ} {A B : Copy → Type 0} (K : Cut N m v A B) → length (K .leaves) ≤ n → Cut N n v A B
-tighten K h = record
-  { cone = K .cone
-  ; leaves = K .leaves
-  ; isCone = K .isCone
-  ; isLeaves = K .isLeaves
-  ; few = h
-  ; allowed = K .allowed
-  ; inside = K .inside
-  }
+tighten K h = record {
+  cone = K .cone;
+  leaves = K .leaves;
+  isCone = K .isCone;
+  isLeaves = K .isLeaves;
+  few = h;
+  allowed = K .allowed;
+  inside = K .inside;
+}
 
 -- the cone without a copy x
 unfoldable pub without : {N : Net} {n v : ℕ} {A B : Copy → Type 0} (K : Cut N n v A B) (x : Copy) → ¬ (x ∈ K .cone) → Cut N n v A (λ z. B z × (¬ (z ≡ x)))
-without K x h = record
-  { cone = K .cone
-  ; leaves = K .leaves
-  ; isCone = K .isCone
-  ; isLeaves = K .isLeaves
-  ; few = K .few
-  ; allowed = K .allowed
-  ; inside = λ z m. (K .inside z m, λ e. h (subst (λ (c : Copy). c ∈ K .cone) e m))
-  }
+without K x h = record {
+  cone = K .cone;
+  leaves = K .leaves;
+  isCone = K .isCone;
+  isLeaves = K .isLeaves;
+  few = K .few;
+  allowed = K .allowed;
+  inside = λ z m. (K .inside z m, λ e. h (subst (λ (c : Copy). c ∈ K .cone) e m));
+}
 
 unfoldable pub forget : {N : Net} {n v : ℕ} {A B : Copy → Type 0} (x : Copy) → Cut N n v A (λ z. B z × (¬ (z ≡ x))) → Cut N n v A B
-forget x K = record
-  { cone = K .cone
-  ; leaves = K .leaves
-  ; isCone = K .isCone
-  ; isLeaves = K .isLeaves
-  ; few = K .few
-  ; allowed = K .allowed
-  ; inside = λ z m. K .inside z m .0
-  }
+forget x K = record {
+  cone = K .cone;
+  leaves = K .leaves;
+  isCone = K .isCone;
+  isLeaves = K .isLeaves;
+  few = K .few;
+  allowed = K .allowed;
+  inside = λ z m. K .inside z m .0;
+}
 
 pub same-cone : {N : Net} {v : ℕ} {C C′ : List Copy} → Within C C′ → Within C′ C → IsCone N v C → IsCone N v C′
-same-cone f g i = record
-  { gates = λ c h. i .gates c (g c h)
-  ; root = f _ (i .root)
-  ; leads = λ c h. leads-mono f (i .leads c (g c h))
-  }
+same-cone f g i = record {
+  gates = λ c h. i .gates c (g c h);
+  root = f _ (i .root);
+  leads = λ c h. leads-mono f (i .leads c (g c h));
+}
 
 pub same-leaves : {N : Net} {C C′ L : List Copy} → Within C C′ → Within C′ C → IsLeaves N C L → IsLeaves N C′ L
-same-leaves f g l = record
-  { rising = l .rising
-  ; sound = λ y h. leaf-same f g (l .sound y h)
-  ; complete = λ y h. l .complete y (leaf-same g f h)
-  }
+same-leaves f g l = record {
+  rising = l .rising;
+  sound = λ y h. leaf-same f g (l .sound y h);
+  complete = λ y h. l .complete y (leaf-same g f h);
+}
 
 unfoldable pub same-cut : {N : Net} {n v : ℕ} {A B : Copy → Type 0} (K : Cut N n v A B) (C : List Copy) → Within (K .cone) C → Within C (K .cone) → Cut N n v A B
-same-cut K C f g = record
-  { cone = C
-  ; leaves = K .leaves
-  ; isCone = same-cone f g (K .isCone)
-  ; isLeaves = same-leaves f g (K .isLeaves)
-  ; few = K .few
-  ; allowed = K .allowed
-  ; inside = λ x h. K .inside x (g x h)
-  }
+same-cut K C f g = record {
+  cone = C;
+  leaves = K .leaves;
+  isCone = same-cone f g (K .isCone);
+  isLeaves = same-leaves f g (K .isLeaves);
+  few = K .few;
+  allowed = K .allowed;
+  inside = λ x h. K .inside x (g x h);
+}
 
 -- ---- uniqueness
 
@@ -112,15 +112,15 @@ pub record Choice (N : Net) (k v : ℕ) (A B : Copy → Type 0) : Type 0 where
 module _ {N : Net} {k v : ℕ} {A B : Copy → Type 0} where
   -- with two cuts of fewest leaves their meet is one
   pub meet-fewest : (K J : Cut N k v A B) → ((I : Cut N k v A B) → length (K .leaves) ≤ length (I .leaves)) → length (J .leaves) ≡ length (K .leaves)
-    → length (meetLeaves K J .0) ≤ length (K .leaves)
+      → length (meetLeaves K J .0) ≤ length (K .leaves)
   unfolding unionCut
   meet-fewest K J fewest e = go (decLe (length (unionLeaves K J .0)) k)
     where
       go : Dec (length (unionLeaves K J .0) ≤ k) → length (meetLeaves K J .0) ≤ length (K .leaves)
       go (yes h) =
-        let a = cut-inequality K J in
-        let b : length (K .leaves) ≤ length (unionLeaves K J .0) = fewest (unionCut K J k h) in
-        omega arith
+          let a = cut-inequality K J in
+          let b : length (K .leaves) ≤ length (unionLeaves K J .0) = fewest (unionCut K J k h) in
+          omega arith
       go (no n) = let a = cut-inequality K J in let b = K .few in omega arith
 
   -- fewer leaves while there is a cut with fewer
@@ -146,7 +146,7 @@ module _ {N : Net} {k v : ℕ} {A B : Copy → Type 0} where
 
   -- a smaller cone while some member is outside the cone of another cut with as few leaves
   smaller : ((x : Copy) (n : ℕ) → Dec (Cut N n v A (λ z. B z × (¬ (z ≡ x))))) → (m : ℕ) (K : Cut N k v A B) → Distinct (K .cone) → length (K .cone) ≤ m
-    → ((I : Cut N k v A B) → length (K .leaves) ≤ length (I .leaves)) → Choice N k v A B
+      → ((I : Cut N k v A B) → length (K .leaves) ≤ length (I .leaves)) → Choice N k v A B
   unfolding widen forget without tighten meetCut
   smaller avoid? zero K d h fewest = record { cut = K; chosen = record { fewest = fewest; smallest = λ I e x m. absurd (nowhere m) } }
     where
@@ -155,7 +155,7 @@ module _ {N : Net} {k v : ℕ} {A B : Copy → Type 0} where
   smaller avoid? (suc m) K d h fewest = go (smaller avoid? m) (any? (K .cone) (λ x i. avoid? x (length (K .leaves))))
     where
       go : ((I : Cut N k v A B) → Distinct (I .cone) → length (I .cone) ≤ m → ((I′ : Cut N k v A B) → length (I .leaves) ≤ length (I′ .leaves)) → Choice N k v A B)
-        → Dec ((x : Copy) × (x ∈ K .cone) × Cut N (length (K .leaves)) v A (λ z. B z × (¬ (z ≡ x)))) → Choice N k v A B
+          → Dec ((x : Copy) × (x ∈ K .cone) × Cut N (length (K .leaves)) v A (λ z. B z × (¬ (z ≡ x)))) → Choice N k v A B
       go rest (yes r) = rest I (meet-distinct (K .isCone) (J .isCone)) short least
         where
           x : Copy
@@ -183,25 +183,25 @@ module _ {N : Net} {k v : ℕ} {A B : Copy → Type 0} where
 
           short : length (I .cone) ≤ m
           short =
-            let a : length (I .cone) ≤ length (remove (r .1)) = pigeonhole (meet-distinct (K .isCone) (J .isCone)) inside in
-            let b = length-remove (r .1) in
-            omega arith
+              let a : length (I .cone) ≤ length (remove (r .1)) = pigeonhole (meet-distinct (K .isCone) (J .isCone)) inside in
+              let b = length-remove (r .1) in
+              omega arith
 
           least : (I′ : Cut N k v A B) → length (I .leaves) ≤ length (I′ .leaves)
           least I′ = le-trans fits (fewest I′)
-      go rest (no n) = record
-        { cut = K
-        ; chosen = record
-            { fewest = fewest
-            ; smallest = λ I e x i. dec-stable (member? x (I .cone)) (λ o. n (x, i, without (tighten I (let a = e in omega arith)) x o))
-            }
-        }
+      go rest (no n) = record {
+        cut = K;
+        chosen = record {
+          fewest = fewest;
+          smallest = λ I e x i. dec-stable (member? x (I .cone)) (λ o. n (x, i, without (tighten I (let a = e in omega arith)) x o));
+        };
+      }
 
   -- **Fewest leaves, smallest cone, exists** wherever a cut does.
   pub choose : ((x : Copy) (n : ℕ) → Dec (Cut N n v A (λ z. B z × (¬ (z ≡ x))))) → ((n : ℕ) → Dec (Cut N n v A B)) → Cut N k v A B → Choice N k v A B
   unfolding same-cut
   choose avoid? cut? K =
-    let F = fewestCut cut? K in
-    let D = dedup Copy-dec (F .cut .cone) in
-    let I = same-cut (F .cut) (D .list) (D .contains) (D .within) in
-    smaller avoid? (length (D .list)) I (D .distinct) (omega arith) (F .fewest)
+      let F = fewestCut cut? K in
+      let D = dedup Copy-dec (F .cut .cone) in
+      let I = same-cut (F .cut) (D .list) (D .contains) (D .within) in
+      smaller avoid? (length (D .list)) I (D .distinct) (omega arith) (F .fewest)

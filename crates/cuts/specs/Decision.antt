@@ -45,18 +45,18 @@ pub record CutSet (N : Net) (n v : ℕ) (A B : Copy → Type 0) (s : List Copy) 
   pub inside : (x : Copy) → x ∈ s → B x
 
 pub cutSet-cut : {N : Net} {n v : ℕ} {A B : Copy → Type 0} {s : List Copy} → CutSet N n v A B s → Cut N n v A B
-cutSet-cut {N} {s = s} c = record
-  { cone = s
-  ; leaves = leavesOf N s .0
-  ; isCone = c .isCone
-  ; isLeaves = leavesOf N s .1
-  ; few = c .few
-  ; allowed = c .allowed
-  ; inside = c .inside
-  }
+cutSet-cut {N} {s = s} c = record {
+  cone = s;
+  leaves = leavesOf N s .0;
+  isCone = c .isCone;
+  isLeaves = leavesOf N s .1;
+  few = c .few;
+  allowed = c .allowed;
+  inside = c .inside;
+}
 
 unfoldable pub cutSet-leaves : {N : Net} {n v : ℕ} {A B : Copy → Type 0} {s : List Copy} → IsCone N v s → Dec (length (leavesOf N s .0) ≤ n)
-  → Dec ((y : Copy) → y ∈ leavesOf N s .0 → A y) → Dec ((x : Copy) → x ∈ s → B x) → Dec (CutSet N n v A B s)
+    → Dec ((y : Copy) → y ∈ leavesOf N s .0 → A y) → Dec ((x : Copy) → x ∈ s → B x) → Dec (CutSet N n v A B s)
 cutSet-leaves i (no f) a b = no (λ c. f (c .few))
 cutSet-leaves i (yes f) (no a) b = no (λ c. a (c .allowed))
 cutSet-leaves i (yes f) (yes a) (no b) = no (λ c. b (c .inside))
@@ -67,11 +67,11 @@ module _ {N : Net} {v : ℕ} {A B : Copy → Type 0} (A? : (y : Copy) → Dec (A
   unfolding cutSet-leaves
   cutSet-step s (no i) = no (λ c. i (c .isCone))
   cutSet-step s (yes i) =
-    let L = leavesOf N s .0 in
-    let few = decLe (length L) n in
-    let allowed = all? L (λ y h. A? y) in
-    let inside = all? s (λ x h. B? x) in
-    cutSet-leaves i few allowed inside
+      let L = leavesOf N s .0 in
+      let few = decLe (length L) n in
+      let allowed = all? L (λ y h. A? y) in
+      let inside = all? s (λ x h. B? x) in
+      cutSet-leaves i few allowed inside
 
   unfoldable pub cutSet? : (s : List Copy) → Dec (CutSet N n v A B s)
   unfolding cutSet-step
@@ -82,24 +82,24 @@ module _ {N : Net} {v : ℕ} {A B : Copy → Type 0} (A? : (y : Copy) → Dec (A
     pub boxed : (K : Cut N n v A B) → List Copy
     boxed K = keep (λ x. member? x (K .cone)) (box N n)
 
-    boxed-in : (K : Cut N n v A B) → Within (K .cone) (boxed K)
+    pub boxed-in : (K : Cut N n v A B) → Within (K .cone) (boxed K)
     unfolding boxed box
     boxed-in K x h =
-      keep-in (λ c. member? c (K .cone))
+        keep-in (λ c. member? c (K .cone))
         (in-boxOf (gateNumbers N) (n * reachOf N) (x .back) (in-gateNumbers (K .isCone .gates x h)) (let a = cut-reach R K x h in omega arith)) h
 
-    in-boxed : (K : Cut N n v A B) → Within (boxed K) (K .cone)
+    pub in-boxed : (K : Cut N n v A B) → Within (boxed K) (K .cone)
     unfolding boxed
     in-boxed K x h = in-keep (λ c. member? c (K .cone)) (box N n) h .1
 
     pub boxed-set : (K : Cut N n v A B) → CutSet N n v A B (boxed K)
     boxed-set K =
-      let e : leavesOf N (boxed K) .0 ≡ K .leaves = leaves-unique (leavesOf N (boxed K) .1) (K .isLeaves) (in-boxed K) (boxed-in K) in
-      record
-        { isCone = same-cone (boxed-in K) (in-boxed K) (K .isCone)
-        ; few = rw e (K .few)
-        ; allowed = λ y h. K .allowed y (subst (λ (L : List Copy). y ∈ L) e h)
-        ; inside = λ x h. K .inside x (in-boxed K x h)
+        let e : leavesOf N (boxed K) .0 ≡ K .leaves = leaves-unique (leavesOf N (boxed K) .1) (K .isLeaves) (in-boxed K) (boxed-in K) in
+        record {
+          isCone = same-cone (boxed-in K) (in-boxed K) (K .isCone);
+          few = rw e (K .few);
+          allowed = λ y h. K .allowed y (subst (λ (L : List Copy). y ∈ L) e h);
+          inside = λ x h. K .inside x (in-boxed K x h);
         }
 
     pub boxed-subset : (K : Cut N n v A B) → boxed K ∈ subsets (box N n)

@@ -37,11 +37,11 @@ module _ {N : Net} {v : ℕ} {C C′ : List Copy} (i : IsCone N v C) (i′ : IsC
   -- ---- the union
 
   pub union-cone : IsCone N v (C ++ C′)
-  union-cone = record
-    { gates = λ c h. gate (in-append-cases C h)
-    ; root = in-append-left C′ (i .root)
-    ; leads = λ c h. lead (in-append-cases C h)
-    }
+  union-cone = record {
+    gates = λ c h. gate (in-append-cases C h);
+    root = in-append-left C′ (i .root);
+    leads = λ c h. lead (in-append-cases C h);
+  }
     where
       gate : {c : Copy} → (c ∈ C) ⊎ (c ∈ C′) → IsGate N (c .node)
       gate {c} (inl h) = i .gates c h
@@ -100,12 +100,12 @@ module _ {N : Net} {v : ℕ} {C C′ : List Copy} (i : IsCone N v C) (i′ : IsC
     where
       go : Dec (y ∈ C) → Leaf N C y ⊎ Leaf N C′ y
       go (no n) = inl (record { outside = n; member = l .member; isMember = meet-left (l .member) (l .isMember); feeds = l .feeds })
-      go (yes h) = inr (record
-        { outside = λ h′. l .outside (meet-closed (l .isMember) (l .feeds) h h′)
-        ; member = l .member
-        ; isMember = meet-right (l .member) (l .isMember)
-        ; feeds = l .feeds
-        })
+      go (yes h) = inr (record {
+        outside = λ h′. l .outside (meet-closed (l .isMember) (l .feeds) h h′);
+        member = l .member;
+        isMember = meet-right (l .member) (l .isMember);
+        feeds = l .feeds;
+      })
 
   -- ---- the inequality, leaf by leaf
 
@@ -116,31 +116,31 @@ module _ {N : Net} {v : ℕ} {C C′ : List Copy} (i : IsCone N v C) (i′ : IsC
 
     -- a leaf of both the meet and the union is a leaf of each cone
     twice : {y : Copy} → Leaf N meet y → Leaf N (C ++ C′) y → (y ∈ L) × (y ∈ L′)
-    twice {y} m u =
-      ( l .complete y (record { outside = λ h. u .outside (in-append-left C′ h); member = m .member; isMember = meet-left (m .member) (m .isMember); feeds = m .feeds })
-      , l′ .complete y (record { outside = λ h. u .outside (in-append-right C h); member = m .member; isMember = meet-right (m .member) (m .isMember); feeds = m .feeds })
-      )
+    twice {y} m u = (
+      l .complete y (record { outside = λ h. u .outside (in-append-left C′ h); member = m .member; isMember = meet-left (m .member) (m .isMember); feeds = m .feeds }),
+      l′ .complete y (record { outside = λ h. u .outside (in-append-right C h); member = m .member; isMember = meet-right (m .member) (m .isMember); feeds = m .feeds }),
+    )
 
     -- **|leaves(C∩C′)| + |leaves(C∪C′)| ≤ |leaves C| + |leaves C′|**
     pub leaves-inequality : {M U : List Copy} → IsLeaves N meet M → IsLeaves N (C ++ C′) U → length M + length U ≤ length L + length L′
     leaves-inequality {M} {U} m u =
-      let all : Dedup (L ++ L′) = dedup Copy-dec (L ++ L′) in
-      let D = all .list in
-      let inM : (y : Copy) → y ∈ M → y ∈ D = λ y h. all .contains y (joined (either (meet-leaf (m .sound y h)))) in
-      let inU : (y : Copy) → y ∈ U → y ∈ D = λ y h. all .contains y (joined (either (union-leaf (u .sound y h)))) in
-      let kM = keep (λ y. member? y M) D in
-      let kU = keep (λ y. member? y U) D in
-      let kL = keep (λ y. member? y L) D in
-      let kL′ = keep (λ y. member? y L′) D in
-      let a : length M ≤ length kM = pigeonhole (leaves-distinct m) (λ y h. keep-in (λ z. member? z M) (inM y h) h) in
-      let b : length U ≤ length kU = pigeonhole (leaves-distinct u) (λ y h. keep-in (λ z. member? z U) (inU y h) h) in
-      let c : length kL ≤ length L = pigeonhole (distinct-keep (λ z. member? z L) (all .distinct)) (λ y h. in-keep (λ z. member? z L) D h .1) in
-      let d : length kL′ ≤ length L′ = pigeonhole (distinct-keep (λ z. member? z L′) (all .distinct)) (λ y h. in-keep (λ z. member? z L′) D h .1) in
-      let e : length kM + length kU ≤ length kL + length kL′ =
-            keep-count (λ y. member? y M) (λ y. member? y U) (λ y. member? y L) (λ y. member? y L′) D
-              (λ y h. bits (member? y M) (member? y U) (member? y L) (member? y L′)
-                (λ p q. twice (m .sound y p) (u .sound y q)) (λ p. either (meet-leaf (m .sound y p))) (λ q. either (union-leaf (u .sound y q)))) in
-      omega arith
+        let all : Dedup (L ++ L′) = dedup Copy-dec (L ++ L′) in
+        let D = all .list in
+        let inM : (y : Copy) → y ∈ M → y ∈ D = λ y h. all .contains y (joined (either (meet-leaf (m .sound y h)))) in
+        let inU : (y : Copy) → y ∈ U → y ∈ D = λ y h. all .contains y (joined (either (union-leaf (u .sound y h)))) in
+        let kM = keep (λ y. member? y M) D in
+        let kU = keep (λ y. member? y U) D in
+        let kL = keep (λ y. member? y L) D in
+        let kL′ = keep (λ y. member? y L′) D in
+        let a : length M ≤ length kM = pigeonhole (leaves-distinct m) (λ y h. keep-in (λ z. member? z M) (inM y h) h) in
+        let b : length U ≤ length kU = pigeonhole (leaves-distinct u) (λ y h. keep-in (λ z. member? z U) (inU y h) h) in
+        let c : length kL ≤ length L = pigeonhole (distinct-keep (λ z. member? z L) (all .distinct)) (λ y h. in-keep (λ z. member? z L) D h .1) in
+        let d : length kL′ ≤ length L′ = pigeonhole (distinct-keep (λ z. member? z L′) (all .distinct)) (λ y h. in-keep (λ z. member? z L′) D h .1) in
+        let e : length kM + length kU ≤ length kL + length kL′ =
+        keep-count (λ y. member? y M) (λ y. member? y U) (λ y. member? y L) (λ y. member? y L′) D
+        (λ y h. bits (member? y M) (member? y U) (member? y L) (member? y L′)
+        (λ p q. twice (m .sound y p) (u .sound y q)) (λ p. either (meet-leaf (m .sound y p))) (λ q. either (union-leaf (u .sound y q)))) in
+        omega arith
       where
         joined : {y : Copy} → (y ∈ L) ⊎ (y ∈ L′) → y ∈ L ++ L′
         joined (inl h) = in-append-left L′ h
@@ -175,27 +175,27 @@ module _ {N : Net} {k v : ℕ} {A B : Copy → Type 0} (K J : Cut N k v A B) whe
 
   -- the meet is a cut where its leaves are few
   unfoldable pub meetCut : (n : ℕ) → length (meetLeaves .0) ≤ n → Cut N n v A B
-  meetCut n h = record
-    { cone = meet (K .isCone) (J .isCone)
-    ; leaves = meetLeaves .0
-    ; isCone = meet-cone (K .isCone) (J .isCone)
-    ; isLeaves = meetLeaves .1
-    ; few = h
-    ; allowed = λ y m. meet-allowed (K .isCone) (J .isCone) (K .isLeaves) (J .isLeaves) {A = A} (K .allowed) (J .allowed) y (meetLeaves .1 .sound y m)
-    ; inside = λ x m. K .inside x (meet-left (K .isCone) (J .isCone) x m)
-    }
+  meetCut n h = record {
+    cone = meet (K .isCone) (J .isCone);
+    leaves = meetLeaves .0;
+    isCone = meet-cone (K .isCone) (J .isCone);
+    isLeaves = meetLeaves .1;
+    few = h;
+    allowed = λ y m. meet-allowed (K .isCone) (J .isCone) (K .isLeaves) (J .isLeaves) {A = A} (K .allowed) (J .allowed) y (meetLeaves .1 .sound y m);
+    inside = λ x m. K .inside x (meet-left (K .isCone) (J .isCone) x m);
+  }
 
   -- so is the union
   unfoldable pub unionCut : (n : ℕ) → length (unionLeaves .0) ≤ n → Cut N n v A B
-  unionCut n h = record
-    { cone = K .cone ++ J .cone
-    ; leaves = unionLeaves .0
-    ; isCone = union-cone (K .isCone) (J .isCone)
-    ; isLeaves = unionLeaves .1
-    ; few = h
-    ; allowed = λ y m. union-allowed (K .isCone) (J .isCone) (K .isLeaves) (J .isLeaves) {A = A} (K .allowed) (J .allowed) y (unionLeaves .1 .sound y m)
-    ; inside = λ x m. inside (in-append-cases (K .cone) m)
-    }
+  unionCut n h = record {
+    cone = K .cone ++ J .cone;
+    leaves = unionLeaves .0;
+    isCone = union-cone (K .isCone) (J .isCone);
+    isLeaves = unionLeaves .1;
+    few = h;
+    allowed = λ y m. union-allowed (K .isCone) (J .isCone) (K .isLeaves) (J .isLeaves) {A = A} (K .allowed) (J .allowed) y (unionLeaves .1 .sound y m);
+    inside = λ x m. inside (in-append-cases (K .cone) m);
+  }
     where
       inside : {x : Copy} → (x ∈ K .cone) ⊎ (x ∈ J .cone) → B x
       inside {x} (inl m) = K .inside x m

@@ -41,9 +41,9 @@ out-of-range = (refl, refl)
 
 -- a pin map of 0; a register bit without its pin; a source that is no node; a count of 4; a spare table bit
 forbidden-bytes :
-  (netReader 2 (1 ∷ 1 ∷ 1 ∷ 0 ∷ []) ≡ refused 6) × (netReader 2 (1 ∷ 1 ∷ 1 ∷ 1 ∷ 2 ∷ []) ≡ refused 6)
-  × (netReader 2 (1 ∷ 1 ∷ 1 ∷ 1 ∷ 0 ∷ 2 ∷ []) ≡ refused 6) × (netReader 2 (1 ∷ 1 ∷ 1 ∷ 1 ∷ 1 ∷ 0 ∷ 4 ∷ []) ≡ refused 6)
-  × (netReader 2 (1 ∷ 1 ∷ 1 ∷ 1 ∷ 0 ∷ 0 ∷ 4 ∷ []) ≡ refused 6)
+    (netReader 2 (1 ∷ 1 ∷ 1 ∷ 0 ∷ []) ≡ refused 6) × (netReader 2 (1 ∷ 1 ∷ 1 ∷ 1 ∷ 2 ∷ []) ≡ refused 6)
+    × (netReader 2 (1 ∷ 1 ∷ 1 ∷ 1 ∷ 0 ∷ 2 ∷ []) ≡ refused 6) × (netReader 2 (1 ∷ 1 ∷ 1 ∷ 1 ∷ 1 ∷ 0 ∷ 4 ∷ []) ≡ refused 6)
+    × (netReader 2 (1 ∷ 1 ∷ 1 ∷ 1 ∷ 0 ∷ 0 ∷ 4 ∷ []) ≡ refused 6)
 unfolding netReader gateReader outputReader pinsFrom fromBytes times ones onesIn
 forbidden-bytes = (refl, refl, refl, refl, refl)
 
@@ -60,16 +60,16 @@ bytes-follow = refl
 
 -- A's LUTs at k 2 and at k 3
 tables-A :
-  (tableOf netA 2 (copy 2 0 ∷ []) (copy 0 0 ∷ copy 1 0 ∷ []) ≡ 8)
-  × (tableOf netA 4 (copy 4 0 ∷ copy 3 0 ∷ []) (copy 2 0 ∷ copy 4 1 ∷ []) ≡ 9)
-  × (tableOf netA 4 (copy 4 0 ∷ copy 3 0 ∷ copy 2 0 ∷ []) (copy 0 0 ∷ copy 1 0 ∷ copy 4 1 ∷ []) ≡ 0x87)
+    (tableOf netA 2 (copy 2 0 ∷ []) (copy 0 0 ∷ copy 1 0 ∷ []) ≡ 8)
+    × (tableOf netA 4 (copy 4 0 ∷ copy 3 0 ∷ []) (copy 2 0 ∷ copy 4 1 ∷ []) ≡ 9)
+    × (tableOf netA 4 (copy 4 0 ∷ copy 3 0 ∷ copy 2 0 ∷ []) (copy 0 0 ∷ copy 1 0 ∷ copy 4 1 ∷ []) ≡ 0x87)
 unfolding tableOf pack valueIn atLeaf gate
 tables-A = (refl, refl, refl)
 
 -- B's LUTs at k 2, and its one LUT at k 3
 tables-B :
-  (tableOf netB 3 (copy 3 0 ∷ []) (copy 0 0 ∷ copy 1 0 ∷ []) ≡ 8) × (tableOf netB 4 (copy 4 0 ∷ []) (copy 2 0 ∷ copy 3 0 ∷ []) ≡ 8)
-  × (tableOf netB 4 (copy 4 0 ∷ copy 3 0 ∷ []) (copy 0 0 ∷ copy 1 0 ∷ copy 2 0 ∷ []) ≡ 0x80)
+    (tableOf netB 3 (copy 3 0 ∷ []) (copy 0 0 ∷ copy 1 0 ∷ []) ≡ 8) × (tableOf netB 4 (copy 4 0 ∷ []) (copy 2 0 ∷ copy 3 0 ∷ []) ≡ 8)
+    × (tableOf netB 4 (copy 4 0 ∷ copy 3 0 ∷ []) (copy 0 0 ∷ copy 1 0 ∷ copy 2 0 ∷ []) ≡ 0x80)
 unfolding tableOf pack valueIn atLeaf gate
 tables-B = (refl, refl, refl)
 
@@ -89,11 +89,11 @@ reads-record-A = refl
 
 -- an early end; bytes over; a period of 0; a root that is no gate; leaves that do not rise; a stored d of 0; a spare table bit
 broken-layout :
-  (coverReader netA 2 (2 ∷ []) ≡ refused 13) × (coverReader netA 2 (recordA ++ 0 ∷ []) ≡ refused 13)
-  × (coverReader netA 2 (0 ∷ 1 ∷ []) ≡ refused 13) × (coverReader netA 2 (1 ∷ 1 ∷ 1 ∷ 1 ∷ 0 ∷ 0 ∷ 2 ∷ []) ≡ refused 13)
-  × (coverReader netA 2 (1 ∷ 1 ∷ 2 ∷ 2 ∷ 0 ∷ 1 ∷ 0 ∷ 8 ∷ []) ≡ refused 13)
-  × (coverReader netA 2 (1 ∷ 1 ∷ 2 ∷ 2 ∷ 1 ∷ 0 ∷ 1 ∷ 0 ∷ 0 ∷ 8 ∷ []) ≡ refused 13)
-  × (coverReader netA 2 (1 ∷ 1 ∷ 2 ∷ 2 ∷ 0 ∷ 0 ∷ 1 ∷ 16 ∷ []) ≡ refused 13)
+    (coverReader netA 2 (2 ∷ []) ≡ refused 13) × (coverReader netA 2 (recordA ++ 0 ∷ []) ≡ refused 13)
+    × (coverReader netA 2 (0 ∷ 1 ∷ []) ≡ refused 13) × (coverReader netA 2 (1 ∷ 1 ∷ 1 ∷ 1 ∷ 0 ∷ 0 ∷ 2 ∷ []) ≡ refused 13)
+    × (coverReader netA 2 (1 ∷ 1 ∷ 2 ∷ 2 ∷ 0 ∷ 1 ∷ 0 ∷ 8 ∷ []) ≡ refused 13)
+    × (coverReader netA 2 (1 ∷ 1 ∷ 2 ∷ 2 ∷ 1 ∷ 0 ∷ 1 ∷ 0 ∷ 0 ∷ 8 ∷ []) ≡ refused 13)
+    × (coverReader netA 2 (1 ∷ 1 ∷ 2 ∷ 2 ∷ 0 ∷ 0 ∷ 1 ∷ 16 ∷ []) ≡ refused 13)
 unfolding coverReader lutsReader lutReader depthReader leavesFrom risingLeaves times fromBytes ones onesIn
 broken-layout = (refl, refl, refl, refl, refl, refl, refl)
 
@@ -106,6 +106,6 @@ lags = (refl, refl, refl, refl)
 
 -- A's listing, byte for byte
 listing-A : coverText netA 2 labelsA entriesA ≡
-  112 ∷ 101 ∷ 114 ∷ 105 ∷ 111 ∷ 100 ∷ 32 ∷ 50 ∷ 32 ∷ 108 ∷ 117 ∷ 116 ∷ 115 ∷ 32 ∷ 50 ∷ 32 ∷ 114 ∷ 101 ∷ 103 ∷ 105 ∷ 115 ∷ 116 ∷ 101 ∷ 114 ∷ 115 ∷ 32 ∷ 49 ∷ 10 ∷ 108 ∷ 117 ∷ 116 ∷ 32 ∷ 50 ∷ 32 ∷ 108 ∷ 97 ∷ 98 ∷ 101 ∷ 108 ∷ 32 ∷ 49 ∷ 32 ∷ 108 ∷ 97 ∷ 103 ∷ 32 ∷ 48 ∷ 32 ∷ 116 ∷ 97 ∷ 98 ∷ 108 ∷ 101 ∷ 32 ∷ 56 ∷ 32 ∷ 108 ∷ 101 ∷ 97 ∷ 118 ∷ 101 ∷ 115 ∷ 32 ∷ 48 ∷ 58 ∷ 48 ∷ 32 ∷ 49 ∷ 58 ∷ 48 ∷ 10 ∷ 108 ∷ 117 ∷ 116 ∷ 32 ∷ 52 ∷ 32 ∷ 108 ∷ 97 ∷ 98 ∷ 101 ∷ 108 ∷ 32 ∷ 50 ∷ 32 ∷ 108 ∷ 97 ∷ 103 ∷ 32 ∷ 48 ∷ 32 ∷ 116 ∷ 97 ∷ 98 ∷ 108 ∷ 101 ∷ 32 ∷ 57 ∷ 32 ∷ 108 ∷ 101 ∷ 97 ∷ 118 ∷ 101 ∷ 115 ∷ 32 ∷ 50 ∷ 58 ∷ 48 ∷ 32 ∷ 52 ∷ 58 ∷ 49 ∷ 10 ∷ []
+    112 ∷ 101 ∷ 114 ∷ 105 ∷ 111 ∷ 100 ∷ 32 ∷ 50 ∷ 32 ∷ 108 ∷ 117 ∷ 116 ∷ 115 ∷ 32 ∷ 50 ∷ 32 ∷ 114 ∷ 101 ∷ 103 ∷ 105 ∷ 115 ∷ 116 ∷ 101 ∷ 114 ∷ 115 ∷ 32 ∷ 49 ∷ 10 ∷ 108 ∷ 117 ∷ 116 ∷ 32 ∷ 50 ∷ 32 ∷ 108 ∷ 97 ∷ 98 ∷ 101 ∷ 108 ∷ 32 ∷ 49 ∷ 32 ∷ 108 ∷ 97 ∷ 103 ∷ 32 ∷ 48 ∷ 32 ∷ 116 ∷ 97 ∷ 98 ∷ 108 ∷ 101 ∷ 32 ∷ 56 ∷ 32 ∷ 108 ∷ 101 ∷ 97 ∷ 118 ∷ 101 ∷ 115 ∷ 32 ∷ 48 ∷ 58 ∷ 48 ∷ 32 ∷ 49 ∷ 58 ∷ 48 ∷ 10 ∷ 108 ∷ 117 ∷ 116 ∷ 32 ∷ 52 ∷ 32 ∷ 108 ∷ 97 ∷ 98 ∷ 101 ∷ 108 ∷ 32 ∷ 50 ∷ 32 ∷ 108 ∷ 97 ∷ 103 ∷ 32 ∷ 48 ∷ 32 ∷ 116 ∷ 97 ∷ 98 ∷ 108 ∷ 101 ∷ 32 ∷ 57 ∷ 32 ∷ 108 ∷ 101 ∷ 97 ∷ 118 ∷ 101 ∷ 115 ∷ 32 ∷ 50 ∷ 58 ∷ 48 ∷ 32 ∷ 52 ∷ 58 ∷ 49 ∷ 10 ∷ []
 unfolding coverText lutLines lutLine leafText tableText hexLow signed decimal digitText reversed digitsLow registerCount lutSum leafSum outputSum lagIn
 listing-A = refl

@@ -21,11 +21,11 @@ bytesA = 2 ∷ 3 ∷ 1 ∷ 3 ∷ 0 ∷ 0 ∷ 1 ∷ 8 ∷ 3 ∷ 2 ∷ 2 ∷ 4 ∷
 
 -- gate 2 = AND(0, 1), gate 3 = XOR(2, 4:1), gate 4 = NOT 3, output 4
 abbrev pub netA : Net
-netA = record
-  { inputs = 2
-  ; gates = pair (pin 0 0) (pin 1 0) 8 ∷ pair (pin 2 0) (pin 4 1) 6 ∷ record { pins = pin 3 0 ∷ []; table = 1 } ∷ []
-  ; outputs = pin 4 0 ∷ []
-  }
+netA = record {
+  inputs = 2;
+  gates = pair (pin 0 0) (pin 1 0) 8 ∷ pair (pin 2 0) (pin 4 1) 6 ∷ record { pins = pin 3 0 ∷ []; table = 1 } ∷ [];
+  outputs = pin 4 0 ∷ [];
+}
 
 -- "B: gate 3 = AND(0,1), gate 4 = AND(3,2), output reads 4 through one register."
 abbrev pub netB : Net
@@ -44,8 +44,8 @@ bytesC = 2 ∷ 1 ∷ 1 ∷ 3 ∷ 3 ∷ 0 ∷ 1 ∷ 1 ∷ 1 ∷ 8 ∷ 0 ∷ 2 ∷
 -- A's listing at k 2 and target 0, as LUTs
 abbrev pub entriesA : List Entry
 entriesA =
-  record { root = 2; leaves = copy 0 0 ∷ copy 1 0 ∷ []; lag = pos 0; table = 8 }
-  ∷ record { root = 4; leaves = copy 2 0 ∷ copy 4 1 ∷ []; lag = pos 0; table = 9 } ∷ []
+    record { root = 2; leaves = copy 0 0 ∷ copy 1 0 ∷ []; lag = pos 0; table = 8 }
+    ∷ record { root = 4; leaves = copy 2 0 ∷ copy 4 1 ∷ []; lag = pos 0; table = 9 } ∷ []
 
 -- its labels
 abbrev pub labelsA : ℕ → ℤ

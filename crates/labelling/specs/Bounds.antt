@@ -58,12 +58,12 @@ module _ (N : Net) (k φ : ℕ) (sound : Sound N) where
 
   -- **A lower bound above a ceiling refutes**: no labelling meets the outputs.
   pub refutes : (lo : ℕ → ℤ) (v c : ℕ) → LowerBound N k φ lo → IsGate N v → OutPath N v c → pos (φ * suc c) <ℤ lo v
-    → (lab : ℕ → ℤ) → Labelling N k φ lab → ¬ OutputsMet N φ lab
+      → (lab : ℕ → ℤ) → Labelling N k φ lab → ¬ OutputsMet N φ lab
   refutes lo v c b g path h lab l m =
-    let B = ceiling N k φ sound lab l m g path in
-    let a = B .at in
-    let d = b .below (B .label) (B .labelling) v g in
-    omega (arith, ints)
+      let B = ceiling N k φ sound lab l m g path in
+      let a = B .at in
+      let d = b .below (B .label) (B .labelling) v g in
+      omega (arith, ints)
 
   -- ---- the new label of a visited gate is p or p + 1
 
@@ -73,19 +73,19 @@ module _ (N : Net) (k φ : ℕ) (sound : Sound N) where
 
   -- **every labelling reaches lo(u) − φ·w at v**, for each pin (u, w) of v
   pub pin-bound : (lo : ℕ → ℤ) (v : ℕ) (q : Pin) → LowerBound N k φ lo → IsGate N v → q ∈ pins N v → (lab : ℕ → ℤ) → Labelling N k φ lab
-    → (lo (q .src) -ℤ pos (φ * q .count)) ≤ℤ lab v
+      → (lo (q .src) -ℤ pos (φ * q .count)) ≤ℤ lab v
   pin-bound lo v q b g i lab l = go (input-or-gate N (q .src) (sound .pin v g q i))
     where
       go : IsInput N (q .src) ⊎ IsGate N (q .src) → (lo (q .src) -ℤ pos (φ * q .count)) ≤ℤ lab v
       go (inl h) =
-        let a = pin-input N k φ sound lab v q l g i h in
-        let z = b .inputs (q .src) h in
-        omega (arith, ints, height-parts φ (pos 0) (q .count), sub-parts (lo (q .src)) (pos (φ * q .count)))
+          let a = pin-input N k φ sound lab v q l g i h in
+          let z = b .inputs (q .src) h in
+          omega (arith, ints, height-parts φ (pos 0) (q .count), sub-parts (lo (q .src)) (pos (φ * q .count)))
       go (inr h) =
-        let B = pin-lemma N k φ sound lab v q l g i h in
-        let a = B .at in
-        let d = b .below (B .label) (B .labelling) (q .src) h in
-        omega (arith, ints, +-parts (lab v) (pos (φ * q .count)), sub-parts (lo (q .src)) (pos (φ * q .count)))
+          let B = pin-lemma N k φ sound lab v q l g i h in
+          let a = B .at in
+          let d = b .below (B .label) (B .labelling) (q .src) h in
+          omega (arith, ints, +-parts (lab v) (pos (φ * q .count)), sub-parts (lo (q .src)) (pos (φ * q .count)))
 
   -- the cone of the gate alone
   alone : ℕ → List Copy
@@ -106,15 +106,15 @@ module _ (N : Net) (k φ : ℕ) (sound : Sound N) where
   -- **The gate alone is a k-cut of height p + 1.**
   pub alone-cut : (lo : ℕ → ℤ) (v : ℕ) (p : ℤ) → Fits N k → IsGate N v → PinsReach lo v p → LowCut N k φ lo v (p +ℤ pos 1)
   unfolding alone
-  alone-cut lo v p fits g reach = record
-    { cone = alone v
-    ; leaves = leavesOf N (alone v) .0
-    ; isCone = alone-cone v g
-    ; isLeaves = leavesOf N (alone v) .1
-    ; few = few
-    ; allowed = λ y h. allowed y (leavesOf N (alone v) .1 .sound y h)
-    ; inside = λ x h. tt
-    }
+  alone-cut lo v p fits g reach = record {
+    cone = alone v;
+    leaves = leavesOf N (alone v) .0;
+    isCone = alone-cone v g;
+    isLeaves = leavesOf N (alone v) .1;
+    few = few;
+    allowed = λ y h. allowed y (leavesOf N (alone v) .1 .sound y h);
+    inside = λ x h. tt;
+  }
     where
       root-of : (y : Copy) → (l : Leaf N (alone v) y) → Feeds N y (copy v 0)
       root-of y l = go (l .member) (l .isMember) (l .feeds)
@@ -125,16 +125,16 @@ module _ (N : Net) (k φ : ℕ) (sound : Sound N) where
 
       few : length (leavesOf N (alone v) .0) ≤ k
       few =
-        let a = pigeonhole (leaves-distinct (leavesOf N (alone v) .1)) (λ y h. feeds-in (root-of y (leavesOf N (alone v) .1 .sound y h))) in
-        let b = fits v g in
-        let c = lib.ListN.length-map (pins N v) (λ (q : Pin). copy (q .src) (0 + q .count)) in
-        omega arith
+          let a = pigeonhole (leaves-distinct (leavesOf N (alone v) .1)) (λ y h. feeds-in (root-of y (leavesOf N (alone v) .1 .sound y h))) in
+          let b = fits v g in
+          let c = lib.ListN.length-map (pins N v) (λ (q : Pin). copy (q .src) (0 + q .count)) in
+          omega arith
 
       allowed : (y : Copy) → Leaf N (alone v) y → height φ (lo (y .node)) (y .back) ≤ℤ (p +ℤ pos 1)
       allowed y l =
-        let f = root-of y l in
-        let q = f .pin in
-        let a = reach q (f .isPin) in
-        let e : y .back ≡ q .count = let d = f .depth in omega arith in
-        let t : lo (y .node) ≡ lo (q .src) = ap lo (f .source) in
-        omega (arith, ints, height-parts φ (lo (y .node)) (y .back), scale φ e, sub-parts (lo (q .src)) (pos (φ * q .count)), +-parts p (pos 1))
+          let f = root-of y l in
+          let q = f .pin in
+          let a = reach q (f .isPin) in
+          let e : y .back ≡ q .count = let d = f .depth in omega arith in
+          let t : lo (y .node) ≡ lo (q .src) = ap lo (f .source) in
+          omega (arith, ints, height-parts φ (lo (y .node)) (y .back), scale φ e, sub-parts (lo (q .src)) (pos (φ * q .count)), +-parts p (pos 1))

@@ -32,7 +32,7 @@ module _ {N : Net} (k φ : ℕ) (sound : Sound N) (R : Ranked N) (lab : ℕ → 
   path-floor : {x s c : ℕ} → OnPath R x s c → IsInput N s → (v : ℕ) (g : IsGate N v) (e : ℕ) → copy x e ∈ (l .gates v g) .cone → height φ (pos 0) (e + c) ≤ℤ lab v
   path-floor {x} {s} (starts q z) i v g e m = absurd (not-both i (subst (IsGate N) q ((l .gates v g) .isCone .gates (copy x e) m)))
   path-floor {x} {s} {c} (follows d gx p q) i v g e m =
-    go (path-floor p i) (member? (behind R (copy x e)) ((l .gates v g) .cone)) (input-or-gate N (R .pin x .src) (sound .pin x gx (R .pin x) (R .isPin x gx)))
+      go (path-floor p i) (member? (behind R (copy x e)) ((l .gates v g) .cone)) (input-or-gate N (R .pin x .src) (sound .pin x gx (R .pin x) (R .isPin x gx)))
     where
       w : ℕ
       w = R .pin x .count
@@ -50,23 +50,23 @@ module _ {N : Net} (k φ : ℕ) (sound : Sound N) (R : Ranked N) (lab : ℕ → 
       leaf n = K .allowed (copy u (e + w)) (K .isLeaves .complete (copy u (e + w)) (record { outside = n; member = copy x e; isMember = m; feeds = behind-feeds R (copy x e) gx }))
 
       go : ((v : ℕ) (g : IsGate N v) (e : ℕ) → copy u e ∈ (l .gates v g) .cone → height φ (pos 0) (e + d) ≤ℤ lab v)
-        → Dec (copy u (e + w) ∈ K .cone) → IsInput N u ⊎ IsGate N u → height φ (pos 0) (e + c) ≤ℤ lab v
+          → Dec (copy u (e + w) ∈ K .cone) → IsInput N u ⊎ IsGate N u → height φ (pos 0) (e + c) ≤ℤ lab v
       go rest (yes h) t = subst (λ (n : ℕ). height φ (pos 0) n ≤ℤ lab v) depth (rest v g (e + w) h)
       go rest (no n) (inl iu) =
-        let a = leaf n in
-        let z = l .inputs u iu in
-        let y = ends-there iu p in
-        let t : e + w ≡ e + c = omega arith in
-        subst (λ (j : ℕ). height φ (pos 0) j ≤ℤ lab v) t (subst (λ (b : ℤ). height φ b (e + w) ≤ℤ lab v) z a)
+          let a = leaf n in
+          let z = l .inputs u iu in
+          let y = ends-there iu p in
+          let t : e + w ≡ e + c = omega arith in
+          subst (λ (j : ℕ). height φ (pos 0) j ≤ℤ lab v) t (subst (λ (b : ℤ). height φ b (e + w) ≤ℤ lab v) z a)
       go rest (no n) (inr gu) =
-        let a = leaf n in
-        let b = rest u gu 0 ((l .gates u gu) .isCone .root) in
-        omega (arith, ints, height-parts φ (lab u) (e + w), height-parts φ (pos 0) (0 + d), height-parts φ (pos 0) (e + c), scale φ depth)
+          let a = leaf n in
+          let b = rest u gu 0 ((l .gates u gu) .isCone .root) in
+          omega (arith, ints, height-parts φ (lab u) (e + w), height-parts φ (pos 0) (0 + d), height-parts φ (pos 0) (e + c), scale φ depth)
 
   -- **Floor**: 1 − φ·M ≤ lab v
   pub floor : (v : ℕ) → IsGate N v → height φ (pos 0) (reachOf N) ≤ℤ lab v
   floor v g =
-    let t = path-end R sound v (g .high) in
-    let a : height φ (pos 0) (0 + t .1) ≤ℤ lab v = path-floor (t .3) (t .2) v g 0 ((l .gates v g) .isCone .root) in
-    let b = mul-le-mul-left φ (onPath-count R (t .3)) in
-    omega (arith, ints, height-parts φ (pos 0) (0 + t .1), height-parts φ (pos 0) (reachOf N))
+      let t = path-end R sound v (g .high) in
+      let a : height φ (pos 0) (0 + t .1) ≤ℤ lab v = path-floor (t .3) (t .2) v g 0 ((l .gates v g) .isCone .root) in
+      let b = mul-le-mul-left φ (onPath-count R (t .3)) in
+      omega (arith, ints, height-parts φ (pos 0) (0 + t .1), height-parts φ (pos 0) (reachOf N))

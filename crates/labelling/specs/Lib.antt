@@ -4,3 +4,4 @@ pub mod Pins
 pub mod Floor
 pub mod Bounds
 pub mod Decision
+pub mod Small

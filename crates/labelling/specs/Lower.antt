@@ -27,20 +27,20 @@ input-or-gate N u h = go (decLt u (N .inputs))
 -- a leaf is a node
 pub leaf-node : {N : Net} {C L : List Copy} {y : Copy} → Sound N → IsLeaves N C L → y ∈ L → IsNode N (y .node)
 leaf-node {N} {C} {L} {y} s l h =
-  let f = (l .sound y h) .feeds in
-  subst (IsNode N) (sym (f .source)) (s .pin ((l .sound y h) .member .node) (f .gate) (f .pin) (f .isPin))
+    let f = (l .sound y h) .feeds in
+    subst (IsNode N) (sym (f .source)) (s .pin ((l .sound y h) .member .node) (f .gate) (f .pin) (f .isPin))
 
 -- a cut whose leaves satisfy something else too
-pub recut : {N : Net} {k v : ℕ} {A A′ B : Copy → Type 0} (K : Cut N k v A B) → ((y : Copy) → y ∈ K .leaves → A y → A′ y) → Cut N k v A′ B
-recut K f = record
-  { cone = K .cone
-  ; leaves = K .leaves
-  ; isCone = K .isCone
-  ; isLeaves = K .isLeaves
-  ; few = K .few
-  ; allowed = λ y h. f y h (K .allowed y h)
-  ; inside = K .inside
-  }
+unfoldable pub recut : {N : Net} {k v : ℕ} {A A′ B : Copy → Type 0} (K : Cut N k v A B) → ((y : Copy) → y ∈ K .leaves → A y → A′ y) → Cut N k v A′ B
+recut K f = record {
+  cone = K .cone;
+  leaves = K .leaves;
+  isCone = K .isCone;
+  isLeaves = K .isLeaves;
+  few = K .few;
+  allowed = λ y h. f y h (K .allowed y h);
+  inside = K .inside;
+}
 
 -- `low` is nowhere above `lab`, gate by gate
 abbrev pub Under : Net → (ℕ → ℤ) → (ℕ → ℤ) → Type 0
@@ -93,14 +93,14 @@ replace-under lab v h le u = go (ℕ-discrete u v)
 module _ (N : Net) (k φ : ℕ) (s : Sound N) where
   -- with lower labels a cut is no higher
   pub relabel : {low lab : ℕ → ℤ} {h h′ : ℤ} (v : ℕ) → InputsZero N low → InputsZero N lab → Under N low lab → h ≤ℤ h′
-    → LowCut N k φ lab v h → LowCut N k φ low v h′
+      → LowCut N k φ lab v h → LowCut N k φ low v h′
   relabel v z z′ b le K =
-    recut K (λ y m a. ≤ℤ-trans (≤ℤ-trans (height-mono φ (y .back) (under-node z z′ b (y .node) (leaf-node s (K .isLeaves) m))) a) le)
+      recut K (λ y m a. ≤ℤ-trans (≤ℤ-trans (height-mono φ (y .back) (under-node z z′ b (y .node) (leaf-node s (K .isLeaves) m))) a) le)
 
   pub replace-inputs : (lab : ℕ → ℤ) (v : ℕ) (h : ℤ) → IsGate N v → InputsZero N lab → InputsZero N (replace lab v h)
   replace-inputs lab v h g z u i =
-    let other : ¬ (u ≡ v) = λ e. omega (arith, g) in
-    rw (replace-other lab v h u other) (z u i)
+      let other : ¬ (u ≡ v) = λ e. omega (arith, g) in
+      rw (replace-other lab v h u other) (z u i)
 
   -- a gate's label may be lowered to any height at which it has a cut
   pub lowered : (lab : ℕ → ℤ) (v : ℕ) (h : ℤ) → Labelling N k φ lab → IsGate N v → h ≤ℤ lab v → LowCut N k φ lab v h → Labelling N k φ (replace lab v h)
@@ -128,7 +128,7 @@ module _ (N : Net) (k φ : ℕ) (s : Sound N) where
           zero-of (inr e) = e ∙ l′ .inputs v i
 
       go : (v : ℕ) → IsGate N v → (minℤ (lab v) (lab′ v) ≡ lab v) ⊎ (minℤ (lab v) (lab′ v) ≡ lab′ v)
-        → LowCut N k φ (λ u. minℤ (lab u) (lab′ u)) v (minℤ (lab v) (lab′ v))
+          → LowCut N k φ (λ u. minℤ (lab u) (lab′ u)) v (minℤ (lab v) (lab′ v))
       go v g (inl e) = relabel v z (l .inputs) (λ u i. minℤ-left (lab u) (lab′ u)) (omega (arith, ints)) (l .gates v g)
       go v g (inr e) = relabel v z (l′ .inputs) (λ u i. minℤ-right (lab u) (lab′ u)) (omega (arith, ints)) (l′ .gates v g)
 
@@ -138,8 +138,12 @@ least-unique N k φ lab lab′ l l′ v g = ≤ℤ-antisym (l .least lab′ (l�
 
 -- where a labelling satisfies the outputs, so does any lower one
 pub outputs-under : (N : Net) (φ : ℕ) (low lab : ℕ → ℤ) → Sound N → InputsZero N low → InputsZero N lab → Under N low lab
-  → OutputsMet N φ lab → OutputsMet N φ low
+    → OutputsMet N φ lab → OutputsMet N φ low
 outputs-under N φ low lab s z z′ b m o i =
-  let le = under-node z z′ b (o .src) (s .output o i) in
-  let top = m o i in
-  omega (arith, ints, sub-parts (low (o .src)) (pos (φ * o .count)), sub-parts (lab (o .src)) (pos (φ * o .count)))
+    let le = under-node z z′ b (o .src) (s .output o i) in
+    let top = m o i in
+    omega (arith, ints, sub-parts (low (o .src)) (pos (φ * o .count)), sub-parts (lab (o .src)) (pos (φ * o .count)))
+
+-- the outputs are met exactly where no label exceeds φ·(w + 1)
+pub outputs-from : (N : Net) (φ : ℕ) (lab : ℕ → ℤ) → ((o : Pin) → o ∈ N .outputs → lab (o .src) ≤ℤ pos (φ + φ * o .count)) → OutputsMet N φ lab
+outputs-from N φ lab h o i = let a = h o i in omega (arith, ints, sub-parts (lab (o .src)) (pos (φ * o .count)))

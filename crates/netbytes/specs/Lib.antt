@@ -1,3 +1,7 @@
 pub mod Limits
 pub mod Reading
 pub mod Walk
+pub mod Readers
+pub mod Stages
+pub mod Maps
+pub mod Sound

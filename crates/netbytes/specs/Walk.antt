@@ -44,10 +44,10 @@ rest (a ∷ l) = l
 unfoldable pub pinsFrom : ℕ → ℕ → ℕ → ℕ → List ℕ → List ℕ → List Pin
 pinsFrom zero j pinMap regMap sources counts = []
 pinsFrom (suc n) j pinMap regMap sources counts =
-  let absent : List Pin = pinsFrom n (suc j) pinMap regMap sources counts in
-  let plain : List Pin = record { src = first sources; count = 0 } ∷ pinsFrom n (suc j) pinMap regMap (rest sources) counts in
-  let registered : List Pin = record { src = first sources; count = first counts } ∷ pinsFrom n (suc j) pinMap regMap (rest sources) (rest counts) in
-  cond (bit pinMap j) (cond (bit regMap j) registered plain) absent
+    let absent : List Pin = pinsFrom n (suc j) pinMap regMap sources counts in
+    let plain : List Pin = record { src = first sources; count = 0 } ∷ pinsFrom n (suc j) pinMap regMap (rest sources) counts in
+    let registered : List Pin = record { src = first sources; count = first counts } ∷ pinsFrom n (suc j) pinMap regMap (rest sources) (rest counts) in
+    cond (bit pinMap j) (cond (bit regMap j) registered plain) absent
 
 -- "Gate: pin map (bits 0..5, at least one; holes allowed; the number of pins is its count of ones), register map (only bits of the pin map), one source byte per pin
 -- rising, one count byte 1..3 per register bit rising, table." 7 is "told after its pin map passed 6".

@@ -31,11 +31,11 @@ pinsIn-in s c at zero p h = absurd (not-in-nil h)
 pinsIn-in s c at (suc n) p h = go (pinsIn-in s c (suc at) n p) h
   where
     go : (p ∈ pinsIn s c (suc at) n → (j : ℕ) × (j < n) × (p ≡ pinAt s c (suc at + j)))
-      → p ∈ pinAt s c at ∷ pinsIn s c (suc at) n → (j : ℕ) × (j < suc n) × (p ≡ pinAt s c (at + j))
+        → p ∈ pinAt s c at ∷ pinsIn s c (suc at) n → (j : ℕ) × (j < suc n) × (p ≡ pinAt s c (at + j))
     go rest (here e) = (zero, omega arith, e ∙ ap (pinAt s c) (sym (add-zero at)))
     go rest (there m) =
-      let r = rest m in
-      (suc (r .0), omega (arith, r .1), r .2 ∙ ap (pinAt s c) (suc-add at (r .0) ∙ sym (add-suc at (r .0))))
+        let r = rest m in
+        (suc (r .0), omega (arith, r .1), r .2 ∙ ap (pinAt s c) (suc-add at (r .0) ∙ sym (add-suc at (r .0))))
 
 -- each place has its pin
 pub in-pinsIn : (s c : List ℕ) (at n j : ℕ) → j < n → pinAt s c (at + j) ∈ pinsIn s c at n
@@ -43,7 +43,7 @@ unfolding pinsIn
 in-pinsIn s c at zero j h = absurd (not-suc-le-zero h)
 in-pinsIn s c at (suc n) zero h = here (ap (pinAt s c) (add-zero at))
 in-pinsIn s c at (suc n) (suc j) h =
-  there (subst (λ (i : ℕ). pinAt s c i ∈ pinsIn s c (suc at) n) (suc-add at j ∙ sym (add-suc at j)) (in-pinsIn s c (suc at) n j (le-of-suc-le-suc h)))
+    there (subst (λ (i : ℕ). pinAt s c i ∈ pinsIn s c (suc at) n) (suc-add at j ∙ sym (add-suc at j)) (in-pinsIn s c (suc at) n j (le-of-suc-le-suc h)))
 
 pub length-gatesIn : (ps s c ts : List ℕ) (g n : ℕ) → length (gatesIn ps s c ts g n) ≡ n
 unfolding gatesIn
@@ -58,7 +58,7 @@ unfolding gatesIn
 getD-gatesIn ps s c ts g zero i d h = absurd (not-suc-le-zero h)
 getD-gatesIn ps s c ts g (suc n) zero d h = ap (gateAt ps s c ts) (sym (add-zero g))
 getD-gatesIn ps s c ts g (suc n) (suc i) d h =
-  getD-gatesIn ps s c ts (suc g) n i d (le-of-suc-le-suc h) ∙ ap (gateAt ps s c ts) (suc-add g i ∙ sym (add-suc g i))
+    getD-gatesIn ps s c ts (suc g) n i d (le-of-suc-le-suc h) ∙ ap (gateAt ps s c ts) (suc-add g i ∙ sym (add-suc g i))
 
 module _ (a : Arrays) where
   pub gates-netIn : length ((netIn a) .gates) ≡ a .gates
@@ -81,22 +81,22 @@ module _ (a : Arrays) where
   pub pins-netIn : (v g : ℕ) → v ≡ a .inputs + g → g < a .gates → pins (netIn a) v ≡ pinsIn (a .sources) (a .counts) (stride * g) (getD (a .pins) g 0)
   unfolding netIn gate
   pins-netIn v g e h =
-    let i : v - a .inputs ≡ g = omega arith in
-    ap (λ (x : Gate). x .pins) (ap (λ (n : ℕ). getD (gatesIn (a .pins) (a .sources) (a .counts) (a .tables) 0 (a .gates)) n nothing) i
+      let i : v - a .inputs ≡ g = omega arith in
+      ap (λ (x : Gate). x .pins) (ap (λ (n : ℕ). getD (gatesIn (a .pins) (a .sources) (a .counts) (a .tables) 0 (a .gates)) n nothing) i
       ∙ getD-gatesIn (a .pins) (a .sources) (a .counts) (a .tables) 0 (a .gates) g nothing h)
-    ∙ ap (λ (n : ℕ). pinsIn (a .sources) (a .counts) (stride * n) (getD (a .pins) n 0)) (zero-add g)
+      ∙ ap (λ (n : ℕ). pinsIn (a .sources) (a .counts) (stride * n) (getD (a .pins) n 0)) (zero-add g)
 
   pub isGate-netIn : (v g : ℕ) → v ≡ a .inputs + g → g < a .gates → IsGate (netIn a) v
   isGate-netIn v g e h =
-    let z = size-netIn in
-    let i = inputs-netIn in
-    record { low = omega arith; high = omega arith }
+      let z = size-netIn in
+      let i = inputs-netIn in
+      record { low = omega arith; high = omega arith }
 
   -- a gate's place among the gates
   pub placeOfGate : (v : ℕ) → IsGate (netIn a) v → (g : ℕ) × (v ≡ a .inputs + g) × (g < a .gates)
   placeOfGate v h =
-    let z = size-netIn in
-    let i = inputs-netIn in
-    let l = h .low in
-    let u = h .high in
-    (v - a .inputs, omega arith, omega arith)
+      let z = size-netIn in
+      let i = inputs-netIn in
+      let l = h .low in
+      let u = h .high in
+      (v - a .inputs, omega arith, omega arith)

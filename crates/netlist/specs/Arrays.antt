@@ -19,7 +19,7 @@ unfoldable pub gatesIn : List ℕ → List ℕ → List ℕ → List ℕ → ℕ
 unfolding pinsIn
 gatesIn pins sources counts tables g zero = []
 gatesIn pins sources counts tables g (suc n) =
-  record { pins = pinsIn sources counts (stride * g) (getD pins g 0); table = getD tables g 0 } ∷ gatesIn pins sources counts tables (suc g) n
+    record { pins = pinsIn sources counts (stride * g) (getD pins g 0); table = getD tables g 0 } ∷ gatesIn pins sources counts tables (suc g) n
 
 -- the arrays of a net
 pub record Arrays : Type 0 where
@@ -36,8 +36,8 @@ pub record Arrays : Type 0 where
 -- the net that they hold
 unfoldable pub netIn : Arrays → Net
 unfolding pinsIn gatesIn
-netIn a = record
-  { inputs = a .inputs
-  ; gates = gatesIn (a .pins) (a .sources) (a .counts) (a .tables) 0 (a .gates)
-  ; outputs = pinsIn (a .outSources) (a .outCounts) 0 (a .outputs)
-  }
+netIn a = record {
+  inputs = a .inputs;
+  gates = gatesIn (a .pins) (a .sources) (a .counts) (a .tables) 0 (a .gates);
+  outputs = pinsIn (a .outSources) (a .outCounts) 0 (a .outputs);
+}

@@ -50,8 +50,8 @@ lagBytes z = cond (isZero z) [] (signedByte z ∷ [])
 -- "LUT: root; leaf count n; map (bit j: leaf j has d not 0; bit 6: lag not 0); n leaf nodes; for each bit its d, two bytes, low first; the lag, one signed byte; table as above."
 unfoldable pub lutBytes : Entry → List ℕ
 lutBytes e =
-  e .root ∷ length (e .leaves) ∷ (leafMap (e .leaves) + cond (isZero (e .lag)) 0 64)
-  ∷ map (λ (y : Copy). y .node) (e .leaves) ++ depths (e .leaves) ++ lagBytes (e .lag) ++ toBytes (tableBytes (length (e .leaves))) (e .table)
+    e .root ∷ length (e .leaves) ∷ (leafMap (e .leaves) + cond (isZero (e .lag)) 0 64)
+    ∷ map (λ (y : Copy). y .node) (e .leaves) ++ depths (e .leaves) ++ lagBytes (e .lag) ++ toBytes (tableBytes (length (e .leaves))) (e .table)
 
 unfoldable pub allLutBytes : List Entry → List ℕ
 allLutBytes [] = []
@@ -90,9 +90,9 @@ depthReader = do
 unfoldable pub leavesFrom : ℕ → List ℕ → List ℕ → List Copy
 leavesFrom b [] ds = []
 leavesFrom b (u ∷ us) ds =
-  let deep : List Copy = copy u (first ds) ∷ leavesFrom (b / 2) us (rest ds) in
-  let flat : List Copy = copy u 0 ∷ leavesFrom (b / 2) us ds in
-  cond (bit b 0) deep flat
+    let deep : List Copy = copy u (first ds) ∷ leavesFrom (b / 2) us (rest ds) in
+    let flat : List Copy = copy u 0 ∷ leavesFrom (b / 2) us ds in
+    cond (bit b 0) deep flat
 
 abbrev pub before : Copy → Copy → Bool
 before a b = ltb (a .node) (b .node) || (eqb (a .node) (b .node) && ltb (a .back) (b .back))
@@ -120,7 +120,7 @@ lutReader nodes k least = do
 unfoldable pub lutsReader : ℕ → ℕ → ℕ → ℕ → Reader (List Entry)
 lutsReader nodes k zero least s = got [] s
 lutsReader nodes k (suc n) least s =
-  andThen (lutReader nodes k least s) (λ e behind. andThen (lutsReader nodes k n (suc (e .root)) behind) (λ es after. got (e ∷ es) after))
+    andThen (lutReader nodes k least s) (λ e behind. andThen (lutsReader nodes k n (suc (e .root)) behind) (λ es after. got (e ∷ es) after))
 
 -- "early end, bytes over, period outside 1..32, LUT count outside 1..32, roots not rising gates"
 unfoldable pub coverReader : Net → ℕ → Reader Record

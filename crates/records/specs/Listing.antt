@@ -109,8 +109,8 @@ leafText (y ∷ L) = (32 ∷ decimal (y .node)) ++ (58 ∷ decimal (y .back)) ++
 -- "lut 2 label 1 lag 0 table 8 leaves 0:0 1:0"
 unfoldable pub lutLine : (ℕ → ℤ) → Entry → List ℕ
 lutLine label e =
-  lutWord ++ decimal (e .root) ++ labelWord ++ signed (label (e .root)) ++ lagWord ++ signed (e .lag) ++ tableWord
-  ++ tableText (length (e .leaves)) (e .table) ++ leavesWord ++ leafText (e .leaves) ++ newline
+    lutWord ++ decimal (e .root) ++ labelWord ++ signed (label (e .root)) ++ lagWord ++ signed (e .lag) ++ tableWord
+    ++ tableText (length (e .leaves)) (e .table) ++ leavesWord ++ leafText (e .leaves) ++ newline
 
 unfoldable pub lutLines : (ℕ → ℤ) → List Entry → List ℕ
 lutLines label [] = []
@@ -119,7 +119,7 @@ lutLines label (e ∷ es) = lutLine label e ++ lutLines label es
 -- "period 2 luts 2 registers 1", then a line for each LUT
 unfoldable pub coverText : Net → ℕ → (ℕ → ℤ) → List Entry → List ℕ
 coverText N period label es =
-  periodWord ++ decimal period ++ lutsWord ++ decimal (length es) ++ registersWord ++ signed (registerCount N es) ++ newline ++ lutLines label es
+    periodWord ++ decimal period ++ lutsWord ++ decimal (length es) ++ registersWord ++ signed (registerCount N es) ++ newline ++ lutLines label es
 
 -- "A refusal prints `refused N`."
 unfoldable pub refusalText : ℕ → List ℕ

@@ -1,9 +1,7 @@
 -- Definitions: what checks 14 to 18 of document 01 ask of a candidate's LUTs, as statements about the LUTs read.
 use mathlib.Core.Path.{_≡_}
-use mathlib.Core.Bool.{cond}
-use mathlib.Core.List.{List, [], _∷_, map}
-use Prim.Native.Nat.{ℕ, zero, suc, _<_}
-use lib.Dec.{eqb}
+use mathlib.Core.List.{List}
+use Prim.Native.Nat.{ℕ, _<_}
 use lib.IntN.{ℤ, pos}
 use lib.ListN.{length}
 use lib.Signed.{_≤ℤ_}
@@ -11,24 +9,8 @@ use Rattle.sequences.specs.Member.{_∈_}
 use Rattle.netlist.specs.Net.{Net, Pin, IsGate}
 use Rattle.netlist.specs.Copies.{Copy, IsCut}
 use Rattle.netlist.specs.Tables.{tableOf}
-use Rattle.covers.specs.Covers.{Lut, Cover, lut, output, registers, outputRegisters, Meets}
-use Rattle.covers.specs.Key.{Entry}
-
--- the place of the LUT with root u; the number of LUTs if there is none
-unfoldable pub placeOf : List Entry → ℕ → ℕ
-placeOf [] u = 0
-placeOf (e ∷ es) u = cond (eqb (e .root) u) 0 (suc (placeOf es u))
-
-abbrev pub asLut : Entry → Lut
-asLut e = record { root = e .root; leaves = e .leaves; lag = e .lag }
-
--- The cover that a record describes: "one per root", so a gate leaf and a gate source are fed by the LUT of their root.
-abbrev pub asCover : Net → List Entry → Cover
-asCover N es = record
-  { luts = map asLut es
-  ; feeder = λ i y. placeOf es (y .node)
-  ; named = λ o. placeOf es ((output N o) .src)
-  }
+use Rattle.covers.specs.Covers.{lut, registers, outputRegisters, Meets}
+use Rattle.covers.specs.Key.{Entry, HasLut, asCover}
 
 -- 14, "Some LUT's leaves are no cut of its root": all are.
 abbrev pub CutsRight : Net → ℕ → List Entry → Type 0
@@ -42,9 +24,6 @@ pub record TableRight (N : Net) (k : ℕ) (e : Entry) : Type 0 where
 -- 15, "Some table is wrong": none is.
 abbrev pub TablesRight : Net → ℕ → List Entry → Type 0
 TablesRight N k es = (e : Entry) → e ∈ es → TableRight N k e
-
-abbrev pub HasLut : List Entry → ℕ → Type 0
-HasLut es u = (e : Entry) × (e ∈ es) × (e .root ≡ u)
 
 -- 16, "A gate leaf or gate source of an output has no LUT": each has.
 pub record AllFed (N : Net) (es : List Entry) : Type 0 where

@@ -7,33 +7,23 @@ use lib.Dec.{ltb}
 use lib.ListN.{length, drop, replicate}
 use Rattle.netlist.specs.Net.{Net}
 use Rattle.netlist.specs.Checks.{Sound, Fits, Loopless, AllReached, AllLeading, Passed}
-use Rattle.covers.specs.Covers.{LeastPeriod}
+use Rattle.cones.specs.Decided.{loopless?, reached?, leading?}
+use Rattle.cones.specs.Ranks.{ranked}
 use Rattle.covers.specs.Key.{Key, Entry, entries}
+use Rattle.covers.specs.Joined.{key?}
+use Rattle.covers.specs.Period.{leastPeriod, leastKey}
 use Rattle.netbytes.specs.Limits.{leastK, mostK, mostPeriod, coverArea, scratchArea}
 use Rattle.netbytes.specs.Reading.{Result, got, refused, between}
 use Rattle.netbytes.specs.Walk.{netReader}
+use Rattle.netbytes.specs.Sound.{walk-sound, walk-fits}
 use Rattle.records.specs.CoverBytes.{Record, coverReader, coverBytes}
 use Rattle.records.specs.Marking.{CutsRight, TablesRight, AllFed, EnoughRegisters, ShortChains}
+use Rattle.records.specs.Decided.{cutsRight?, tablesRight?, allFed?, enough?, shortChains?}
 
 -- The answer of map, the record's length, or of mark, the excess; or "A refusal returns its number and no count."
 pub data Answer : Type 0 where
   accepted : ℕ → Answer
   turnedBack : ℕ → Answer
-
--- What the theory decides or finds, for the definitions below to use.
-pub record Decisions : Type 0 where
-  pub sound : (k : ℕ) (s rest : List ℕ) (N : Net) → netReader k s ≡ got N rest → Sound N
-  pub fits : (k : ℕ) (s rest : List ℕ) (N : Net) → netReader k s ≡ got N rest → Fits N k
-  pub loopless : (N : Net) → Sound N → Dec (Loopless N)
-  pub reached : (N : Net) → Sound N → Dec (AllReached N)
-  pub leading : (N : Net) → Sound N → Dec (AllLeading N)
-  pub key : (N : Net) (k φ : ℕ) → Passed N k → 1 ≤ φ → Dec (Key N k φ)
-  pub leastPeriod : (N : Net) (k : ℕ) → Passed N k → (φ : ℕ) × LeastPeriod N k φ × Key N k φ
-  pub cuts : (N : Net) (k : ℕ) → Passed N k → (es : List Entry) → Dec (CutsRight N k es)
-  pub tables : (N : Net) (k : ℕ) → Passed N k → (es : List Entry) → Dec (TablesRight N k es)
-  pub fed : (N : Net) (es : List Entry) → Dec (AllFed N es)
-  pub enough : (N : Net) (es : List Entry) → Dec (EnoughRegisters N es)
-  pub chains : (N : Net) (k : ℕ) → Passed N k → (period : ℕ) (es : List Entry) → Dec (ShortChains N period es)
 
 -- Checks 4 to 11: the net with all that they ask of it, or the first refusal.
 pub data Checked (k : ℕ) : Type 0 where
@@ -47,18 +37,15 @@ checkGraph N k s f (yes a) (no b) c = fails 10
 checkGraph N k s f (yes a) (yes b) (no c) = fails 11
 checkGraph N k s f (yes a) (yes b) (yes c) = passes N (record { sound = s; fits = f; loopless = a; reached = b; leading = c })
 
-module _ (D : Decisions) where
-  unfoldable pub checkRead : (k : ℕ) (s : List ℕ) (r : Result Net) → netReader k s ≡ r → Checked k
-  unfolding checkGraph
-  checkRead k s (refused n) e = fails n
-  checkRead k s (got N rest) e =
-    let sound = D .sound k s rest N e in
-    checkGraph N k sound (D .fits k s rest N e) (D .loopless N sound) (D .reached N sound) (D .leading N sound)
+unfoldable pub checkRead : (k : ℕ) (s : List ℕ) (r : Result Net) → netReader k s ≡ r → Checked k
+unfolding checkGraph
+checkRead k s (refused n) e = fails n
+checkRead k s (got N rest) e = checkGraph N k (walk-sound k s N rest e) (walk-fits k s N rest e) (loopless? N) (reached? N) (leading? N)
 
-  -- "4 to 8 arise in one walk from the first byte, the first met counting", then 9, 10, 11.
-  unfoldable pub checkNet : (k : ℕ) → List ℕ → Checked k
-  unfolding checkRead
-  checkNet k s = checkRead k s (netReader k s) refl
+-- "4 to 8 arise in one walk from the first byte, the first met counting", then 9, 10, 11.
+unfoldable pub checkNet : (k : ℕ) → List ℕ → Checked k
+unfolding checkRead
+checkNet k s = checkRead k s (netReader k s) refl
 
 -- ---- map
 
@@ -78,7 +65,7 @@ written bytes area = bytes ++ drop (length bytes) area
 -- 1, 2 and 3, in this order; 0 if all pass
 unfoldable pub mapSizes : ℕ → ℕ → List ℕ → List ℕ → ℕ
 mapSizes k target area scratch =
-  cond (not (between leastK mostK k)) 1
+    cond (not (between leastK mostK k)) 1
     (cond (ltb mostPeriod target) 2 (cond (ltb (length area) coverArea || ltb (length scratch) scratchArea) 3 0))
 
 -- the period and the written cover for a target, or refusal 12
@@ -92,31 +79,30 @@ forTarget N k φ (no n) = unreachable
 
 unfoldable pub mapWritten : {N : Net} {k : ℕ} → Mapped N k → List ℕ → List ℕ → MapOutcome
 mapWritten (covered φ K) area scratch =
-  let bytes = coverBytes φ (entries K) in
-  record { answer = accepted (length bytes); area = written bytes area; scratch = cleared scratchArea scratch }
+    let bytes = coverBytes φ (entries K) in
+    record { answer = accepted (length bytes); area = written bytes area; scratch = cleared scratchArea scratch }
 mapWritten unreachable area scratch = record { answer = turnedBack 12; area = area; scratch = cleared scratchArea scratch }
 
-module _ (D : Decisions) where
-  -- "12. The target is not 0 and is not reachable." "(0 means the least period)"
-  unfoldable pub mapped : (N : Net) (k target : ℕ) → Passed N k → Mapped N k
-  unfolding forTarget
-  mapped N k zero p = let l = D .leastPeriod N k p in covered (l .0) (l .2)
-  mapped N k (suc t) p = forTarget N k (suc t) (D .key N k (suc t) p (suc-le-suc zero-le))
+-- "12. The target is not 0 and is not reachable." "(0 means the least period)"
+unfoldable pub mapped : (N : Net) (k target : ℕ) → Passed N k → Mapped N k
+unfolding forTarget
+mapped N k zero p = covered (leastPeriod p) (leastKey p)
+mapped N k (suc t) p = forTarget N k (suc t) (key? p (suc-le-suc zero-le))
 
-  unfoldable pub mapChecked : (k target : ℕ) → Checked k → List ℕ → List ℕ → MapOutcome
-  unfolding mapped mapWritten
-  mapChecked k target (fails n) area scratch = record { answer = turnedBack n; area = area; scratch = cleared scratchArea scratch }
-  mapChecked k target (passes N p) area scratch = mapWritten (mapped N k target p) area scratch
+unfoldable pub mapChecked : (k target : ℕ) → Checked k → List ℕ → List ℕ → MapOutcome
+unfolding mapped mapWritten
+mapChecked k target (fails n) area scratch = record { answer = turnedBack n; area = area; scratch = cleared scratchArea scratch }
+mapChecked k target (passes N p) area scratch = mapWritten (mapped N k target p) area scratch
 
-  unfoldable pub mapSized : ℕ → (k target : ℕ) → List ℕ → List ℕ → List ℕ → MapOutcome
-  unfolding mapChecked checkNet
-  mapSized zero k target net area scratch = mapChecked k target (checkNet D k net) area scratch
-  mapSized (suc n) k target net area scratch = record { answer = turnedBack (suc n); area = area; scratch = scratch }
+unfoldable pub mapSized : ℕ → (k target : ℕ) → List ℕ → List ℕ → List ℕ → MapOutcome
+unfolding mapChecked checkNet
+mapSized zero k target net area scratch = mapChecked k target (checkNet k net) area scratch
+mapSized (suc n) k target net area scratch = record { answer = turnedBack (suc n); area = area; scratch = scratch }
 
-  -- Map for every input: net, k, target, cover area and scratch.
-  unfoldable pub mapOutcome : List ℕ → (k target : ℕ) → List ℕ → List ℕ → MapOutcome
-  unfolding mapSized mapSizes
-  mapOutcome net k target area scratch = mapSized (mapSizes k target area scratch) k target net area scratch
+-- Map for every input: net, k, target, cover area and scratch.
+unfoldable pub mapOutcome : List ℕ → (k target : ℕ) → List ℕ → List ℕ → MapOutcome
+unfolding mapSized mapSizes
+mapOutcome net k target area scratch = mapSized (mapSizes k target area scratch) k target net area scratch
 
 -- ---- mark
 
@@ -130,8 +116,8 @@ markSizes k scratch = cond (not (between leastK mostK k)) 1 (cond (ltb (length s
 
 -- "13 to 18 are each tested over the whole record before the next."
 unfoldable pub judged : (N : Net) (k : ℕ) (r : Record)
-  → Dec (CutsRight N k (r .entries)) → Dec (TablesRight N k (r .entries)) → Dec (AllFed N (r .entries)) → Dec (EnoughRegisters N (r .entries))
-  → Dec (ShortChains N (r .period) (r .entries)) → ℕ → Answer
+    → Dec (CutsRight N k (r .entries)) → Dec (TablesRight N k (r .entries)) → Dec (AllFed N (r .entries)) → Dec (EnoughRegisters N (r .entries))
+    → Dec (ShortChains N (r .period) (r .entries)) → ℕ → Answer
 judged N k r (no a) b c d e excess = turnedBack 14
 judged N k r (yes a) (no b) c d e excess = turnedBack 15
 judged N k r (yes a) (yes b) (no c) d e excess = turnedBack 16
@@ -139,26 +125,25 @@ judged N k r (yes a) (yes b) (yes c) (no d) e excess = turnedBack 17
 judged N k r (yes a) (yes b) (yes c) (yes d) (no e) excess = turnedBack 18
 judged N k r (yes a) (yes b) (yes c) (yes d) (yes e) excess = accepted excess
 
-module _ (D : Decisions) where
-  -- "Mark returns the excess, stated period minus least period."
-  unfoldable pub markRead : (N : Net) (k : ℕ) → Passed N k → Result Record → Answer
-  unfolding judged
-  markRead N k p (refused n) = turnedBack n
-  markRead N k p (got r rest) =
-    judged N k r (D .cuts N k p (r .entries)) (D .tables N k p (r .entries)) (D .fed N (r .entries)) (D .enough N (r .entries))
-      (D .chains N k p (r .period) (r .entries)) (r .period - (D .leastPeriod N k p) .0)
+-- "Mark returns the excess, stated period minus least period."
+unfoldable pub markRead : (N : Net) (k : ℕ) → Passed N k → Result Record → Answer
+unfolding judged
+markRead N k p (refused n) = turnedBack n
+markRead N k p (got r rest) =
+    judged N k r (cutsRight? (ranked (p .reached)) k (r .entries)) (tablesRight? p (r .entries)) (allFed? N (r .entries)) (enough? N (r .entries))
+    (shortChains? N (r .period) (r .entries)) (r .period - leastPeriod p)
 
-  unfoldable pub markChecked : (k : ℕ) → Checked k → List ℕ → Answer
-  unfolding markRead
-  markChecked k (fails n) bytes = turnedBack n
-  markChecked k (passes N p) bytes = markRead N k p (coverReader N k bytes)
+unfoldable pub markChecked : (k : ℕ) → Checked k → List ℕ → Answer
+unfolding markRead
+markChecked k (fails n) bytes = turnedBack n
+markChecked k (passes N p) bytes = markRead N k p (coverReader N k bytes)
 
-  unfoldable pub markSized : ℕ → (k : ℕ) → List ℕ → List ℕ → List ℕ → MarkOutcome
-  unfolding markChecked checkNet
-  markSized zero k net bytes scratch = record { answer = markChecked k (checkNet D k net) bytes; scratch = cleared scratchArea scratch }
-  markSized (suc n) k net bytes scratch = record { answer = turnedBack (suc n); scratch = scratch }
+unfoldable pub markSized : ℕ → (k : ℕ) → List ℕ → List ℕ → List ℕ → MarkOutcome
+unfolding markChecked checkNet
+markSized zero k net bytes scratch = record { answer = markChecked k (checkNet k net) bytes; scratch = cleared scratchArea scratch }
+markSized (suc n) k net bytes scratch = record { answer = turnedBack (suc n); scratch = scratch }
 
-  -- Mark for every input: net, k, the candidate's record and scratch.
-  unfoldable pub markOutcome : List ℕ → (k : ℕ) → List ℕ → List ℕ → MarkOutcome
-  unfolding markSized markSizes
-  markOutcome net k bytes scratch = markSized (markSizes k scratch) k net bytes scratch
+-- Mark for every input: net, k, the candidate's record and scratch.
+unfoldable pub markOutcome : List ℕ → (k : ℕ) → List ℕ → List ℕ → MarkOutcome
+unfolding markSized markSizes
+markOutcome net k bytes scratch = markSized (markSizes k scratch) k net bytes scratch
