@@ -9,3 +9,5 @@ pub mod Joined
 pub mod Period
 pub mod Satisfies
 pub mod KeyUnique
+pub mod Alone
+pub mod Routes

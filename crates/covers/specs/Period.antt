@@ -14,51 +14,59 @@ use Rattle.sequences.specs.Decide.{least}
 use Rattle.sequences.specs.Decide as Search
 use Rattle.netlist.specs.Net.{Net, Pin, IsGate, IsInput, pins}
 use Rattle.netlist.specs.Checks.{Passed, Drives}
+use Rattle.netlist.specs.Copies.{copy}
+use Rattle.cones.specs.Basics.{leavesOf}
 use Rattle.cones.specs.Order.{Levels, levels}
 use Rattle.labelling.specs.Labels.{LowCut, Labelling, OutputsMet, Reachable}
 use Rattle.labelling.specs.Lower.{outputs-from}
-use Rattle.labelling.specs.Bounds.{alone-cut}
+use Rattle.labelling.specs.Bounds.{alone-cut, alone-leaves}
 use Rattle.labelling.specs.Decision.{reachable?, labelling-reaches}
 use Rattle.covers.specs.Covers.{Met, LeastPeriod}
 use Rattle.covers.specs.Key.{Key}
 use Rattle.covers.specs.KeyOf.{keyOf}
 use Rattle.covers.specs.Joined.{reachable-met, met-reachable, met-more}
 
+unfoldable pub levelsOf : {N : Net} {k : ℕ} → Passed N k → Levels N
+levelsOf P = levels (P .loopless)
+
 module _ {N : Net} {k : ℕ} (P : Passed N k) where
   module _ (φ : ℕ) (enough : length (N .gates) ≤ φ) where
-    O : Levels N
-    O = levels (P .loopless)
-
     -- each gate labelled by the longest line of gates without registers that ends there
-    lineLabel : ℕ → ℤ
-    lineLabel v = pos (O .level v)
+    unfoldable pub lineLabel : ℕ → ℤ
+    unfolding levelsOf
+    lineLabel v = pos (levelsOf P .level v)
 
-    line-labelling : Labelling N k φ lineLabel
+    line-pins : (v : ℕ) → IsGate N v → (q : Pin) → q ∈ pins N v → (c : ℕ) → q .count ≡ c → (lineLabel (q .src) -ℤ pos (φ * q .count)) ≤ℤ pos (levelsOf P .level v - 1)
     unfolding lineLabel
-    line-labelling = record { inputs = λ v i. ap pos (O .input v (not-gate i)); gates = cut }
+    line-pins v g q i zero e =
+        let r = levelsOf P .rises (record { gate = g; pin = q; isPin = i; source = refl; free = e }) in
+        omega (arith, ints, sub-parts (pos (levelsOf P .level (q .src))) (pos (φ * q .count)))
+    line-pins v g q i (suc c) e =
+        let a = levelsOf P .bound (q .src) in
+        let b : φ * 1 ≤ φ * q .count = mul-le-mul-left φ (omega arith) in
+        omega (arith, ints, sub-parts (pos (levelsOf P .level (q .src))) (pos (φ * q .count)))
+
+    -- the gate alone is a cut of that height
+    pub line-cut : (v : ℕ) → IsGate N v → (J : LowCut N k φ lineLabel v (lineLabel v)) × (leavesOf N (copy v 0 ∷ []) .0 ≡ J .leaves)
+    unfolding lineLabel
+    line-cut v g =
+        let O = levelsOf P in
+        let l = O .gate v g in
+        let e : (pos (O .level v - 1) +ℤ pos 1) ≡ pos (O .level v) = omega (arith, ints, +-parts (pos (O .level v - 1)) (pos 1)) in
+        let reach : (q : Pin) → q ∈ pins N v → (lineLabel (q .src) -ℤ pos (φ * q .count)) ≤ℤ pos (O .level v - 1) = λ q i. line-pins v g q i (q .count) refl in
+        subst (λ (h : ℤ). (J : LowCut N k φ lineLabel v h) × (leavesOf N (copy v 0 ∷ []) .0 ≡ J .leaves)) e
+        (alone-cut N k φ (P .sound) lineLabel v (pos (O .level v - 1)) (P .fits) g reach, alone-leaves N k φ (P .sound) lineLabel v (pos (O .level v - 1)) (P .fits) g reach)
+
+    pub line-labelling : Labelling N k φ lineLabel
+    unfolding lineLabel
+    line-labelling = record { inputs = λ v i. ap pos (levelsOf P .input v (not-gate i)); gates = λ v g. line-cut v g .0 }
       where
         not-gate : {v : ℕ} → IsInput N v → ¬ IsGate N v
         not-gate i g = omega (arith, g)
 
-        step : (v : ℕ) → IsGate N v → (q : Pin) → q ∈ pins N v → (c : ℕ) → q .count ≡ c → (pos (O .level (q .src)) -ℤ pos (φ * q .count)) ≤ℤ pos (O .level v - 1)
-        step v g q i zero e =
-            let r = O .rises (record { gate = g; pin = q; isPin = i; source = refl; free = e }) in
-            omega (arith, ints, sub-parts (pos (O .level (q .src))) (pos (φ * q .count)))
-        step v g q i (suc c) e =
-            let a = O .bound (q .src) in
-            let b : φ * 1 ≤ φ * q .count = mul-le-mul-left φ (omega arith) in
-            omega (arith, ints, sub-parts (pos (O .level (q .src))) (pos (φ * q .count)))
-
-        cut : (v : ℕ) → IsGate N v → LowCut N k φ (λ u. pos (O .level u)) v (pos (O .level v))
-        cut v g =
-            let l = O .gate v g in
-            let e : (pos (O .level v - 1) +ℤ pos 1) ≡ pos (O .level v) = omega (arith, ints, +-parts (pos (O .level v - 1)) (pos 1)) in
-            subst (LowCut N k φ (λ u. pos (O .level u)) v) e
-            (alone-cut N k φ (P .sound) (λ u. pos (O .level u)) v (pos (O .level v - 1)) (P .fits) g (λ q i. step v g q i (q .count) refl))
-
-    line-outputs : OutputsMet N φ lineLabel
+    pub line-outputs : OutputsMet N φ lineLabel
     unfolding lineLabel
-    line-outputs = outputs-from N φ (λ v. pos (O .level v)) (λ o i. let a = O .bound (o .src) in omega (arith, ints))
+    line-outputs = outputs-from N φ lineLabel (λ o i. let a = levelsOf P .bound (o .src) in omega (arith, ints))
 
     -- **Every period from G up is reachable.**
     pub gates-reach : Reachable N k φ

@@ -138,3 +138,9 @@ module _ (N : Net) (k φ : ℕ) (sound : Sound N) where
           let e : y .back ≡ q .count = let d = f .depth in omega arith in
           let t : lo (y .node) ≡ lo (q .src) = ap lo (f .source) in
           omega (arith, ints, height-parts φ (lo (y .node)) (y .back), scale φ e, sub-parts (lo (q .src)) (pos (φ * q .count)), +-parts p (pos 1))
+
+  -- its leaves are what feeds the gate
+  pub alone-leaves : (lo : ℕ → ℤ) (v : ℕ) (p : ℤ) (fits : Fits N k) (g : IsGate N v) (reach : PinsReach lo v p)
+      → leavesOf N (copy v 0 ∷ []) .0 ≡ (alone-cut lo v p fits g reach) .leaves
+  unfolding alone-cut alone
+  alone-leaves lo v p fits g reach = refl

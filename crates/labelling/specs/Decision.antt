@@ -39,7 +39,7 @@ lowCut? N k φ R lab v h = cut? (λ y. ≤ℤ? (height φ (lab (y .node)) (y .ba
 
 -- ---- the sum of what is left
 
-sum-less : {A : Type 0} (f g : A → ℕ) (l : List A) {a : A} → a ∈ l → ((b : A) → b ∈ l → f b ≤ g b) → f a < g a → sum f l < sum g l
+pub sum-less : {A : Type 0} (f g : A → ℕ) (l : List A) {a : A} → a ∈ l → ((b : A) → b ∈ l → f b ≤ g b) → f a < g a → sum f l < sum g l
 sum-less f g l h le lt =
     let p = sum-remove f h in
     let q = sum-remove g h in
@@ -47,7 +47,7 @@ sum-less f g l h le lt =
     omega arith
 
 -- a number one higher under the same ceiling leaves less
-up-falls : (t z : ℤ) → (z +ℤ pos 1) ≤ℤ t → up (t -ℤ (z +ℤ pos 1)) < up (t -ℤ z)
+pub up-falls : (t z : ℤ) → (z +ℤ pos 1) ≤ℤ t → up (t -ℤ (z +ℤ pos 1)) < up (t -ℤ z)
 up-falls t z le =
     let a = pos-up (t -ℤ (z +ℤ pos 1)) (omega (arith, ints, sub-parts t (z +ℤ pos 1))) in
     let b = pos-up (t -ℤ z) (omega (arith, ints, sub-parts t z, +-parts z (pos 1))) in

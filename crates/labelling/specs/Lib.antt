@@ -5,3 +5,5 @@ pub mod Floor
 pub mod Bounds
 pub mod Decision
 pub mod Small
+pub mod Exists
+pub mod Forced

@@ -6,3 +6,4 @@ pub mod Runs
 pub mod CopyLaws
 pub mod Arrays
 pub mod ArrayLaws
+pub mod Wired

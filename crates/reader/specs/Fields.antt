@@ -1,15 +1,12 @@
--- What each field of a net record allows, the refusal's number where it does not, and a verdict as a reader's result.
+-- Definitions: what each field of a net record allows, the refusal's number where it does not, and the reader of one byte of a field.
 use mathlib.Core.Bool.{Bool}
-use mathlib.Core.List.{List}
 use Prim.Native.Nat.{ℕ}
 use lib.Dec.{leb, ltb}
 use Rattle.netbytes.specs.Limits.{mostInputs, mostGates, mostOutputs, mostCount}
-use Rattle.netbytes.specs.Reading.{Result, between, got, refused}
+use Rattle.netbytes.specs.Reading.{Reader, byte, between}
 use Rattle.netbytes.specs.Walk.{onlyBits, tableByte}
 use Rattle.reader.specs.declared.Field.{Field}
 use Rattle.reader.specs.declared.Field.the-variants.{Inputs, Gates, Outputs, PinMap, RegisterMap, Source, Count, Table, OutputMap}
-use Rattle.reader.specs.declared.Verdict.{Verdict}
-use Rattle.reader.specs.declared.Verdict.the-variants.{Read, Refused}
 
 abbrev pub allowedOf : Field → ℕ → ℕ → Bool
 allowedOf Inputs limit = between 1 mostInputs
@@ -33,6 +30,6 @@ refusalOf Count = 6
 refusalOf Table = 6
 refusalOf OutputMap = 6
 
-abbrev pub outcome : {A : Type 0} → Verdict → A → List ℕ → Result A
-outcome Read a s = got a s
-outcome (Refused n) a s = refused n
+-- one byte of a field: "4. The net ends where a byte is still due", else the field's own refusal
+abbrev pub fieldByte : Field → ℕ → Reader ℕ
+fieldByte f limit = byte 4 (refusalOf f) (allowedOf f limit)

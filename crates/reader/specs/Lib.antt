@@ -1,5 +1,11 @@
+pub mod Answer
 pub mod Fields
-pub mod Readers
-pub mod Maps
-pub mod Stages
-pub mod Sound
+pub mod FieldLaws
+pub mod Contracts
+pub mod ItemLaws
+pub mod RowLaws
+pub mod SpreadLaws
+pub mod GateLaws
+pub mod StoreLaws
+pub mod NetLaws
+pub mod WalkFacts

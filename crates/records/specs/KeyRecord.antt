@@ -58,7 +58,7 @@ module _ {N : Net} {k φ : ℕ} (P : Passed N k) (l : WithinLimits N k) (pos-φ 
   pub key-lag-high : (v : ℕ) → IsGate N v → lag φ (K .label v) <ℤ pos (length (N .gates))
   key-lag-high v g = lag-upper φ pos-φ (length (N .gates)) (K .label v) (least-small N k φ (P .sound) (K .label) (K .least) v g)
 
-  -- **within −96..96**
+  -- so they fit a signed byte
   pub key-lag : (v : ℕ) → IsGate N v → SmallLag (lag φ (K .label v))
   key-lag v g =
       let a = key-lag-low v g in
@@ -66,6 +66,15 @@ module _ {N : Net} {k φ : ℕ} (P : Passed N k) (l : WithinLimits N k) (pos-φ 
       let c = reachOf-le N 3 (l .counts) in
       let d = l .gates in
       small-lag (lag φ (K .label v)) (omega (arith, ints, neg-parts (pos (reachOf N)), neg-parts (pos 96))) (omega (arith, ints))
+
+  -- **within −96..96**
+  pub key-lag-range : (v : ℕ) → IsGate N v → (negℤ (pos 96) ≤ℤ lag φ (K .label v)) × (lag φ (K .label v) ≤ℤ pos 96)
+  key-lag-range v g =
+      let a = key-lag-low v g in
+      let b = key-lag-high v g in
+      let c = reachOf-le N 3 (l .counts) in
+      let d = l .gates in
+      (omega (arith, ints, neg-parts (pos (reachOf N)), neg-parts (pos 96)), omega (arith, ints))
 
   -- a cut has a leaf
   some-leaf : (v : ℕ) (g : IsGate N v) → 1 ≤ length (K .cut v g .leaves)

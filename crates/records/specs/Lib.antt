@@ -5,3 +5,5 @@ pub mod RoundTrip
 pub mod KeyRecord
 pub mod Decided
 pub mod Outcomes
+pub mod Program
+pub mod Accepted

@@ -1,38 +1,41 @@
+-- `reader::read_byte` meets its contract: past the end, allowed, or not.
+use mathlib.Core.Path.{sym, ap, _∙_}
+use native.Mathlib.Omega.{arith}
+use denote.Ref.{now}
+use Rattle.netbytes.specs.Reading.{refused}
+use Rattle.reader.specs.Fields.{allowedOf, refusalOf}
+use Rattle.reader.specs.FieldLaws.{byte-end, byte-ok, byte-bad}
 use borrow.Author.Needs.{needs}
 use Rattle.reader.proofs.read_byte.Statement.{statement}
 use Rattle.reader.proofs.read_byte.Tie as tie
-use Rattle.reader.proofs.read_byte.Reads as reads
-use Rattle.reader.proofs.read_byte.Lts as lts
-use Rattle.reader.proofs.allowed.Reads as allowed-reads
-use Rattle.reader.proofs.refusal.Reads as refusal-reads
 
--- src/lib.rt:132:9
 returns : tie.Need-returns
-returns c = ?
+returns c =
+    let a = c .before .before .args in
+    byte-end 4 (refusalOf (a .field)) (allowedOf (a .field) (a .limit)) (now (a .bytes)) (a .at) (omega arith)
 
--- src/lib.rt:138:17
 shared-slice-read-value : tie.Need-shared-slice-read-value
 shared-slice-read-value c = search needs
 
--- src/lib.rt:139:8
 allowed-requires : tie.Need-allowed-requires
 allowed-requires c κs = search needs
 
--- src/lib.rt:142:17
 add-t14 : tie.Need-add-t14
 add-t14 c = search needs
 
--- src/lib.rt:147:39
 refusal-requires : tie.Need-refusal-requires
 refusal-requires c κs = search needs
 
--- src/lib.rt:128:1
 returns-2 : tie.Need-returns-2
-returns-2 c = ?
+returns-2 c =
+    let a = c .before .before .before .before .before .args in
+    byte-ok 4 (refusalOf (a .field)) (allowedOf (a .field) (a .limit)) (now (a .bytes)) (a .at) (omega arith) (sym (c .before .allowed .ensures) ∙ c .if2 .taken)
 
--- src/lib.rt:128:1
 returns-3 : tie.Need-returns-3
-returns-3 c = ?
+returns-3 c =
+    let a = c .before .before .before .before .before .before .args in
+    byte-bad 4 (refusalOf (a .field)) (allowedOf (a .field) (a .limit)) (now (a .bytes)) (a .at) (omega arith) (sym (c .before .before .allowed .ensures) ∙ c .before .if2 .left)
+    ∙ ap refused (sym (c .refusal .ensures))
 
 pub read-byte-spec : {M : Type 1} → statement M
 read-byte-spec =

@@ -1,0 +1,45 @@
+-- `checks::check_leading` meets its contract: from what the outputs read, marks grow until every source of a marked gate is known.
+use mathlib.Core.Path.{_∙_}
+use native.Mathlib.Omega.{arith}
+use Rattle.checks.specs.Heading.{heading-zeros, heads-all}
+use borrow.Author.Needs.{needs}
+use Rattle.checks.proofs.check_leading.Statement.{statement}
+use Rattle.checks.proofs.check_leading.Tie as tie
+use Rattle.checks.proofs.check_leading.Reads as reads
+use Rattle.checks.proofs.check_leading.Lts as lts
+use Rattle.checks.proofs.all_marked.Reads as all-marked-reads
+use Rattle.checks.proofs.head_all.Reads as head-all-reads
+use Rattle.checks.proofs.push_outputs.Reads as push-outputs-reads
+use Rattle.checks.proofs.zero.Reads as zero-reads
+
+zero-requires : tie.Need-zero-requires
+zero-requires c κs = search needs
+
+push-outputs-requires : tie.Need-push-outputs-requires
+push-outputs-requires c κs =
+    let z = c .before .before .before .zero .ensures in
+    let l = c .before .before .before .before .before .before .before .before .before .before .before .pre .2 in
+    (c .before .before .before .before .before .before .before .before .before .before .before .pre .0, c .before .before .before .before .before .before .before .before .before .before .before .pre .1, heading-zeros _ (z .0 ∙ l) (λ g h. z .1 g (omega arith)))
+
+head-all-requires : tie.Need-head-all-requires
+head-all-requires c κs = search needs
+
+all-marked-requires : tie.Need-all-marked-requires
+all-marked-requires c κs = search needs
+
+same-length : tie.Need-same-length
+same-length c = search needs
+
+returns : tie.Need-returns
+returns c = let a = c .before .before .before .before .head-all .ensures in heads-all (a .heading) (λ i h. a .kept _ (c .before .before .before .before .before .before .before .before .push-outputs .ensures .known i h)) (a .pushed) (c .all-marked .ensures)
+
+pub check-leading-spec : {M : Type 1} → statement M
+check-leading-spec =
+    tie.close
+    (tie.spec
+    zero-requires
+    push-outputs-requires
+    head-all-requires
+    all-marked-requires
+    same-length
+    returns)

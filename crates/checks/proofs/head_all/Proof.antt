@@ -1,0 +1,43 @@
+-- `checks::head_all` meets its contract. What falls is the number of unmarked gates, and at last the sweep that finds none.
+use borrow.Author.Needs.{needs}
+use mathlib.Core.Path.{_≡_, _∙_, sym}
+use Prim.Native.Nat.{ℕ, _+_, _≤_, _<_, min}
+use native.Mathlib.Omega.{arith}
+use denote.Ref.{now}
+use Rattle.checks.specs.Marks.{unmarked, Marked, Known}
+use Rattle.checks.specs.Heading.{Heading, Pushed, known-grows}
+use Rattle.checks.proofs.head_all.Statement.{statement}
+use Rattle.checks.proofs.head_all.Tie as tie
+use lib.ListN.{getD}
+
+abbrev Inv-loop : tie.InvT-loop
+Inv-loop inputs gates outputs pins sources counts ends delays marks₀ new₀ marks new =
+    Heading inputs gates outputs pins sources counts ends delays marks × ((u : ℕ) → Known inputs marks₀ u → Known inputs marks u)
+    × (new ≡ 0 → (g : ℕ) → g < gates → Marked marks g → Pushed inputs sources marks g (getD pins g 0))
+
+abbrev μ-loop : tie.MeasureT-loop
+μ-loop inputs gates outputs pins sources counts ends delays marks₀ new₀ marks new = unmarked marks + min new 1
+
+loop-holds : tie.Need-loop-holds Inv-loop μ-loop
+loop-holds c = (c .before .before .before .before .before .before .pre .2, λ u k. k, λ e. absurd (one e))
+  where
+    one : _≡_ {A = ℕ} 1 0 → ⊥
+    one e = omega arith
+
+head-sweep-requires : tie.Need-head-sweep-requires Inv-loop μ-loop
+head-sweep-requires c κs = (c .before .before .before .before .before .before .before .before .before .pre .0, c .before .before .before .before .before .before .before .before .before .pre .1, c .before .before .loop .inv .0)
+
+loop-less : tie.Need-loop-less Inv-loop μ-loop
+loop-less c = let n = c .before .before .head-sweep .ensures .grown .new in omega arith
+
+loop-again : tie.Need-loop-again Inv-loop μ-loop
+loop-again c = let s = c .before .before .head-sweep .ensures in (s .heading, λ u k. known-grows (s .grown) u (c .before .before .before .before .before .loop .inv .1 u k), s .pushed)
+
+same-length : tie.Need-same-length Inv-loop μ-loop
+same-length c = c .before .loop .inv .0 .size ∙ sym (c .before .before .before .before .before .before .before .before .pre .2 .size)
+
+returns : tie.Need-returns Inv-loop μ-loop
+returns c = record { heading = c .before .loop .inv .0; kept = c .before .loop .inv .1; pushed = c .before .loop .inv .2 (omega arith) }
+
+pub head-all-spec : {M : Type 1} → statement M
+head-all-spec = tie.close (tie.spec Inv-loop μ-loop loop-holds head-sweep-requires loop-less loop-again same-length returns)

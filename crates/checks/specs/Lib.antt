@@ -1,0 +1,5 @@
+pub mod Marks
+pub mod MarkLaws
+pub mod Reaching
+pub mod Placing
+pub mod Heading

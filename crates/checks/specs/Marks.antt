@@ -1,0 +1,48 @@
+-- Definitions: marks on gates, and what they mean to the checks.
+use mathlib.Core.Path.{_≡_}
+use mathlib.Core.Bool.{Bool, true, false}
+use mathlib.Core.List.{List}
+use mathlib.Core.Logic.{_⊎_}
+use Prim.Native.Nat.{ℕ, _+_, _*_, _≤_, _<_}
+use native.Mathlib.Decide.{ℕ-discrete}
+use lib.ListN.{length, getD}
+use Rattle.sequences.specs.Keep.{keep}
+use Rattle.netlist.specs.Arrays.{stride}
+
+-- a test tells whether P holds
+pub record Tells (r : Bool) (P : Type 0) : Type 0 where
+  pub holds : r ≡ true → P
+  pub fails : r ≡ false → ¬ P
+
+-- gate g carries a mark
+abbrev pub Marked : List ℕ → ℕ → Type 0
+Marked m g = ¬ (getD m g 0 ≡ 0)
+
+-- a node is an input, or a marked gate
+abbrev pub Known : ℕ → List ℕ → ℕ → Type 0
+Known inputs m u = (u < inputs) ⊎ ((g : ℕ) × (u ≡ inputs + g) × Marked m g)
+
+-- how many gates carry no mark
+unfoldable pub unmarked : List ℕ → ℕ
+unmarked m = length (keep (λ n. ℕ-discrete n 0) m)
+
+-- The wiring of G gates: at most `stride` pins a gate, and each source is a node.
+pub record Wires (I G : ℕ) (ps sources counts : List ℕ) : Type 0 where
+  pub sizes : length ps ≡ G
+  pub room : stride * G ≤ length sources
+  pub room′ : stride * G ≤ length counts
+  pub pins : (g : ℕ) → g < G → getD ps g 0 ≤ stride
+  pub node : (g j : ℕ) → g < G → j < getD ps g 0 → getD sources (stride * g + j) 0 < I + G
+
+-- the first j below n with P j, or n
+pub record First (P : ℕ → Type 0) (n r : ℕ) : Type 0 where
+  pub bound : r ≤ n
+  pub found : r < n → P r
+  pub before : (j : ℕ) → j < r → ¬ P j
+
+-- marks stay, and r are new
+pub record Grown (m m′ : List ℕ) (r : ℕ) : Type 0 where
+  pub size : length m′ ≡ length m
+  pub kept : (g : ℕ) → Marked m g → getD m′ g 0 ≡ getD m g 0
+  pub new : r + unmarked m′ ≡ unmarked m
+  pub same : r ≡ 0 → m′ ≡ m

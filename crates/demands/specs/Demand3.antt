@@ -1,0 +1,120 @@
+-- Demand 3, whole, about the outcome of map: refused with 12 exactly when no cover meets the target; else the record written reads back as a cover that
+-- meets it; with target 0 the period written is met and no cover meets a smaller one. A reader needs records/Outcomes (what map does), covers/Covers (what a
+-- cover is) and these statements.
+use mathlib.Core.Path.{_≡_, refl, sym, subst, ap, _∙_}
+use mathlib.Core.Bool.{Bool, true, false}
+use mathlib.Core.List.{List, [], _∷_, _++_}
+use mathlib.Core.Logic.{_↔_}
+use Prim.Native.Nat.{ℕ, zero, suc, _≤_, _<_, suc-le-suc, zero-le}
+use native.Mathlib.Nat.{le-trans}
+use native.Mathlib.Omega.{arith}
+use lib.ListN.{length, drop}
+use Rattle.netlist.specs.Net.{Net, Pin, IsGate, gate, pins}
+use Rattle.sequences.specs.Member.{_∈_}
+use Rattle.netlist.specs.Checks.{Passed}
+use Rattle.covers.specs.Covers.{IsCover, Meets, Met, LeastPeriod}
+use Rattle.covers.specs.Key.{Key, Entry, entries, asCover}
+use Rattle.covers.specs.Joined.{key?, key-met, key-meets, met-reachable}
+use Rattle.covers.specs.KeyOf.{keyOf}
+use Rattle.covers.specs.Period.{leastPeriod, leastPeriod-is, leastKey, leastPeriod-bound}
+use Rattle.netbytes.specs.Limits.{mostPeriod, scratchArea}
+use Rattle.netbytes.specs.Reading.{got, refused, Result}
+use Rattle.netbytes.specs.Walk.{netReader}
+use Rattle.netbytes.specs.Sound.{walk-facts, walk-gate, NetFacts}
+use Rattle.records.specs.CoverBytes.{Record, coverBytes, coverReader}
+use Rattle.records.specs.KeyRecord.{WithinLimits, key-back}
+use Rattle.records.specs.Outcomes.{Answer, accepted, turnedBack, Checked, passes, fails, checkGraph, checkRead, checkNet, MapOutcome, mapSizes, cleared, written, Mapped, covered, unreachable, forTarget, mapWritten, mapped, mapChecked, mapSized, mapOutcome}
+
+-- an accepted answer is no refusal
+not-refused : (m n : ℕ) → accepted m ≡ turnedBack n → ⊥
+not-refused m n e = let z : _≡_ {A = ℕ} 0 1 = cc in omega arith
+
+-- ---- what map does with a net that passed
+
+module _ (net area scratch : List ℕ) (k target : ℕ) (N : Net) (P : Passed N k)
+    (sizes : mapSizes k target area scratch ≡ 0) (passed : checkNet k net ≡ passes N P) where
+  pub outcome-is : mapOutcome net k target area scratch ≡ mapWritten (mapped N k target P) area scratch
+  unfolding mapOutcome mapSized mapChecked
+  outcome-is =
+      ap (λ (n : ℕ). mapSized n k target net area scratch) sizes
+      ∙ ap (λ (c : Checked k). mapChecked k target c area scratch) passed
+
+-- what map wrote: a record in front of the area that reads back as a cover of N for k which meets φ
+pub record Wrote (N : Net) (k φ : ℕ) (area area′ : List ℕ) (length′ : ℕ) : Type 0 where
+  pub bytes : List ℕ
+  pub size : length′ ≡ length bytes
+  pub front : area′ ≡ bytes ++ drop (length bytes) area
+  pub period : ℕ
+  pub luts : List Entry
+  pub reads : coverReader N k bytes ≡ got (record { period = period; entries = luts }) []
+  pub stated : period ≡ φ
+  pub isCover : IsCover N k (asCover N luts)
+  pub meets : Meets N (asCover N luts) φ
+
+wrote-key : {N : Net} {k φ : ℕ} (P : Passed N k) → WithinLimits N k → 1 ≤ φ → φ ≤ mostPeriod → (K : Key N k φ) (area : List ℕ)
+    → Wrote N k φ area (written (coverBytes φ (entries K)) area) (length (coverBytes φ (entries K)))
+wrote-key {N} {k} {φ} P l h h′ K area = record {
+  bytes = coverBytes φ (entries K);
+  size = refl;
+  front = refl;
+  period = φ;
+  luts = entries K;
+  reads = key-back P l h K h′;
+  stated = refl;
+  isCover = key-met P h K .0;
+  meets = key-met P h K .1;
+}
+
+-- a net that the walk gave is within the limits
+pub limits : (net rest : List ℕ) (k : ℕ) (N : Net) → k ≤ 6 → netReader k net ≡ got N rest → WithinLimits N k
+limits net rest k N h e =
+    let f = walk-facts k net N rest e .0 in
+    record {
+      gate = f .gates-low;
+      gates = f .gates-high;
+      counts = λ v g p m. walk-gate k net N rest e v g .pin p m .count;
+      size = h;
+    }
+
+-- ---- a target from 1 to 32
+
+module _ (net area scratch : List ℕ) (k t : ℕ) (N : Net) (P : Passed N k)
+    (sizes : mapSizes k (suc t) area scratch ≡ 0) (passed : checkNet k net ≡ passes N P) where
+  -- **Refused with 12 exactly when no cover meets the target.**
+  pub refused-12 : ((mapOutcome net k (suc t) area scratch) .answer ≡ turnedBack 12) ↔ (¬ Met N k (suc t))
+  unfolding mapWritten mapped forTarget
+  refused-12 = subst (λ (o : MapOutcome). (o .answer ≡ turnedBack 12) ↔ (¬ Met N k (suc t))) (sym (outcome-is net area scratch k (suc t) N P sizes passed)) (go (key? P (suc-le-suc zero-le)))
+    where
+      go : (d : Dec (Key N k (suc t))) → ((mapWritten (forTarget N k (suc t) d) area scratch) .answer ≡ turnedBack 12) ↔ (¬ Met N k (suc t))
+      go (yes K) = (λ e. absurd (not-refused (length (coverBytes (suc t) (entries K))) 12 e), λ n. absurd (n (key-meets P (suc-le-suc zero-le) K)))
+      go (no n) = (λ e m. n (keyOf P (met-reachable P (suc-le-suc zero-le) m)), λ m. refl)
+
+  -- **Where some cover meets it, the record written reads back as a cover that meets the target.**
+  pub met-written : WithinLimits N k → suc t ≤ mostPeriod → Met N k (suc t)
+      → (n : ℕ) × ((mapOutcome net k (suc t) area scratch) .answer ≡ accepted n) × Wrote N k (suc t) area ((mapOutcome net k (suc t) area scratch) .area) n
+  unfolding mapWritten mapped forTarget
+  met-written l h m =
+      subst (λ (o : MapOutcome). (n : ℕ) × (o .answer ≡ accepted n) × Wrote N k (suc t) area (o .area) n) (sym (outcome-is net area scratch k (suc t) N P sizes passed))
+      (go (key? P (suc-le-suc zero-le)))
+    where
+      go : (d : Dec (Key N k (suc t)))
+          → (n : ℕ) × ((mapWritten (forTarget N k (suc t) d) area scratch) .answer ≡ accepted n) × Wrote N k (suc t) area ((mapWritten (forTarget N k (suc t) d) area scratch) .area) n
+      go (yes K) = (length (coverBytes (suc t) (entries K)), refl, wrote-key P l (suc-le-suc zero-le) h K area)
+      go (no n) = absurd (n (keyOf P (met-reachable P (suc-le-suc zero-le) m)))
+
+-- ---- target 0
+
+module _ (net area scratch : List ℕ) (k : ℕ) (N : Net) (P : Passed N k)
+    (sizes : mapSizes k 0 area scratch ≡ 0) (passed : checkNet k net ≡ passes N P) where
+  -- **The period written is met, and no cover meets a smaller one.**
+  pub least-written : WithinLimits N k
+      → (φ n : ℕ) × ((mapOutcome net k 0 area scratch) .answer ≡ accepted n) × Wrote N k φ area ((mapOutcome net k 0 area scratch) .area) n × LeastPeriod N k φ
+  unfolding mapWritten mapped
+  least-written l =
+      subst (λ (o : MapOutcome). (φ n : ℕ) × (o .answer ≡ accepted n) × Wrote N k φ area (o .area) n × LeastPeriod N k φ) (sym (outcome-is net area scratch k 0 N P sizes passed)) (
+        leastPeriod P,
+        length (coverBytes (leastPeriod P) (entries (leastKey P))),
+        refl,
+        wrote-key P l (leastPeriod-is P .positive) (le-trans (leastPeriod-bound P (l .gate)) (l .gates)) (leastKey P) area,
+        leastPeriod-is P,
+      )

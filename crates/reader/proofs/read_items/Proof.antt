@@ -1,0 +1,81 @@
+-- `reader::read_items` meets its contract. The loop's invariant: reading what is left gives the same as reading all.
+use borrow.Author.Needs.{needs}
+use denote.Ref.{now}
+use Prim.Native.Nat.{_-_}
+use native.Mathlib.Omega.{arith}
+use Rattle.reader.specs.ItemLaws.{ItemsSoFar, items-none, items-one, items-stop, items-all, items-spare}
+use Rattle.reader.proofs.read_items.Statement.{statement}
+use Rattle.reader.proofs.read_items.Tie as tie
+
+abbrev Inv-loop : tie.InvT-loop
+Inv-loop bytes at n field limit values₀ next₀ i₀ values next i = ItemsSoFar bytes at n field limit values next i
+
+abbrev μ-loop : tie.MeasureT-loop
+μ-loop bytes at n field limit values₀ next₀ i₀ values next i = n - i
+
+loop-holds : tie.Need-loop-holds Inv-loop μ-loop
+loop-holds c = let a = c .before .args in items-none (now (a .bytes)) (a .at) (a .n) (a .field) (a .limit)
+
+read-byte-requires : tie.Need-read-byte-requires Inv-loop μ-loop
+read-byte-requires c κs = search needs
+
+enum-known-v : tie.Need-enum-known-v Inv-loop μ-loop
+enum-known-v c = search needs
+
+returns : tie.Need-returns Inv-loop μ-loop
+returns c =
+    let a = c .before .before .before .before .before .before .before .args in
+    let l = c .before .before .before .before .before .loop in
+    let h = c .before .before .before .before .loop-test .taken in
+    let b = c .before .before .before .read-byte in
+    record {
+      result = items-stop (now (a .bytes)) (a .at) (a .n) (a .field) (a .limit) (l .values) (l .next) (l .i) (l .inv) h (b .result .verdict) (b .result .value) (b .result .at) (c .before .v .given .0 .0) (b .ensures) (c .before .v .given .1);
+      spare = items-spare (now (a .bytes)) (a .at) (a .n) (a .field) (a .limit) (l .values) (l .next) (l .i) (l .inv);
+    }
+
+enum-told : tie.Need-enum-told Inv-loop μ-loop
+enum-told c = search needs
+
+array-write-values : tie.Need-array-write-values Inv-loop μ-loop
+array-write-values c = let m = c .before .before .before .before .loop .inv .most in let long = c .before .before .before .before .loop .inv .long in omega (arith, c .before .before .before .before .before .before .pre)
+
+add-i : tie.Need-add-i Inv-loop μ-loop
+add-i c = let m = c .before .before .before .before .loop .inv .most in omega (arith, c .before .before .before .before .before .before .pre)
+
+loop-less : tie.Need-loop-less Inv-loop μ-loop
+loop-less c = let m = c .before .before .before .before .loop .inv .most in omega arith
+
+loop-again : tie.Need-loop-again Inv-loop μ-loop
+loop-again c =
+    let a = c .before .before .before .before .before .before .args in
+    let l = c .before .before .before .before .loop in
+    let h = c .before .before .before .loop-test .taken in
+    let b = c .before .before .read-byte in
+    items-one (now (a .bytes)) (a .at) (a .n) (a .field) (a .limit) (l .values) (l .next) (l .i) (l .inv) h (c .before .before .before .before .before .before .pre) (b .result .verdict) (b .result .value) (b .result .at) (b .ensures) (c .enum-told .given .1)
+
+returns-2 : tie.Need-returns-2 Inv-loop μ-loop
+returns-2 c =
+    let a = c .before .before .before .args in
+    let l = c .before .loop in
+    let h = c .loop-test .left in
+    record {
+      result = items-all (now (a .bytes)) (a .at) (a .n) (a .field) (a .limit) (l .values) (l .next) (l .i) (l .inv) h;
+      spare = items-spare (now (a .bytes)) (a .at) (a .n) (a .field) (a .limit) (l .values) (l .next) (l .i) (l .inv);
+    }
+
+pub read-items-spec : {M : Type 1} → statement M
+read-items-spec =
+    tie.close
+    (tie.spec
+    Inv-loop
+    μ-loop
+    loop-holds
+    read-byte-requires
+    enum-known-v
+    returns
+    enum-told
+    array-write-values
+    add-i
+    loop-less
+    loop-again
+    returns-2)

@@ -1,0 +1,72 @@
+-- `reader::store_pins` meets its contract. The loop's invariant: the first j pins are stored.
+use borrow.Author.Needs.{needs}
+use Prim.Native.Nat.{_≤_, _-_}
+use mathlib.Core.Path.{_≡_}
+use native.Mathlib.Omega.{arith}
+use Rattle.reader.specs.Contracts.{PinsStored}
+use Rattle.reader.specs.StoreLaws.{pins-none, pins-one}
+use Rattle.reader.proofs.store_pins.Statement.{statement}
+use Rattle.reader.proofs.store_pins.Tie as tie
+
+abbrev Inv-loop : tie.InvT-loop
+Inv-loop g sources counts out₀ j₀ out j = (j ≤ 6) × PinsStored out₀ g sources counts j out
+
+abbrev μ-loop : tie.MeasureT-loop
+μ-loop g sources counts out₀ j₀ out j = 6 - j
+
+loop-holds : tie.Need-loop-holds Inv-loop μ-loop
+loop-holds c = (omega arith, pins-none (c .before .before .args .net) (c .before .before .args .g) (c .before .before .args .row .sources) (c .before .before .args .row .counts) (search needs) (search needs))
+
+mul-store-pin : tie.Need-mul-store-pin Inv-loop μ-loop
+mul-store-pin c = omega arith
+
+add-store-pin : tie.Need-add-store-pin Inv-loop μ-loop
+add-store-pin c = omega arith
+
+array-read-wide : tie.Need-array-read-wide Inv-loop μ-loop
+array-read-wide c = omega arith
+
+wide-requires : tie.Need-wide-requires Inv-loop μ-loop
+wide-requires c κs = search needs
+
+array-read-wide-2 : tie.Need-array-read-wide-2 Inv-loop μ-loop
+array-read-wide-2 c = omega arith
+
+wide-requires-2 : tie.Need-wide-requires-2 Inv-loop μ-loop
+wide-requires-2 c κs = search needs
+
+store-pin-requires : tie.Need-store-pin-requires Inv-loop μ-loop
+store-pin-requires c κs = omega arith
+
+add-j : tie.Need-add-j Inv-loop μ-loop
+add-j c = omega arith
+
+loop-less : tie.Need-loop-less Inv-loop μ-loop
+loop-less c = omega arith
+
+loop-again : tie.Need-loop-again Inv-loop μ-loop
+loop-again c = (omega arith, rw (c .store-pin .ensures, c .before .before .wide .ensures, c .before .wide2 .ensures) (pins-one (c .before .before .before .before .before .before .before .args .net) (c .before .before .before .before .before .before .before .args .g) (c .before .before .before .before .before .before .before .args .row .sources) (c .before .before .before .before .before .before .before .args .row .counts) (c .before .before .before .before .loop .j) (c .before .before .before .before .loop .out) (c .before .before .before .before .loop .inv .1) (omega arith) (omega arith)))
+
+returns : tie.Need-returns Inv-loop μ-loop
+returns c =
+    let end : c .before .loop .j ≡ 6 = omega arith in
+    rw end at (c .before .loop .inv .1)
+
+pub store-pins-spec : {M : Type 1} → statement M
+store-pins-spec =
+    tie.close
+    (tie.spec
+    Inv-loop
+    μ-loop
+    loop-holds
+    mul-store-pin
+    add-store-pin
+    array-read-wide
+    wide-requires
+    array-read-wide-2
+    wide-requires-2
+    store-pin-requires
+    add-j
+    loop-less
+    loop-again
+    returns)

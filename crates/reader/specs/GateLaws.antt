@@ -1,0 +1,108 @@
+-- Laws of reading a gate, one for each way out.
+use mathlib.Core.Path.{_≡_, sym, ap, ap₂, _∙_}
+use mathlib.Core.Bool.{Bool}
+use mathlib.Core.List.{List}
+use Prim.Native.Nat.{ℕ, _≤_, _<_}
+use native.Mathlib.Omega.{arith}
+use lib.Count.{ones}
+use lib.ListN.{getD, take, drop}
+use borrow.Author.Tests.{le-leb, lt-leb}
+use Rattle.netlist.specs.Net.{Pin}
+use Rattle.netlist.specs.Arrays.{pinsIn}
+use Rattle.netbytes.specs.Reading.{Result, andThen, times, check, between, got, refused}
+use Rattle.netbytes.specs.Walk.{gateReader, tableBytes, pinsFrom, fromBytes}
+use Rattle.reader.specs.declared.Field.the-variants.{PinMap, RegisterMap, Source, Count, Table}
+use Rattle.reader.specs.declared.Verdict.{Verdict}
+use Rattle.reader.specs.declared.Verdict.the-variants.{Read, Refused}
+use Rattle.reader.specs.declared.Maps.{Maps}
+use Rattle.netbytes.specs.Readers.{then-goes, then-stops, byte-got}
+use Rattle.netbytes.specs.Sound.{between-true}
+use Rattle.netbytes.specs.Stages.{madeGate, fromPinMap, fromWidth, fromMaps, fromSources, fromCounts, fromTable, gate-stages}
+use Rattle.reader.specs.Fields.{fieldByte}
+use Rattle.reader.specs.RowLaws.{pinsFrom-alike, take-alike, fromBytes-take}
+use Rattle.reader.specs.Contracts.{MapsRead, onward}
+
+module _ (s : List ℕ) (at k : ℕ) where
+  -- the maps are refused, and the gate with them
+  stop-maps : {n : ℕ} (m : Maps) → ((nodes : ℕ) → gateReader k nodes (drop at s) ≡ refused n) → m .verdict ≡ Refused n → m .pins ≡ 0 → MapsRead s at k m
+  stop-maps m e v z = record {
+    result = λ nodes. e nodes ∙ ap (λ (x : Verdict). onward x (fromMaps nodes (m .pins) (ones (m .pins)) (m .registers) (drop (m .at) s))) (sym v);
+    small = omega arith;
+  }
+
+  pub pin-map-stops : {n : ℕ} (m : Maps) → fieldByte PinMap 0 (drop at s) ≡ refused n → m .verdict ≡ Refused n → m .pins ≡ 0 → MapsRead s at k m
+  pin-map-stops m e v z = stop-maps m (λ nodes. gate-stages k nodes (drop at s) ∙ then-stops (fromPinMap k nodes) e) v z
+
+  module _ (p after : ℕ) (e : fieldByte PinMap 0 (drop at s) ≡ got p (drop after s)) where
+    pin-map-goes : (nodes : ℕ) → gateReader k nodes (drop at s) ≡ fromPinMap k nodes p (drop after s)
+    pin-map-goes nodes = gate-stages k nodes (drop at s) ∙ then-goes (fromPinMap k nodes) e
+
+    pub width-stops : (m : Maps) → k < ones p → m .verdict ≡ Refused 7 → m .pins ≡ 0 → MapsRead s at k m
+    width-stops m h v z = stop-maps m
+        (λ nodes. pin-map-goes nodes
+        ∙ ap (λ (t : Bool). andThen (check t 7 (ones p) (drop after s)) (fromWidth nodes p)) (lt-leb (ones p) k h)) v z
+
+    module _ (h : ones p ≤ k) where
+      width-goes : (nodes : ℕ) → gateReader k nodes (drop at s) ≡ fromWidth nodes p (ones p) (drop after s)
+      width-goes nodes = pin-map-goes nodes
+          ∙ ap (λ (t : Bool). andThen (check t 7 (ones p) (drop after s)) (fromWidth nodes p)) (le-leb (ones p) k h)
+
+      pub register-map-stops : {n : ℕ} (m : Maps) → fieldByte RegisterMap p (drop after s) ≡ refused n → m .verdict ≡ Refused n → m .pins ≡ 0 → MapsRead s at k m
+      register-map-stops m f v z = stop-maps m (λ nodes. width-goes nodes ∙ then-stops (fromMaps nodes p (ones p)) f) v z
+
+      pub maps-go : (r end : ℕ) → fieldByte RegisterMap p (drop after s) ≡ got r (drop end s)
+          → MapsRead s at k (record { verdict = Read; at = end; pins = p; registers = r })
+      maps-go r end f =
+          let range = between-true 1 63 p (byte-got 4 6 (between 1 63) (drop at s) p (drop after s) e) in
+          let high = range .1 in
+          record {
+            result = λ nodes. width-goes nodes ∙ then-goes (fromMaps nodes p (ones p)) f;
+            small = omega arith;
+          }
+
+-- the lists behind the maps, where m pins, c counts and b table bytes are read
+module _ (nodes p r m c b : ℕ) (em : m ≡ ones p) (ec : c ≡ ones r) (eb : b ≡ tableBytes m) (t : List ℕ) where
+  pub sources-stop : {n : ℕ} → times m (fieldByte Source nodes) t ≡ refused n → fromMaps nodes p (ones p) r t ≡ refused n
+  sources-stop e = ap (λ (x : ℕ). fromMaps nodes p x r t) (sym em) ∙ then-stops (fromSources m p r) e
+
+  module _ (S u : List ℕ) (e : times m (fieldByte Source nodes) t ≡ got S u) where
+    sources-go : fromMaps nodes p (ones p) r t ≡ andThen (times c (fieldByte Count 0) u) (fromCounts m p r S)
+    sources-go =
+        ap (λ (x : ℕ). fromMaps nodes p x r t) (sym em) ∙ then-goes (fromSources m p r) e
+        ∙ ap (λ (x : ℕ). andThen (times x (fieldByte Count 0) u) (fromCounts m p r S)) (sym ec)
+
+    pub counts-stop : {n : ℕ} → times c (fieldByte Count 0) u ≡ refused n → fromMaps nodes p (ones p) r t ≡ refused n
+    counts-stop f = sources-go ∙ then-stops (fromCounts m p r S) f
+
+    module _ (C w : List ℕ) (f : times c (fieldByte Count 0) u ≡ got C w) where
+      counts-go : fromMaps nodes p (ones p) r t ≡ andThen (times b (fieldByte Table m) w) (fromTable p r S C)
+      counts-go =
+          sources-go ∙ then-goes (fromCounts m p r S) f
+          ∙ ap (λ (x : ℕ). andThen (times x (fieldByte Table m) w) (fromTable p r S C)) (sym eb)
+
+      pub table-stops : {n : ℕ} → times b (fieldByte Table m) w ≡ refused n → fromMaps nodes p (ones p) r t ≡ refused n
+      table-stops g = counts-go ∙ then-stops (fromTable p r S C) g
+
+      pub lists-go : (T z : List ℕ) → times b (fieldByte Table m) w ≡ got T z → fromMaps nodes p (ones p) r t ≡ got (madeGate p r S C T) z
+      lists-go T z g = counts-go ∙ then-goes (fromTable p r S C) g
+
+-- a gate of lists with zeros behind
+pub made-whole : (p r m c b : ℕ) (S C T : List ℕ) → ((i : ℕ) → m ≤ i → getD S i 0 ≡ 0) → ((i : ℕ) → c ≤ i → getD C i 0 ≡ 0) → ((i : ℕ) → b ≤ i → getD T i 0 ≡ 0)
+    → madeGate p r (take m S) (take c C) (take b T) ≡ madeGate p r S C T
+made-whole p r m c b S C T hs hc ht =
+    ap₂ (λ (x : List Pin) (y : ℕ). record { pins = x; table = y })
+    (pinsFrom-alike 6 0 p r (take m S) S (take c C) C (take-alike m S hs) (take-alike c C hc)) (fromBytes-take b T ht)
+
+-- a verdict tells where the reader went on
+module _ {A : Type 0} {r : Result A} {v : Verdict} (x : Result A) where
+  pub onward-went : r ≡ onward v x → v ≡ Read → r ≡ x
+  onward-went e h = e ∙ ap (λ (y : Verdict). onward y x) h
+
+  pub onward-stopped : {n : ℕ} → r ≡ onward v x → v ≡ Refused n → r ≡ refused n
+  onward-stopped e h = e ∙ ap (λ (y : Verdict). onward y x) h
+
+-- the gate of the lists is that of the row
+pub made-row : (p r : ℕ) (S C T counts : List ℕ) (m n : ℕ) → ((s : List ℕ) → pinsFrom 6 0 p r s C ≡ pinsIn s counts 0 (ones p)) → m ≡ ones p → n ≡ fromBytes T
+    → madeGate p r S C T ≡ record { pins = pinsIn S counts 0 m; table = n }
+made-row p r S C T counts m n h em en =
+    ap₂ (λ (x : List Pin) (y : ℕ). record { pins = x; table = y }) (h S ∙ ap (pinsIn S counts 0) (sym em)) (sym en)

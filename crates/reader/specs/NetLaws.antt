@@ -1,0 +1,144 @@
+-- Laws of reading an output, the three numbers and the whole net, one for each way out.
+use mathlib.Core.Path.{_≡_, refl, sym, ap, ap₂, _∙_}
+use mathlib.Core.List.{List, [], _∷_}
+use Prim.Native.Nat.{ℕ, _+_, _≤_, _<_}
+use native.Mathlib.Omega.{arith}
+use lib.ListN.{length, getD, take, drop, drop-of-length-le}
+use lib.Seq.{drop-cons}
+use Rattle.netlist.specs.Net.{Gate}
+use Rattle.netlist.specs.Arrays.{netIn, gatesIn}
+use Rattle.netbytes.specs.Reading.{andThen, times, atEnd, between, got, refused}
+use Rattle.netbytes.specs.Walk.{netReader, outputReader, first}
+use Rattle.reader.specs.declared.Field.the-variants.{Inputs, Gates, Outputs, OutputMap, Source, Count}
+use Rattle.reader.specs.declared.Verdict.{Verdict}
+use Rattle.reader.specs.declared.Verdict.the-variants.{Read, Refused}
+use Rattle.reader.specs.declared.Wiring.{Wiring}
+use Rattle.reader.specs.declared.Sizes.{Sizes}
+use Rattle.reader.specs.declared.Part.{Part}
+use Rattle.netbytes.specs.Readers.{then-goes, then-stops, byte-got}
+use Rattle.netbytes.specs.Sound.{between-true}
+use Rattle.netbytes.specs.Stages.{fromOutMap, fromOutSource, fromOutCounts, output-stages, fromInputs, fromGates, fromSizes, fromGateList, fromOutputList, net-stages}
+use Rattle.reader.specs.FieldLaws.{went, stopped}
+use Rattle.reader.specs.Fields.{fieldByte}
+use Rattle.reader.specs.RowLaws.{take-alike}
+use Rattle.reader.specs.Answer.{arraysOf}
+use Rattle.reader.specs.Contracts.{onward, gatesOf, outputsOf, GatesRead, OutputsRead, SizesRead}
+
+first-getD : (l : List ℕ) → first l ≡ getD l 0 0
+first-getD [] = refl
+first-getD (a ∷ l) = refl
+
+-- the one count of an output, or 0
+pub first-taken : (n : ℕ) (l : List ℕ) → ((i : ℕ) → n ≤ i → getD l i 0 ≡ 0) → first (take n l) ≡ getD l 0 0
+first-taken n l h = first-getD (take n l) ∙ take-alike n l h 0
+
+module _ (nodes : ℕ) (t : List ℕ) where
+  pub out-map-stops : {n : ℕ} → fieldByte OutputMap 0 t ≡ refused n → outputReader nodes t ≡ refused n
+  out-map-stops e = output-stages nodes t ∙ then-stops (fromOutMap nodes) e
+
+  module _ (m : ℕ) (u : List ℕ) (e : fieldByte OutputMap 0 t ≡ got m u) where
+    pub out-source-stops : {n : ℕ} → fieldByte Source nodes u ≡ refused n → outputReader nodes t ≡ refused n
+    out-source-stops f = output-stages nodes t ∙ then-goes (fromOutMap nodes) e ∙ then-stops (fromOutSource m) f
+
+    module _ (source : ℕ) (w : List ℕ) (f : fieldByte Source nodes u ≡ got source w) where
+      pub out-counts-stop : {n : ℕ} → times m (fieldByte Count 0) w ≡ refused n → outputReader nodes t ≡ refused n
+      out-counts-stop g = output-stages nodes t ∙ then-goes (fromOutMap nodes) e ∙ then-goes (fromOutSource m) f ∙ then-stops (fromOutCounts source) g
+
+      pub out-goes : (c : ℕ) (l z : List ℕ) → first l ≡ c → times m (fieldByte Count 0) w ≡ got l z → outputReader nodes t ≡ got (record { src = source; count = c }) z
+      out-goes c l z h g =
+          output-stages nodes t ∙ then-goes (fromOutMap nodes) e ∙ then-goes (fromOutSource m) f ∙ then-goes (fromOutCounts source) g
+          ∙ ap (λ (x : ℕ). got (record { src = source; count = x }) z) h
+
+module _ (s : List ℕ) where
+  stop-sizes : {n : ℕ} (r : Sizes) → ((k : ℕ) → netReader k s ≡ refused n)
+      → (r .verdict ≡ Refused n) × (r .inputs ≡ 0) × (r .gates ≡ 0) × (r .outputs ≡ 0) → SizesRead s r
+  stop-sizes r e v =
+      let i = v .1 in
+      let g = v .2 in
+      let o = v .3 in
+      record {
+        result = λ k. e k ∙ ap (λ (x : Verdict). onward x (fromSizes k (r .inputs) (r .gates) (r .outputs) (drop (r .at) s))) (sym (v .0));
+        inputs = omega arith;
+        gates = omega arith;
+        outputs = omega arith;
+      }
+
+  pub inputs-stop : {n : ℕ} (r : Sizes) → fieldByte Inputs 0 s ≡ refused n
+      → (r .verdict ≡ Refused n) × (r .inputs ≡ 0) × (r .gates ≡ 0) × (r .outputs ≡ 0) → SizesRead s r
+  inputs-stop r e v = stop-sizes r (λ k. net-stages k s ∙ then-stops (fromInputs k) e) v
+
+  module _ (i : ℕ) (t : List ℕ) (e : fieldByte Inputs 0 s ≡ got i t) where
+    pub gates-number-stops : {n : ℕ} (r : Sizes) → fieldByte Gates 0 t ≡ refused n
+        → (r .verdict ≡ Refused n) × (r .inputs ≡ 0) × (r .gates ≡ 0) × (r .outputs ≡ 0) → SizesRead s r
+    gates-number-stops r f v = stop-sizes r (λ k. net-stages k s ∙ then-goes (fromInputs k) e ∙ then-stops (fromGates k i) f) v
+
+    module _ (g : ℕ) (u : List ℕ) (f : fieldByte Gates 0 t ≡ got g u) where
+      pub outputs-number-stops : {n : ℕ} (r : Sizes) → fieldByte Outputs 0 u ≡ refused n
+          → (r .verdict ≡ Refused n) × (r .inputs ≡ 0) × (r .gates ≡ 0) × (r .outputs ≡ 0) → SizesRead s r
+      outputs-number-stops r h v =
+          stop-sizes r (λ k. net-stages k s ∙ then-goes (fromInputs k) e ∙ then-goes (fromGates k i) f ∙ then-stops (fromSizes k i g) h) v
+
+      pub sizes-go : (o at : ℕ) → fieldByte Outputs 0 u ≡ got o (drop at s) → SizesRead s (record { verdict = Read; at = at; inputs = i; gates = g; outputs = o })
+      sizes-go o at h = record {
+        result = λ k. net-stages k s ∙ then-goes (fromInputs k) e ∙ then-goes (fromGates k i) f ∙ then-goes (fromSizes k i g) h;
+        inputs = between-true 1 16 i (byte-got 4 5 (between 1 16) s i t e) .1;
+        gates = between-true 1 32 g (byte-got 4 5 (between 1 32) t g u f) .1;
+        outputs = between-true 1 16 o (byte-got 4 5 (between 1 16) u o (drop at s) h) .1;
+      }
+
+-- no byte behind the last output, or some
+pub end-done : {A : Type 0} (n : ℕ) (a : A) (s : List ℕ) (at : ℕ) → length s ≤ at → atEnd n a (drop at s) ≡ got a []
+end-done n a s at h = ap (atEnd n a) (drop-of-length-le s h)
+
+pub end-over : {A : Type 0} (n : ℕ) (a : A) (s : List ℕ) (at : ℕ) → at < length s → atEnd n a (drop at s) ≡ refused n
+end-over n a s at h = ap (atEnd n a) (drop-cons s at 0 h)
+
+-- the arrays have the three numbers
+pub start-net : (k : ℕ) (s : List ℕ) (i g o : ℕ) (t : List ℕ) (w : Wiring) → netReader k s ≡ fromSizes k i g o t → w .inputs ≡ i → w .gates ≡ g → w .outputs ≡ o
+    → netReader k s ≡ fromSizes k (w .inputs) (w .gates) (w .outputs) t
+start-net k s i g o t w e ei eg eo =
+    e ∙ ap (λ (x : ℕ). fromSizes k x g o t) (sym ei) ∙ ap₂ (λ (x y : ℕ). fromSizes k (w .inputs) x y t) (sym eg) (sym eo)
+
+-- the whole net, from the arrays with its three numbers
+module _ (k : ℕ) (s : List ℕ) (at : ℕ) (w : Wiring) (e : netReader k s ≡ fromSizes k (w .inputs) (w .gates) (w .outputs) (drop at s)) (y : Part) (gr : GatesRead s at k w y) where
+  pub gates-refused : {n : ℕ} → y .verdict ≡ Refused n → netReader k s ≡ refused n
+  gates-refused v =
+      e ∙ then-stops (fromGateList (w .inputs) (w .gates) (w .outputs)) (stopped (gatesOf (y .net) (w .gates)) (drop (y .at) s) (gr .result) v)
+
+  module _ (v : y .verdict ≡ Read) (x : Part) (or : OutputsRead s (y .at) (y .net) x) where
+    gates-read : netReader k s ≡ andThen (times (y .net .outputs) (outputReader (y .net .inputs + y .net .gates)) (drop (y .at) s))
+        (fromOutputList (y .net .inputs) (gatesOf (y .net) (y .net .gates)))
+    gates-read =
+        e ∙ then-goes (fromGateList (w .inputs) (w .gates) (w .outputs)) (went (gatesOf (y .net) (w .gates)) (drop (y .at) s) (gr .result) v)
+        ∙ ap (λ (i : ℕ). andThen (times (w .outputs) (outputReader (i + w .gates)) (drop (y .at) s)) (fromOutputList i (gatesOf (y .net) (w .gates)))) (sym (gr .same .inputs))
+        ∙ ap₂ (λ (g o : ℕ). andThen (times o (outputReader (y .net .inputs + g)) (drop (y .at) s)) (fromOutputList (y .net .inputs) (gatesOf (y .net) g)))
+        (sym (gr .same .gates)) (sym (gr .same .outputs))
+
+    pub outputs-refused : {n : ℕ} → x .verdict ≡ Refused n → netReader k s ≡ refused n
+    outputs-refused r =
+        gates-read
+        ∙ then-stops (fromOutputList (y .net .inputs) (gatesOf (y .net) (y .net .gates))) (stopped (outputsOf (x .net) (y .net .outputs)) (drop (x .at) s) (or .result) r)
+
+    module _ (r : x .verdict ≡ Read) where
+      -- the arrays hold the gates that were read first
+      same-gates : gatesOf (y .net) (y .net .gates) ≡ gatesOf (x .net) (x .net .gates)
+      same-gates =
+          let q = or .kept in
+          ap₂ (λ (a : List ℕ) (b : List ℕ). gatesIn a b (y .net .counts) (y .net .tables) 0 (y .net .gates)) (sym (q .pins)) (sym (q .sources))
+          ∙ ap₂ (λ (a : List ℕ) (b : List ℕ). gatesIn (x .net .pins) (x .net .sources) a b 0 (y .net .gates)) (sym (q .counts)) (sym (q .tables))
+          ∙ ap (gatesOf (x .net)) (sym (q .same .gates))
+
+      outputs-read : netReader k s ≡ atEnd 8 (netIn (arraysOf (x .net))) (drop (x .at) s)
+      unfolding netIn
+      outputs-read =
+          let q = or .kept .same in
+          gates-read
+          ∙ then-goes (fromOutputList (y .net .inputs) (gatesOf (y .net) (y .net .gates))) (went (outputsOf (x .net) (y .net .outputs)) (drop (x .at) s) (or .result) r)
+          ∙ ap₂ (λ (i : ℕ) (g : List Gate). atEnd 8 (record { inputs = i; gates = g; outputs = outputsOf (x .net) (y .net .outputs) }) (drop (x .at) s)) (sym (q .inputs)) same-gates
+          ∙ ap (λ (o : ℕ). atEnd 8 (record { inputs = x .net .inputs; gates = gatesOf (x .net) (x .net .gates); outputs = outputsOf (x .net) o }) (drop (x .at) s)) (sym (q .outputs))
+
+      pub bytes-over : x .at < length s → netReader k s ≡ refused 8
+      bytes-over h = outputs-read ∙ end-over 8 (netIn (arraysOf (x .net))) s (x .at) h
+
+      pub net-read : length s ≤ x .at → netReader k s ≡ got (netIn (arraysOf (x .net))) []
+      net-read h = outputs-read ∙ end-done 8 (netIn (arraysOf (x .net))) s (x .at) h
