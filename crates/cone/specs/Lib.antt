@@ -1,0 +1,6 @@
+pub mod Lists
+pub mod ListLaws
+pub mod Walking
+pub mod Growing
+pub mod Told
+pub mod Words

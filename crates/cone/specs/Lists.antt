@@ -1,0 +1,110 @@
+-- Definitions: lists of copies and a net's wiring kept in arrays, and what the steps of a walk over them tell.
+use mathlib.Core.Path.{_≡_}
+use mathlib.Core.Bool.{Bool, true, false}
+use mathlib.Core.List.{List, [], _∷_, _++_}
+use mathlib.Core.Logic.{_⊎_}
+use Prim.Native.Nat.{ℕ, zero, suc, _+_, _-_, _*_, _≤_, _<_}
+use lib.ListN.{length, getD}
+use Rattle.sequences.specs.Member.{_∈_}
+use Rattle.netlist.specs.Arrays.{stride}
+use Rattle.netlist.specs.Copies.{Copy, copy}
+
+-- a test tells whether P holds
+pub record Tells (r : Bool) (P : Type 0) : Type 0 where
+  pub holds : r ≡ true → P
+  pub fails : r ≡ false → ¬ P
+
+-- the first j below n with P j, or n
+pub record First (P : ℕ → Type 0) (n r : ℕ) : Type 0 where
+  pub bound : r ≤ n
+  pub found : r < n → P r
+  pub before : (j : ℕ) → j < r → ¬ P j
+
+-- the copy at place i of two arrays
+abbrev pub copyAt : List ℕ → List ℕ → ℕ → Copy
+copyAt nodes backs i = copy (getD nodes i 0) (getD backs i 0)
+
+-- n copies, from place `at` on
+unfoldable pub copiesFrom : List ℕ → List ℕ → ℕ → ℕ → List Copy
+copiesFrom nodes backs at zero = []
+copiesFrom nodes backs at (suc n) = copyAt nodes backs at ∷ copiesFrom nodes backs (suc at) n
+
+-- the first n copies
+unfoldable pub copiesIn : List ℕ → List ℕ → ℕ → List Copy
+unfolding copiesFrom
+copiesIn nodes backs n = copiesFrom nodes backs 0 n
+
+-- most registers on a pin
+abbrev pub most : ℕ
+most = 3
+
+-- The wiring of G gates: at most `stride` pins a gate; each source is a node; few registers on a pin.
+pub record Wires (I G : ℕ) (ps sources counts : List ℕ) : Type 0 where
+  pub sizes : G ≤ length ps
+  pub room : stride * G ≤ length sources
+  pub room′ : stride * G ≤ length counts
+  pub inputs : I ≤ 65535
+  pub gates : G ≤ 32
+  pub pins : (g : ℕ) → g < G → getD ps g 0 ≤ stride
+  pub node : (g j : ℕ) → g < G → j < getD ps g 0 → getD sources (stride * g + j) 0 < I + G
+  pub count : (g j : ℕ) → g < G → j < getD ps g 0 → getD counts (stride * g + j) 0 ≤ most
+
+-- the copy that feeds the copy of gate g, b registers back, at pin j
+abbrev pub sourceAt : List ℕ → List ℕ → ℕ → ℕ → ℕ → Copy
+sourceAt sources counts g b j = copy (getD sources (stride * g + j) 0) (b + getD counts (stride * g + j) 0)
+
+-- y feeds the copy of gate g, b registers back, at one of m pins
+abbrev pub Fed : List ℕ → List ℕ → ℕ → ℕ → ℕ → Copy → Type 0
+Fed sources counts g m b y = (j : ℕ) × (j < m) × (sourceAt sources counts g b j ≡ y)
+
+-- y feeds one of the first len copies
+abbrev pub Touched : ℕ → List ℕ → List ℕ → List ℕ → List ℕ → List ℕ → ℕ → Copy → Type 0
+Touched I ps sources counts nodes backs len y = (p : ℕ) × (p < len) × Fed sources counts (getD nodes p 0 - I) (getD ps (getD nodes p 0 - I) 0) (getD backs p 0) y
+
+-- room for the members of a cone: six leaves, 32 gates
+abbrev pub members : ℕ
+members = 192
+
+-- the place of pin j of gate g
+pub record Place (sources counts : List ℕ) (g j : ℕ) : Type 0 where
+  pub room : stride * g + j < length sources
+  pub room′ : stride * g + j < length counts
+  pub small : stride * g + j < members
+  pub count : getD counts (stride * g + j) 0 ≤ most
+
+-- n leaves, and a limit on the members: n leaves times G gates
+pub record Leaves (G : ℕ) (leafNodes leafBacks : List ℕ) (n limit : ℕ) : Type 0 where
+  pub nodes : n ≤ length leafNodes
+  pub backs : n ≤ length leafBacks
+  pub product : limit ≡ n * G
+  pub small : limit ≤ members
+
+-- the arrays of a list of len copies
+pub record Room (us ds : List ℕ) (len : ℕ) : Type 0 where
+  pub nodes : length us ≡ members
+  pub backs : length ds ≡ members
+  pub some : 1 ≤ len
+  pub fits : len ≤ members
+
+-- the copies of C are copies of gates, and not far back
+pub record Bounded (I G : ℕ) (C : List Copy) : Type 0 where
+  pub low : (c : Copy) → c ∈ C → I ≤ c .node
+  pub high : (c : Copy) → c ∈ C → c .node < I + G
+  pub near : (c : Copy) → c ∈ C → c .back + most ≤ most * length C
+
+-- What a table over a cone asks: the wiring, the tables, n leaves, and a list of gate copies.
+pub record Given (I G : ℕ) (ps sources counts ts ln lb : List ℕ) (n : ℕ) (us ds : List ℕ) (len : ℕ) : Type 0 where
+  pub wires : Wires I G ps sources counts
+  pub tables : G ≤ length ts
+  pub few : n ≤ 6
+  pub leafNodes : n ≤ length ln
+  pub leafBacks : n ≤ length lb
+  pub room : Room us ds len
+  pub bounded : Bounded I G (copiesIn us ds len)
+
+-- One copy y met on the walk over C with leaves L, I inputs and a limit: r is 0 where there is no cut, else the new length.
+pub data Visit (I limit : ℕ) (L C : List Copy) (y : Copy) (r : ℕ) (C′ : List Copy) : Type 0 where
+  input : r ≡ 0 → ¬ (y ∈ L) → y .node < I → Visit I limit L C y r C′
+  full : r ≡ 0 → ¬ (y ∈ L) → ¬ (y ∈ C) → I ≤ y .node → limit ≤ length C → Visit I limit L C y r C′
+  kept : r ≡ length C → C′ ≡ C → (y ∈ C) ⊎ (y ∈ L) → Visit I limit L C y r C′
+  added : r ≡ length C + 1 → length C < limit → C′ ≡ C ++ (y ∷ []) → ¬ (y ∈ L) → ¬ (y ∈ C) → I ≤ y .node → Visit I limit L C y r C′
