@@ -1,0 +1,104 @@
+-- `query::question` meets its contract: the forced set refutes every cut, or its minimum cut answers.
+use mathlib.Core.Path.{refl, sym, subst, _∙_}
+use Prim.Native.Nat.{_+_, _-_, _*_}
+use native.Mathlib.Omega.{arith}
+use lib.IntN.{ℤ}
+use lib.Seq.{length-take-le}
+use Rattle.signed.specs.RangeLaws.{back}
+use Rattle.query.specs.Meaning.{force-asked, k-small, excess-inside, excess-listed, part-inside, listed-of, cut-asked, rest-again, answers-none, answers-found}
+use Rattle.query.specs.Forcing.{wires, target, ForceTold}
+use Rattle.query.proofs.question.Statement.{statement}
+use Rattle.query.proofs.question.Tie as tie
+
+mul-most : tie.Need-mul-most
+mul-most c = omega (arith, c .before .before .before .before .before .before .before .before .before .before .before .pre .1 .copies)
+
+force-requires : tie.Need-force-requires
+force-requires c κs = force-asked (c .before .before .before .before .before .before .before .before .before .before .before .before .before .pre .0) (c .before .before .before .before .before .before .before .before .before .before .before .before .before .pre .1)
+
+sub-e : tie.Need-sub-e
+sub-e c = omega (arith, c .if1 .taken)
+
+slice-reshare-prefix-unforce : tie.Need-slice-reshare-prefix-unforce
+slice-reshare-prefix-unforce c = excess-inside (c .before .before .before .before .before .before .force .ensures .refutes (c .before .if1 .taken)) (c .before .before .before .before .before .before .before .before .before .before .before .before .before .before .before .before .before .before .before .before .pre .1 .copies)
+
+slice-aggregate-unforce : tie.Need-slice-aggregate-unforce
+slice-aggregate-unforce c = sym (length-take-le (c .before .before .before .before .before .before .before .force .result - c .before .before .before .before .before .before .before .before .before .before .before .before .before .before .before .before .before .before .before .before .before .args .k * c .before .before .before .before .before .before .before .before .before .before .before .before .before .before .before .before .before .before .before .before .before .args .s .gates) (c .before .before .before .before .before .before .before .force .last .1 .1 .1 .1 .1 .0) (excess-inside (c .before .before .before .before .before .before .before .force .ensures .refutes (c .before .before .if1 .taken)) (c .before .before .before .before .before .before .before .before .before .before .before .before .before .before .before .before .before .before .before .before .before .pre .1 .copies)))
+
+unforce-requires : tie.Need-unforce-requires
+unforce-requires c κs = excess-listed (c .before .before .before .before .before .before .before .force .ensures .refutes (c .before .before .if1 .taken)) (c .before .before .before .before .before .before .before .before .before .before .before .before .before .before .before .before .before .before .before .before .before .pre .1 .copies)
+
+add-result : tie.Need-add-result
+add-result c = omega (arith, k-small (c .before .before .before .before .before .before .before .before .before .before .before .before .before .before .before .before .before .before .before .before .before .before .before .before .pre .0) (c .before .before .before .before .before .before .before .before .before .before .before .before .before .before .before .before .before .before .before .before .before .before .before .before .pre .1))
+
+same-length : tie.Need-same-length
+same-length c = c .before .before .unforce .kept .0 ∙ c .before .before .before .before .before .before .before .before .before .before .force .kept .1 .1 .1 .1 .0
+
+same-length-2 : tie.Need-same-length-2
+same-length-2 c = c .before .before .before .before .before .before .before .before .before .before .force .kept .1 .1 .1 .1 .1 .0
+
+returns : tie.Need-returns
+returns c =
+    let F = subst (λ (z : ℤ). ForceTold (wires (c .before .before .before .before .before .before .before .before .before .before .before .before .before .before .before .before .before .before .before .before .before .before .before .before .args .s .inputs) (c .before .before .before .before .before .before .before .before .before .before .before .before .before .before .before .before .before .before .before .before .before .before .before .before .args .s .gates) (c .before .before .before .before .before .before .before .before .before .before .before .before .before .before .before .before .before .before .before .before .before .before .before .before .args .s .width) (c .before .before .before .before .before .before .before .before .before .before .before .before .before .before .before .before .before .before .before .before .before .before .before .before .args .s .border) (c .before .before .before .before .before .before .before .before .before .before .before .before .before .before .before .before .before .before .before .before .before .before .before .before .args .pins .now) (c .before .before .before .before .before .before .before .before .before .before .before .before .before .before .before .before .before .before .before .before .before .before .before .before .args .sources .now) (c .before .before .before .before .before .before .before .before .before .before .before .before .before .before .before .before .before .before .before .before .before .before .before .before .args .counts .now)) (target (c .before .before .before .before .before .before .before .before .before .before .before .before .before .before .before .before .before .before .before .before .before .before .before .before .args .labels .now) (c .before .before .before .before .before .before .before .before .before .before .before .before .before .before .before .before .before .before .before .before .before .before .before .before .args .phi) (c .before .before .before .before .before .before .before .before .before .before .before .before .before .before .before .before .before .before .before .before .before .before .before .before .args .s .inputs + c .before .before .before .before .before .before .before .before .before .before .before .before .before .before .before .before .before .before .before .before .before .before .before .before .args .g) z) (c .before .before .before .before .before .before .before .before .before .before .before .before .before .before .before .before .before .before .before .before .before .before .before .before .args .k * c .before .before .before .before .before .before .before .before .before .before .before .before .before .before .before .before .before .before .before .before .before .before .before .before .args .s .gates) (c .before .before .before .before .before .before .before .before .before .before .force .last .1 .1 .1 .1 .0) (c .before .before .before .before .before .before .before .before .before .before .force .last .1 .1 .1 .1 .1 .0) (c .before .before .before .before .before .before .before .before .before .before .force .result)) (back (c .before .before .before .before .before .before .before .before .before .before .before .before .before .before .before .before .before .before .before .before .before .before .before .before .args .h) (c .before .before .before .before .before .before .before .before .before .before .before .before .before .before .before .before .before .before .before .before .before .before .before .before .fits .h)) (c .before .before .before .before .before .before .before .before .before .before .force .ensures) in
+    (rest-again (c .before .before .before .before .before .before .before .before .before .before .before .before .before .before .before .before .before .before .before .before .before .before .before .before .pre .0) (c .before .before .unforce .kept .0 ∙ c .before .before .before .before .before .before .before .before .before .before .force .kept .1 .1 .1 .1 .0) (c .before .before .unforce .ensures) refl refl (c .before .before .before .before .before .before .before .before .before .before .before .before .before .before .before .before .before .before .before .before .before .before .before .before .pre .0 .cleared) (c .before .before .before .before .before .before .before .before .before .before .force .kept .1 .1 .1 .1 .1 .0), answers-none (F .refutes (c .before .before .before .before .before .if1 .taken) .refuted))
+
+slice-reshare-prefix-separate : tie.Need-slice-reshare-prefix-separate
+slice-reshare-prefix-separate c = part-inside (c .before .before .before .before .before .before .before .before .force .ensures .growing (omega (arith, c .before .before .before .if1 .left))) (c .before .before .before .before .before .before .before .before .before .before .before .before .before .before .before .before .before .before .before .before .before .before .pre .1 .copies)
+
+slice-aggregate-separate : tie.Need-slice-aggregate-separate
+slice-aggregate-separate c = sym (length-take-le (c .before .before .before .before .before .before .before .before .before .force .result) (c .before .before .before .before .before .before .before .before .before .force .last .1 .1 .1 .1 .1 .0) (part-inside (c .before .before .before .before .before .before .before .before .before .force .ensures .growing (omega (arith, c .before .before .before .before .if1 .left))) (c .before .before .before .before .before .before .before .before .before .before .before .before .before .before .before .before .before .before .before .before .before .before .before .pre .1 .copies)))
+
+separate-requires : tie.Need-separate-requires
+separate-requires c κs = (cut-asked (c .before .before .before .before .before .before .before .before .before .before .before .before .before .before .before .before .before .before .before .before .before .before .before .pre .0) (c .before .before .before .before .before .before .before .before .before .force .ensures .growing (omega (arith, c .before .before .before .before .if1 .left))) (c .before .before .before .before .before .before .before .before .before .before .before .before .before .before .before .before .before .before .before .before .before .before .before .pre .1 .copies), omega (arith, k-small (c .before .before .before .before .before .before .before .before .before .before .before .before .before .before .before .before .before .before .before .before .before .before .before .pre .0) (c .before .before .before .before .before .before .before .before .before .before .before .before .before .before .before .before .before .before .before .before .before .before .before .pre .1)))
+
+slice-reshare-prefix-unforce-2 : tie.Need-slice-reshare-prefix-unforce-2
+slice-reshare-prefix-unforce-2 c = part-inside (c .before .before .before .before .before .before .before .before .before .before .before .before .before .before .before .force .ensures .growing (omega (arith, c .before .before .before .before .before .before .before .before .before .before .if1 .left))) (c .before .before .before .before .before .before .before .before .before .before .before .before .before .before .before .before .before .before .before .before .before .before .before .before .before .before .before .before .before .pre .1 .copies)
+
+slice-aggregate-unforce-2 : tie.Need-slice-aggregate-unforce-2
+slice-aggregate-unforce-2 c = sym (length-take-le (c .before .before .before .before .before .before .before .before .before .before .before .before .before .before .before .before .force .result) (c .before .before .before .before .before .before .before .before .before .before .before .before .before .before .before .before .force .last .1 .1 .1 .1 .1 .0) (part-inside (c .before .before .before .before .before .before .before .before .before .before .before .before .before .before .before .before .force .ensures .growing (omega (arith, c .before .before .before .before .before .before .before .before .before .before .before .if1 .left))) (c .before .before .before .before .before .before .before .before .before .before .before .before .before .before .before .before .before .before .before .before .before .before .before .before .before .before .before .before .before .before .pre .1 .copies)))
+
+unforce-requires-2 : tie.Need-unforce-requires-2
+unforce-requires-2 c κs = listed-of (c .before .before .before .before .before .before .before .before .before .before .before .before .before .before .before .before .force .ensures .growing (omega (arith, c .before .before .before .before .before .before .before .before .before .before .before .if1 .left))) (c .before .before .before .before .before .before .before .before .before .before .before .before .before .before .before .before .before .before .before .before .before .before .before .before .before .before .before .before .before .before .pre .1 .copies)
+
+same-length-3 : tie.Need-same-length-3
+same-length-3 c = c .before .before .unforce2 .kept .0 ∙ c .before .before .before .before .before .before .before .before .before .before .before .before .before .before .before .before .before .before .before .force .kept .1 .1 .1 .1 .0
+
+same-length-4 : tie.Need-same-length-4
+same-length-4 c = c .before .before .before .before .before .before .before .before .before .separate .kept .1 .1 .1 .1 .1 .1 .1 .1 .0
+
+same-length-5 : tie.Need-same-length-5
+same-length-5 c = c .before .before .before .before .before .before .before .before .before .separate .kept .1 .1 .1 .1 .1 .1 .1 .1 .1 .0
+
+same-length-6 : tie.Need-same-length-6
+same-length-6 c = c .before .before .before .before .before .before .before .before .before .before .before .before .before .before .before .before .before .before .before .force .kept .1 .1 .1 .1 .1 .0
+
+returns-2 : tie.Need-returns-2
+returns-2 c =
+    let F = subst (λ (z : ℤ). ForceTold (wires (c .before .before .before .before .before .before .before .before .before .before .before .before .before .before .before .before .before .before .before .before .before .before .before .before .before .before .before .before .before .before .before .before .before .args .s .inputs) (c .before .before .before .before .before .before .before .before .before .before .before .before .before .before .before .before .before .before .before .before .before .before .before .before .before .before .before .before .before .before .before .before .before .args .s .gates) (c .before .before .before .before .before .before .before .before .before .before .before .before .before .before .before .before .before .before .before .before .before .before .before .before .before .before .before .before .before .before .before .before .before .args .s .width) (c .before .before .before .before .before .before .before .before .before .before .before .before .before .before .before .before .before .before .before .before .before .before .before .before .before .before .before .before .before .before .before .before .before .args .s .border) (c .before .before .before .before .before .before .before .before .before .before .before .before .before .before .before .before .before .before .before .before .before .before .before .before .before .before .before .before .before .before .before .before .before .args .pins .now) (c .before .before .before .before .before .before .before .before .before .before .before .before .before .before .before .before .before .before .before .before .before .before .before .before .before .before .before .before .before .before .before .before .before .args .sources .now) (c .before .before .before .before .before .before .before .before .before .before .before .before .before .before .before .before .before .before .before .before .before .before .before .before .before .before .before .before .before .before .before .before .before .args .counts .now)) (target (c .before .before .before .before .before .before .before .before .before .before .before .before .before .before .before .before .before .before .before .before .before .before .before .before .before .before .before .before .before .before .before .before .before .args .labels .now) (c .before .before .before .before .before .before .before .before .before .before .before .before .before .before .before .before .before .before .before .before .before .before .before .before .before .before .before .before .before .before .before .before .before .args .phi) (c .before .before .before .before .before .before .before .before .before .before .before .before .before .before .before .before .before .before .before .before .before .before .before .before .before .before .before .before .before .before .before .before .before .args .s .inputs + c .before .before .before .before .before .before .before .before .before .before .before .before .before .before .before .before .before .before .before .before .before .before .before .before .before .before .before .before .before .before .before .before .before .args .g) z) (c .before .before .before .before .before .before .before .before .before .before .before .before .before .before .before .before .before .before .before .before .before .before .before .before .before .before .before .before .before .before .before .before .before .args .k * c .before .before .before .before .before .before .before .before .before .before .before .before .before .before .before .before .before .before .before .before .before .before .before .before .before .before .before .before .before .before .before .before .before .args .s .gates) (c .before .before .before .before .before .before .before .before .before .before .before .before .before .before .before .before .before .before .before .force .last .1 .1 .1 .1 .0) (c .before .before .before .before .before .before .before .before .before .before .before .before .before .before .before .before .before .before .before .force .last .1 .1 .1 .1 .1 .0) (c .before .before .before .before .before .before .before .before .before .before .before .before .before .before .before .before .before .before .before .force .result)) (back (c .before .before .before .before .before .before .before .before .before .before .before .before .before .before .before .before .before .before .before .before .before .before .before .before .before .before .before .before .before .before .before .before .before .args .h) (c .before .before .before .before .before .before .before .before .before .before .before .before .before .before .before .before .before .before .before .before .before .before .before .before .before .before .before .before .before .before .before .before .before .fits .h)) (c .before .before .before .before .before .before .before .before .before .before .before .before .before .before .before .before .before .before .before .force .ensures) in
+    (rest-again (c .before .before .before .before .before .before .before .before .before .before .before .before .before .before .before .before .before .before .before .before .before .before .before .before .before .before .before .before .before .before .before .before .before .pre .0) (c .before .before .unforce2 .kept .0 ∙ c .before .before .before .before .before .before .before .before .before .before .before .before .before .before .before .before .before .before .before .force .kept .1 .1 .1 .1 .0) (c .before .before .unforce2 .ensures) (c .before .before .before .before .before .before .before .before .before .separate .kept .1 .1 .1 .1 .1 .1 .1 .1 .0) (c .before .before .before .before .before .before .before .before .before .separate .kept .1 .1 .1 .1 .1 .1 .1 .1 .1 .0) (c .before .before .before .before .before .before .before .before .before .separate .ensures .0) (c .before .before .before .before .before .before .before .before .before .before .before .before .before .before .before .before .before .before .before .force .kept .1 .1 .1 .1 .1 .0), answers-found (c .before .before .before .before .before .before .before .before .before .before .before .before .before .before .before .before .before .before .before .before .before .before .before .before .before .before .before .before .before .before .before .before .before .pre .0) (c .before .before .before .before .before .before .before .before .before .before .before .before .before .before .before .before .before .before .before .before .before .before .before .before .before .before .before .before .before .before .before .before .before .pre .1) (F .growing (omega (arith, c .before .before .before .before .before .before .before .before .before .before .before .before .before .before .if1 .left))) (F .closed (omega (arith, c .before .before .before .before .before .before .before .before .before .before .before .before .before .before .if1 .left))) (c .before .before .before .before .before .before .before .before .before .separate .ensures .1 .room) (c .before .before .before .before .before .before .before .before .before .separate .ensures .1 .told))
+
+pub question-spec : {M : Type 1} → statement M
+question-spec =
+    tie.close
+    (tie.spec
+    mul-most
+    force-requires
+    sub-e
+    slice-reshare-prefix-unforce
+    slice-aggregate-unforce
+    unforce-requires
+    add-result
+    same-length
+    same-length-2
+    returns
+    slice-reshare-prefix-separate
+    slice-aggregate-separate
+    separate-requires
+    slice-reshare-prefix-unforce-2
+    slice-aggregate-unforce-2
+    unforce-requires-2
+    same-length-3
+    same-length-4
+    same-length-5
+    same-length-6
+    returns-2)

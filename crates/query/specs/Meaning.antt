@@ -1,0 +1,315 @@
+-- From the forced set and its minimum cut to the answer: what is marked is the forced set of each net with this wiring, and what `min_cut` found is a separation.
+use mathlib.Core.Path.{_≡_, refl, sym, ap, subst, _∙_}
+use mathlib.Core.Logic.{inl, inr}
+use mathlib.Core.List.{List}
+use Prim.Native.Nat.{ℕ, _+_, _-_, _*_, _≤_, _<_}
+use native.Mathlib.Nat.{mul-le-mul-left, mul-le-mul-right}
+use native.Mathlib.Omega.{arith}
+use lib.IntN.{ℤ}
+use lib.ListN.{length, getD, take}
+use lib.Seq.{getD-take, length-take-le}
+use Rattle.sequences.specs.Member.{_∈_, in-equal, in-map}
+use Rattle.sequences.specs.Decide.{in-upTo}
+use Rattle.netlist.specs.Net.{Net}
+use Rattle.netlist.specs.Checks.{Loopless}
+use Rattle.netlist.specs.Copies.{Copy, copy, Feeds, Leads, IsLeaves}
+use Rattle.cones.specs.Basics.{leavesOf}
+use Rattle.cones.specs.Ranks.{Ranked}
+use Rattle.cones.specs.Reach.{reachOf}
+use Rattle.labelling.specs.Labels.{LowCut}
+use Rattle.labelling.specs.Forced.{Forced, ForcedSet, Separation, no-cut}
+use Rattle.mincut.specs.Circuit.{Circuit, circuit, Layout, total, wide-positive}
+use Rattle.mincut.specs.Chains.{Chains}
+use Rattle.mincut.specs.Roots.{Members}
+use Rattle.mincut.specs.Rounds.{Cleared, CutAsked, CutTold}
+use Rattle.mincut.specs.Collect.{CollectAsked, CollectTold, copiesIn}
+use Rattle.mincut.specs.Bridge.{Holds, decode, encode, decode-encode}
+use Rattle.mincut.specs.Answer.{Separates, ForcedLeads, coneOf, none-few, fewest, found-separates, found-count, found-smallest, found-cone, collect-asked}
+use Rattle.mincut.specs.Answer.{collected-leaves, collected-count}
+use Rattle.query.specs.Question.{labelIn, mostCopies, AtRest, Asks, Separated, Answers, Takes, Written}
+use Rattle.query.specs.Forcing.{wires, target, Target, LowOf, Inner, Ground, Growing, Refuted, Refutes, Settled, AllSettled, ForceAsked, Listed}
+use Rattle.query.specs.Forcing.{Unmarked, feeder, feeds-pin, copiesOf, copies-in}
+
+-- the sizes and pins of C
+abbrev pub wiresOf : Circuit → Circuit
+wiresOf C = wires (C .inputs) (C .gates) (C .width) (C .border) (C .pins) (C .sources) (C .counts)
+
+-- C with other marks
+abbrev pub marked : Circuit → List ℕ → Circuit
+marked C marks = circuit (C .inputs) (C .gates) (C .width) (C .border) (C .pins) (C .first) (C .sources) (C .counts) (C .heads) (C .nexts) marks
+
+holds-wires : {C : Circuit} {N : Net} → Holds C N → Holds (wiresOf C) N
+holds-wires H = record { inputs = H .inputs; gates = H .gates; lists = H .lists }
+
+pub holds-marked : {C : Circuit} {N : Net} (marks : List ℕ) → Holds C N → Holds (marked C marks) N
+holds-marked marks H = record { inputs = H .inputs; gates = H .gates; lists = H .lists }
+
+-- what is asked and answered does not depend on the marks
+pub asks-marked : {C : Circuit} {ls : List ℤ} {φ k g : ℕ} (marks : List ℕ) → Asks C ls φ k g → Asks (marked C marks) ls φ k g
+asks-marked marks q = record { labels = q .labels; small = q .small; shift = q .shift; gate = q .gate; least = q .least; copies = q .copies }
+
+pub answers-marked : {C : Circuit} {ls : List ℤ} {φ k g : ℕ} {h : ℤ} {r : ℕ} (marks : List ℕ) → Answers C ls φ k g h r → Answers (marked C marks) ls φ k g h r
+answers-marked {C} marks a = record { none = λ N H. a .none N (holds-marked (C .inside) H); some = λ N H. a .some N (holds-marked (C .inside) H) }
+
+layout-marked : {C : Circuit} {marks : List ℕ} → Layout C → total C ≤ length marks → ((x : ℕ) → 0 < getD marks x 0 → Inner (wiresOf C) x) → Layout (marked C marks)
+layout-marked L p f = record {
+  wide = L .wide;
+  pins = L .pins;
+  sources = L .sources;
+  counts = L .counts;
+  firsts = L .firsts;
+  inside = p;
+  first = L .first;
+  few = L .few;
+  source = L .source;
+  count = L .count;
+  forced = λ x h. let i = f x h in (i .below, i .ends);
+}
+
+chains-marked : {C : Circuit} (marks : List ℕ) → Chains C → Chains (marked C marks)
+chains-marked marks c = record { nodes = c .nodes; places = c .places; low = c .low; falls = c .falls; all = c .all }
+
+-- r is what `min_cut` told of a table that is cleared by now.
+pub record CutSeen (C : Circuit) (k r : ℕ) : Type 0 where
+  pub table : List ℕ
+  pub list : List ℕ
+  pub room : length table ≡ total C
+  pub told : CutTold C table list k r
+
+-- ---- leaves, where there are few
+abbrev pub LeavesAsked : ℕ → ℕ → ℕ → List ℕ → List ℕ → List ℕ → List ℕ → Type 0
+LeavesAsked width k r t l nodes backs = r ≤ k → CollectAsked width t l nodes backs
+
+abbrev pub LeavesTold : ℕ → ℕ → ℕ → List ℕ → List ℕ → List ℕ → Type 0
+LeavesTold width k r t nodes backs = r ≤ k → (m : ℕ) × CollectTold width t nodes backs m
+
+pub takes-marked : {C : Circuit} {k : ℕ} {nodes backs : List ℕ} (marks : List ℕ) → Takes C k nodes backs → Takes (marked C marks) k nodes backs
+takes-marked marks a = record { net = a .net; holds = holds-marked marks (a .holds); loopless = a .loopless; atNodes = a .atNodes; atBacks = a .atBacks }
+
+-- r and the leaves are what a table told that is cleared by now.
+pub record LeavesSeen (C : Circuit) (k : ℕ) (nodes backs : List ℕ) (r : ℕ) : Type 0 where
+  pub seen : CutSeen C k r
+  pub collected : LeavesTold (C .width) k r (seen .table) nodes backs
+
+pub leaves-asked : {C : Circuit} {t l nodes backs : List ℕ} {k r : ℕ} → Layout C → Takes C k nodes backs → length t ≡ total C → CutTold C t l k r
+    → LeavesAsked (C .width) k r t l nodes backs
+leaves-asked L a room o few = collect-asked L (a .holds) (a .loopless) room o few (omega (arith, few, a .atNodes)) (omega (arith, few, a .atBacks))
+
+-- ---- what is asked of `force`
+module _ {C : Circuit} {t l members : List ℕ} {ls : List ℤ} {φ k g : ℕ} (a : AtRest C t l members) (q : Asks C ls φ k g) where
+  pub ground-of : Ground (wiresOf C) ls φ (k * C .gates)
+  ground-of = record {
+    first = C .first;
+    inside = C .inside;
+    layout = record {
+      wide = a .layout .wide;
+      pins = a .layout .pins;
+      sources = a .layout .sources;
+      counts = a .layout .counts;
+      firsts = a .layout .firsts;
+      inside = a .layout .inside;
+      first = a .layout .first;
+      few = a .layout .few;
+      source = a .layout .source;
+      count = a .layout .count;
+      forced = a .layout .forced;
+    };
+    labels = q .labels;
+    small = q .small;
+    shift = q .shift;
+    limit = q .copies;
+  }
+
+  pub force-asked : ForceAsked (wiresOf C) ls φ (k * C .gates) g (C .inside) members
+  force-asked = record {
+    ground = ground-of;
+    places = a .layout .inside;
+    space = a .space;
+    gate = q .gate;
+    some = omega (arith, q .gate, mul-le-mul-right {m = 1} {n = k} (C .gates) (q .least));
+    unforced = a .unforced;
+  }
+
+  -- k is far below 256
+  pub k-small : k ≤ mostCopies
+  k-small = omega (arith, q .copies, mul-le-mul-left {m = 1} {n = C .gates} k (omega (arith, q .gate)))
+
+-- ---- after `force`
+module _ {W : Circuit} {T : Target} {most : ℕ} {marks members : List ℕ} {m : ℕ} (G : Growing W T most marks members m) (limit : most ≤ mostCopies) where
+  pub part-inside : m ≤ length members
+  part-inside = omega (arith, G .few, G .space, limit)
+
+  part-length : length (take m members) ≡ m
+  part-length = length-take-le m members part-inside
+
+  part-at : (i : ℕ) → i < m → getD (take m members) i 0 ≡ getD members i 0
+  part-at i h = getD-take m members i 0 h
+
+  pub listed-of : Listed marks (take m members) 0
+  listed-of = record {
+    inside = λ i h. let j : i < m = omega (arith, h, part-length) in omega (arith, part-at i j, G .inner (getD members i 0) (G .listed i j) .below, G .places);
+    rest = λ x h. let r = G .all x h in (r .0, omega arith, omega (arith, r .1, part-length), part-at (r .0) (r .1) ∙ r .2);
+  }
+
+  members-of : (C : Circuit) → Members (marked C marks) (take m members)
+  members-of C = record {
+    forced = λ i h. let j : i < m = omega (arith, h, part-length) in subst (λ (x : ℕ). 0 < getD marks x 0) (sym (part-at i j)) (G .listed i j);
+    all = λ x h. let r = G .all x h in (r .0, omega (arith, r .1, part-length), part-at (r .0) (r .1) ∙ r .2);
+  }
+
+-- the same where every cut is refuted
+module _ {W : Circuit} {T : Target} {most : ℕ} {marks members : List ℕ} {r : ℕ} (f : Refutes W T most marks members r) (limit : most ≤ mostCopies) where
+  excess : f .count ≡ r - most
+  excess = omega (arith, f .sum)
+
+  pub excess-inside : r - most ≤ length members
+  excess-inside = omega (arith, excess, part-inside (f .growing) limit)
+
+  pub excess-listed : Listed marks (take (r - most) members) 0
+  excess-listed = subst (λ (n : ℕ). Listed marks (take n members) 0) excess (listed-of (f .growing) limit)
+
+pub cut-asked : {C : Circuit} {T : Target} {most : ℕ} {marks members : List ℕ} {m : ℕ} {t l members₀ : List ℕ} → AtRest C t l members₀
+    → Growing (wiresOf C) T most marks members m → most ≤ mostCopies
+    → CutAsked (marked C marks) (take m members) t l
+cut-asked {C} {marks = marks} a G limit = record {
+  layout = layout-marked (a .layout) (G .places) (G .inner);
+  chains = chains-marked marks (a .chains);
+  roots = members-of G limit C;
+  room = a .table;
+  longer = a .longer;
+  cleared = a .cleared;
+}
+
+-- at rest again
+pub rest-again : {C : Circuit} {t l members marks t′ l′ members′ : List ℕ} → AtRest C t l members → length marks ≡ length (C .inside)
+    → Unmarked marks → length t′ ≡ length t → length l′ ≡ length l
+    → Cleared t′ l′ → length members′ ≡ length members → AtRest (marked C marks) t′ l′ members′
+rest-again {C} {marks = marks} a p z q s c f = record {
+  layout = layout-marked (a .layout) (omega (arith, p, a .layout .inside)) (λ x h. absurd (omega (arith, h, z x)));
+  chains = chains-marked marks (a .chains);
+  table = q ∙ a .table;
+  longer = omega (arith, q, s, a .longer);
+  cleared = c;
+  unforced = z;
+  space = omega (arith, f, a .space);
+}
+
+-- ---- the forced set of a net
+module _ {W : Circuit} {T : Target} {most most′ : ℕ} {marks members : List ℕ} {m : ℕ} {N : Net} (B : Ground W (T .labels) (T .phi) most′)
+    (G : Growing W T most marks members m) (closed : (x : ℕ) → 0 < getD marks x 0 → AllSettled W T x marks) (H : Holds W N) where
+  in-copies : (x : ℕ) → 0 < getD marks x 0 → decode W x ∈ copiesOf G
+  unfolding copiesOf
+  in-copies x h =
+      let r = G .all x h in
+      in-equal (ap (decode W) (sym (r .2))) (in-map (λ (a : ℕ). decode W (getD members a 0)) (in-upTo (r .1)))
+
+  complete : {c : Copy} → Forced N (T .root) (LowOf T) c → (x : ℕ) × (0 < getD marks x 0) × (c ≡ decode W x)
+  complete {c} (Forced.root e) =
+      (T .root * W .width, G .root, e ∙ (sym (decode-encode W (copy (T .root) 0) (wide-positive (B .layout))) ∙ ap (decode W) (omega arith)))
+  complete {c} (Forced.behind x f h n) = go (complete f)
+    where
+      at : (z j : ℕ) → feeder W z j ≡ encode W c → c .back < W .width → Settled W T marks z j → (y : ℕ) × (0 < getD marks y 0) × (c ≡ decode W y)
+      at z j e b (inl l) = absurd (n (subst (LowOf T) (ap (decode W) e ∙ decode-encode W c b) l))
+      at z j e b (inr i) = (feeder W z j, i, sym (ap (decode W) e ∙ decode-encode W c b))
+
+      go : ((z : ℕ) × (0 < getD marks z 0) × (x ≡ decode W z)) → (y : ℕ) × (0 < getD marks y 0) × (c ≡ decode W y)
+      go (z, p, e) =
+          let r = feeds-pin H B (G .inner z p) (subst (Feeds N c) e h) in
+          at z (r .0) (r .2) (r .3) (closed z p (r .0) (r .1))
+
+  -- What is marked is the forced set.
+  pub forced-set : ForcedSet N (T .root) (LowOf T) (copiesOf G)
+  forced-set = record {
+    sound = λ c i. let r = copies-in G i in subst (Forced N (T .root) (LowOf T)) (sym (r .2)) (G .forced (r .0) (r .1) N H);
+    complete = λ c f. let r = complete f in in-equal (r .2) (in-copies (r .0) (r .1));
+  }
+
+  forced-leads : {c : Copy} → Forced N (T .root) (LowOf T) c → Leads N (copiesOf G) (copy (T .root) 0) c
+  forced-leads (Forced.root e) = Leads.stop e
+  forced-leads (Forced.behind x f h n) = Leads.step x (forced-set .complete x f) h (forced-leads f)
+
+-- ---- the answer
+-- every cut is refuted
+pub answers-none : {C : Circuit} {ls : List ℤ} {φ k g : ℕ} {h : ℤ} → Refuted (wiresOf C) (target ls φ (C .inputs + g) h) (k * C .gates)
+    → Answers C ls φ k g h (k + 1)
+answers-none {k} f = record {
+  none = λ N H R loopless b p. f N (holds-wires H) R k refl b;
+  some = λ N H R loopless b p. absurd (omega (arith, p));
+}
+
+pub written-none : {C : Circuit} {ls : List ℤ} {φ k g : ℕ} {h : ℤ} {nodes backs : List ℕ} → Written C ls φ k g h nodes backs (k + 1)
+written-none = record { leaves = λ N H R loopless b p. absurd (omega (arith, p)) }
+
+module _ {C : Circuit} {ls : List ℤ} {φ k g : ℕ} {h : ℤ} {t₀ l₀ members₀ : List ℕ} (a : AtRest C t₀ l₀ members₀) (q : Asks C ls φ k g) {marks members : List ℕ} {m : ℕ}
+    (G : Growing (wiresOf C) (target ls φ (C .inputs + g) h) (k * C .gates) marks members m)
+    (closed : (x : ℕ) → 0 < getD marks x 0 → AllSettled (wiresOf C) (target ls φ (C .inputs + g) h) x marks)
+    {t l : List ℕ} {r : ℕ} (room : length t ≡ total C) (o : CutTold (marked C marks) t l k r) where
+  abbrev T : Target
+  T = target ls φ (C .inputs + g) h
+
+  marked-layout : Layout (marked C marks)
+  marked-layout = layout-marked (a .layout) (G .places) (G .inner)
+
+  module _ (N : Net) (H : Holds C N) (R : Ranked N) (loopless : Loopless N) (border : k * reachOf N ≤ C .border) where
+    set-of : ForcedSet N (C .inputs + g) (LowOf T) (copiesOf G)
+    set-of = forced-set (ground-of a q) G closed (holds-wires H)
+
+    separates : {D : List Copy} → Separation N (C .inputs + g) (copiesOf G) (k * reachOf N) D → Separates (marked C marks) N D
+    separates s = record {
+      gates = s .isCone .gates;
+      border = λ c i. omega (arith, s .near c i, border);
+      forced = λ x p. s .contains (decode C x) (in-copies (ground-of a q) G closed (holds-wires H) x p);
+    }
+
+    none-of : k < r → ¬ LowCut N k φ (labelIn ls) (C .inputs + g) h
+    none-of p = no-cut R set-of (λ D L s w. none-few marked-layout (holds-marked marks H) loopless room o p (separates s) w)
+
+    module _ (few : r ≤ k) where
+      leads-of : ForcedLeads (marked C marks) N (C .inputs + g) (copiesOf G)
+      leads-of = record {
+        within = λ c i. copies-in G i;
+        leads = λ x p. forced-leads (ground-of a q) G closed (holds-wires H) (G .forced x p N (holds-wires H));
+        root = subst (λ (x : ℕ). 0 < getD marks x 0) (omega arith) (G .root);
+      }
+
+      found : Separates (marked C marks) N (coneOf (marked C marks) t)
+      found = found-separates marked-layout (holds-marked marks H) loopless room o few
+
+      -- with its leaves, listed in whatever way
+      separated-by : {L : List Copy} → IsLeaves N (coneOf (marked C marks) t) L
+          → (s : Separated N (C .inputs + g) φ (labelIn ls) h (C .border) k r) × (s .leaves ≡ L)
+      separated-by {L} w = (
+        record {
+          set = copiesOf G;
+          cone = coneOf (marked C marks) t;
+          leaves = L;
+          forced = set-of;
+          separation = record {
+            isCone = found-cone marked-layout (holds-marked marks H) loopless room o few leads-of;
+            contains = λ c i. let z = copies-in G i in in-equal (z .2) (found .forced (z .0) (z .1));
+            near = found .border;
+          };
+          isLeaves = w;
+          count = found-count marked-layout (holds-marked marks H) loopless room o few w;
+          fewest = λ D M s v. fewest marked-layout (holds-marked marks H) loopless room o (separates s) v;
+          smallest = λ D M s v e. found-smallest marked-layout (holds-marked marks H) loopless room o few (separates s) v (omega (arith, e));
+        },
+        refl,
+      )
+
+  -- **What the result of `min_cut` on the forced set means.**
+  pub answers-found : Answers C ls φ k g h r
+  answers-found = record {
+    none = none-of;
+    some = λ N H R loopless b p. separated-by N H R loopless b p (leavesOf N (coneOf (marked C marks) t) .1) .0;
+  }
+
+  -- **What the leaves written are.**
+  pub written-found : {nodes backs : List ℕ} → LeavesTold (C .width) k r t nodes backs → Written C ls φ k g h nodes backs r
+  written-found {nodes} {backs} f = record {
+    leaves = λ N H R loopless b p.
+        let w = f p in
+        let e = collected-count marked-layout (holds-marked marks H) loopless room o p (w .1) in
+        separated-by N H R loopless b p
+        (subst (λ (n : ℕ). IsLeaves N (coneOf (marked C marks) t) (copiesIn nodes backs 0 n)) e (collected-leaves marked-layout (holds-marked marks H) loopless room o p (w .1)));
+  }
