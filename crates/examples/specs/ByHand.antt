@@ -69,10 +69,12 @@ fed-by v p q two y f = go (subst (λ (l : List Pin). f .pin ∈ l) two (f .isPin
   where
     deep : {d c e : ℕ} → d ≡ 0 + c → c ≡ e → d ≡ e
     deep p q = omega (arith, p, q)
+
     named : (r : Pin) → f .pin ≡ r → y ≡ copy (r .src) (r .count)
     named r e =
         subst (λ (s : ℕ). y ≡ copy s (r .count)) (f .source ∙ ap (λ (x : Pin). x .src) e)
         (subst (λ (d : ℕ). y ≡ copy (y .node) d) (deep (f .depth) (ap (λ (x : Pin). x .count) e)) refl)
+
     go : f .pin ∈ p ∷ q ∷ [] → y ∈ copy (p .src) (p .count) ∷ copy (q .src) (q .count) ∷ []
     go (here e) = here (named p e)
     go (there (here e)) = there (here (named q e))
@@ -92,18 +94,18 @@ both P pa pb y (there (there h)) = absurd (not-in-nil h)
 cut-3 : IsCut netB 2 3 (copy 0 0 ∷ copy 1 0 ∷ [])
 unfolding gate
 cut-3 = pair-cut netB 3 (copy 0 0) (copy 1 0) gate-3 (inl (omega arith))
-  (record { gate = gate-3; pin = pin 0 0; isPin = here refl; source = refl; depth = refl })
-  (record { gate = gate-3; pin = pin 1 0; isPin = there (here refl); source = refl; depth = refl })
-  (both (λ (y : Copy). ¬ (y .node ≡ 3)) (λ e. omega (arith, e)) (λ e. omega (arith, e)))
-  (fed-by 3 (pin 0 0) (pin 1 0) refl)
+    (record { gate = gate-3; pin = pin 0 0; isPin = here refl; source = refl; depth = refl })
+    (record { gate = gate-3; pin = pin 1 0; isPin = there (here refl); source = refl; depth = refl })
+    (both (λ (y : Copy). ¬ (y .node ≡ 3)) (λ e. omega (arith, e)) (λ e. omega (arith, e)))
+    (fed-by 3 (pin 0 0) (pin 1 0) refl)
 
 cut-4 : IsCut netB 2 4 (copy 2 0 ∷ copy 3 0 ∷ [])
 unfolding gate
 cut-4 = pair-cut netB 4 (copy 2 0) (copy 3 0) gate-4 (inl (omega arith))
-  (record { gate = gate-4; pin = pin 2 0; isPin = there (here refl); source = refl; depth = refl })
-  (record { gate = gate-4; pin = pin 3 0; isPin = here refl; source = refl; depth = refl })
-  (both (λ (y : Copy). ¬ (y .node ≡ 4)) (λ e. omega (arith, e)) (λ e. omega (arith, e)))
-  (λ y f. swap (fed-by 4 (pin 3 0) (pin 2 0) refl y f))
+    (record { gate = gate-4; pin = pin 2 0; isPin = there (here refl); source = refl; depth = refl })
+    (record { gate = gate-4; pin = pin 3 0; isPin = here refl; source = refl; depth = refl })
+    (both (λ (y : Copy). ¬ (y .node ≡ 4)) (λ e. omega (arith, e)) (λ e. omega (arith, e)))
+    (λ y f. swap (fed-by 4 (pin 3 0) (pin 2 0) refl y f))
 
 no-input : {u : ℕ} → u < 3 → IsGate netB u → ⊥
 no-input h g = let a = g .low in omega arith
@@ -123,11 +125,11 @@ hand-cover = record {
   gates = each (λ (i : ℕ). IsGate netB ((lut coverB i) .root)) gate-3 gate-4;
   cuts = each (λ (i : ℕ). IsCut netB 2 ((lut coverB i) .root) ((lut coverB i) .leaves)) cut-3 cut-4;
   fed = each (λ (i : ℕ). (y : Copy) → y ∈ (lut coverB i) .leaves → IsGate netB (y .node) → RootedAt coverB (y .node) 0)
-    (both (λ (y : Copy). IsGate netB (y .node) → RootedAt coverB (y .node) 0) (λ g. absurd (no-input (omega arith) g)) (λ g. absurd (no-input (omega arith) g)))
-    (both (λ (y : Copy). IsGate netB (y .node) → RootedAt coverB (y .node) 0) (λ g. absurd (no-input (omega arith) g)) (λ g. rooted-3));
+      (both (λ (y : Copy). IsGate netB (y .node) → RootedAt coverB (y .node) 0) (λ g. absurd (no-input (omega arith) g)) (λ g. absurd (no-input (omega arith) g)))
+      (both (λ (y : Copy). IsGate netB (y .node) → RootedAt coverB (y .node) 0) (λ g. absurd (no-input (omega arith) g)) (λ g. rooted-3));
   leafRegisters = each (λ (i : ℕ). (y : Copy) → y ∈ (lut coverB i) .leaves → pos 0 ≤ℤ registers netB coverB i y)
-    (both (λ (y : Copy). pos 0 ≤ℤ registers netB coverB 0 y) (omega arith) (omega arith))
-    (both (λ (y : Copy). pos 0 ≤ℤ registers netB coverB 1 y) (omega arith) (omega arith));
+      (both (λ (y : Copy). pos 0 ≤ℤ registers netB coverB 0 y) (omega arith) (omega arith))
+      (both (λ (y : Copy). pos 0 ≤ℤ registers netB coverB 1 y) (omega arith) (omega arith));
   names = names;
   outputRegisters = last;
 }
@@ -135,6 +137,7 @@ hand-cover = record {
     names : (o : ℕ) → o < 1 → IsGate netB ((output netB o) .src) → RootedAt coverB ((output netB o) .src) 1
     names zero h g = record { listed = omega arith; rooted = refl }
     names (suc o) h g = absurd (omega (arith, h))
+
     last : (o : ℕ) → o < 1 → pos 0 ≤ℤ outputRegisters netB coverB o
     last zero h = omega arith
     last (suc o) h = absurd (omega (arith, h))
@@ -142,8 +145,8 @@ hand-cover = record {
 -- no connection between its LUTs is without register
 joined : (i : ℕ) → i < 2 → (y : Copy) → y ∈ (lut coverB i) .leaves → IsGate netB (y .node) → ¬ (registers netB coverB i y ≡ pos 0)
 joined = each (λ (i : ℕ). (y : Copy) → y ∈ (lut coverB i) .leaves → IsGate netB (y .node) → ¬ (registers netB coverB i y ≡ pos 0))
-  (both (λ (y : Copy). IsGate netB (y .node) → ¬ (registers netB coverB 0 y ≡ pos 0)) (λ g. absurd (no-input (omega arith) g)) (λ g. absurd (no-input (omega arith) g)))
-  (both (λ (y : Copy). IsGate netB (y .node) → ¬ (registers netB coverB 1 y ≡ pos 0)) (λ g. absurd (no-input (omega arith) g)) (λ g e. omega (arith, ints, e)))
+    (both (λ (y : Copy). IsGate netB (y .node) → ¬ (registers netB coverB 0 y ≡ pos 0)) (λ g. absurd (no-input (omega arith) g)) (λ g. absurd (no-input (omega arith) g)))
+    (both (λ (y : Copy). IsGate netB (y .node) → ¬ (registers netB coverB 1 y ≡ pos 0)) (λ g. absurd (no-input (omega arith) g)) (λ g e. omega (arith, ints, e)))
 
 -- **and it meets 1.**
 pub hand-meets : Meets netB coverB 1
