@@ -150,3 +150,13 @@ unmarked-zeros (x ∷ m) z =
 pub tells-not : {P Q : Type 0} {r : Bool} → P → Tells r Q → Tells (not r) (P × (¬ Q))
 tells-not {r = true} p t = record { holds = λ e. absurd (false≢true e); fails = λ e x. x .1 (t .holds refl) }
 tells-not {r = false} p t = record { holds = λ e. (p, t .fails refl); fails = λ e. absurd (true≢false e) }
+
+-- where all are marked none is unmarked
+pub none-unmarked : (m : List ℕ) → ((g : ℕ) → g < length m → Marked m g) → unmarked m ≡ 0
+unfolding unmarked
+none-unmarked [] f = unfold keep in refl
+none-unmarked (x ∷ m) f =
+    let a = length-keep-cons (λ k. ℕ-discrete k 0) x m in
+    let b = bit-no (f 0 (omega arith)) (ℕ-discrete x 0) in
+    let c = none-unmarked m (λ g h. f (suc g) (omega arith)) in
+    omega arith

@@ -17,7 +17,7 @@ use Rattle.netlist.specs.Wired.{Wired, wired-gate, gate-wired, wired-pin, pin-w
 use Rattle.netlist.specs.Checks.{Drives, Line, one, more, Loopless}
 use Rattle.cones.specs.Order.{Levels, levels}
 use Rattle.checks.specs.Marks.{Tells, Marked, Known, First, Grown, Wires, unmarked}
-use Rattle.checks.specs.MarkLaws.{known?, unmarked-zeros, first-all, grown-none, grown-one, grown-trans}
+use Rattle.checks.specs.MarkLaws.{none-unmarked, known?, unmarked-zeros, first-all, grown-none, grown-one, grown-trans}
 
 -- pin j of gate g has no register and a source that is not known
 abbrev pub OpenPin : ℕ → List ℕ → List ℕ → List ℕ → ℕ → ℕ → Type 0
@@ -29,6 +29,7 @@ pub record Placing (I G : ℕ) (ps sources counts m order : List ℕ) (p : ℕ) 
   pub room : length order ≡ G
   pub placed : p + unmarked m ≡ G
   pub bound : (g : ℕ) → getD m g 0 ≤ p
+  pub gates : (i : ℕ) → i < p → getD order i 0 < G
   pub there : (g : ℕ) → g < G → Marked m g → getD order (getD m g 0 - 1) 0 ≡ g
   pub before : (g j h : ℕ) → g < G → Marked m g → j < getD ps g 0 → getD counts (stride * g + j) 0 ≡ 0 → getD sources (stride * g + j) 0 ≡ I + h → Marked m h × (getD m h 0 < getD m g 0)
 
@@ -77,6 +78,7 @@ module _ {I G : ℕ} {ps sources counts : List ℕ} where
       room = length-set order p g ∙ a .room;
       placed = let x = grown .new in let y = a .placed in omega arith;
       bound = λ i. bound i (ℕ-discrete i g);
+      gates = λ i k. gates i k (ℕ-discrete i p);
       there = λ i k q. there i k q (ℕ-discrete i g);
       before = λ i j s k q u e t. before i j s k q u e t (ℕ-discrete i g) (ℕ-discrete s g);
     };
@@ -105,6 +107,10 @@ module _ {I G : ℕ} {ps sources counts : List ℕ} where
       bound : (i : ℕ) → Dec (i ≡ g) → getD (set m g (p + 1)) i 0 ≤ p + 1
       bound i (yes e) = rw e (let x = at in omega arith)
       bound i (no n) = rw (else i n) (let x = a .bound i in omega arith)
+
+      gates : (i : ℕ) → i < p + 1 → Dec (i ≡ p) → getD (set order p g) i 0 < G
+      gates i k (yes e) = rw e (rw (getD-set-same order p g 0 p-inside) h)
+      gates i k (no n) = rw (getD-set-other order p i g 0 n) (a .gates i (omega arith))
 
       there : (i : ℕ) → i < G → Marked (set m g (p + 1)) i → Dec (i ≡ g) → getD (set order p g) (getD (set m g (p + 1)) i 0 - 1) 0 ≡ i
       there i k q (yes e) = rw e (rw at (ap (λ (x : ℕ). getD (set order p g) x 0) (omega arith) ∙ getD-set-same order p g 0 p-inside))
@@ -179,6 +185,7 @@ place-zeros {G = G} m order e f z = record {
   room = f;
   placed = let a = unmarked-zeros m (λ g h. z g (omega arith)) in omega arith;
   bound = λ g. all g (decLt g G);
+  gates = λ i h. absurd (not-suc-le-zero h);
   there = λ g h k. absurd (k (z g h));
   before = λ g j s h k. absurd (k (z g h));
 }
@@ -257,9 +264,23 @@ module _ {I G : ℕ} {ps sources counts : List ℕ} (N : Net) (w : Wired N I G p
           inr (s - I, e, rest (s - I) (omega arith) O (let q = ap (O .level) e in omega arith))
 
 -- r tells whether every loop of any net with this wiring has a register; if so the order has every gate
+-- h stands before g in the order
+pub record Before (G : ℕ) (order : List ℕ) (h g : ℕ) : Type 0 where
+  pub first : ℕ
+  pub second : ℕ
+  pub rises : first < second
+  pub bound : second < G
+  pub atFirst : getD order first 0 ≡ h
+  pub atSecond : getD order second 0 ≡ g
+
+positive : (x : ℕ) → ¬ (x ≡ 0) → 0 < x
+positive x n = omega arith
+
 pub record PlaceCheck (I G : ℕ) (ps sources counts m order : List ℕ) (r : Bool) : Type 0 where
   pub tells : (N : Net) → Wired N I G ps sources counts → Tells r (Loopless N)
   pub ordered : r ≡ true → (g : ℕ) → g < G → (i : ℕ) × (i < G) × (getD order i 0 ≡ g)
+  pub gates : r ≡ true → (i : ℕ) → i < G → getD order i 0 < G
+  pub before : r ≡ true → (g j h : ℕ) → g < G → j < getD ps g 0 → getD counts (stride * g + j) 0 ≡ 0 → getD sources (stride * g + j) 0 ≡ I + h → Before G order h g
 
 pub place-all : {I G : ℕ} {ps sources counts m order : List ℕ} {p : ℕ} {r : Bool} → Wires I G ps sources counts → Placing I G ps sources counts m order p
     → ((g : ℕ) → g < G → Stuck I ps sources counts m g) → Tells r ((g : ℕ) → g < G → Marked m g) → PlaceCheck I G ps sources counts m order r
@@ -269,8 +290,24 @@ place-all {I} {G} {ps} {sources} {counts} {m} {order} {p} {r} ws a stuck t = rec
     fails = λ e f. t .fails e (λ g h. placed-by-level N w m (λ g′ j h′ k. ws .node g′ j h′ k) stuck (suc ((levels f) .level (I + g))) g h (levels f) (omega arith));
   };
   ordered = λ e g h. (getD m g 0 - 1, (let b = a .bound g in let c = a .placed in in-order (getD m g 0) (unmarked m) (t .holds e g h) b c), a .there g h (t .holds e g h));
+  gates = λ e i h. a .gates i (let z = none-unmarked m (λ g l. t .holds e g (let q = a .size in omega arith)) in let c = a .placed in omega arith);
+  before = λ e g j h k l z q.
+      let mg = t .holds e g k in
+      let r = a .before g j h k mg l z q in
+      let n = ws .node g j k l in
+      record {
+        first = getD m h 0 - 1;
+        second = getD m g 0 - 1;
+        rises = let x = nonzero h (r .0) in let y = r .1 in omega arith;
+        bound = let b = a .bound g in let c = a .placed in let x = nonzero g mg in omega arith;
+        atFirst = a .there h (omega arith) (r .0);
+        atSecond = a .there g k mg;
+      };
 }
   where
+    nonzero : (g : ℕ) → Marked m g → 0 < getD m g 0
+    nonzero g k = positive (getD m g 0) k
+
     in-order : (x u : ℕ) → ¬ (x ≡ 0) → x ≤ p → p + u ≡ G → x - 1 < G
     in-order x u n b c = go x n b
       where

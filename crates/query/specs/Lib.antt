@@ -1,3 +1,4 @@
 pub mod Question
 pub mod Forcing
 pub mod Meaning
+pub mod ChosenCut
