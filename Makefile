@@ -1,5 +1,5 @@
 # make run: the main job on an example net. make test: the whole gate.
-.PHONY: run test format compare second
+.PHONY: run test second library bench depth
 
 # The second mapper's listing of net A, for k 2 and the least period.
 run: second
@@ -8,10 +8,23 @@ run: second
 second:
 	cd tests && cargo build --release --offline --quiet
 
+# The library for C and Rust: target/staticlib/libkamfelu.a, to be used with include/kamfelu.h.
+library:
+	rt staticlib kamfelu > .rt-library.log 2>&1 || { tail -n 60 .rt-library.log; exit 1; }
+
+# Times of the library and of the second mapper on the same nets.
+bench: library
+	cd tests && cargo run --profile timing --offline --quiet -p library --bin bench
+
+# The deepest stack use seen.
+depth: library
+	cd tests && cargo run --release --offline --quiet -p library --bin depth
+
 # The proofs, the layout and the comparisons; rt ci's verdict is printed last, and only if all else passed.
+# rt ci empties target/ first and leaves the proofs there, so that the library is then built from them.
 test:
-	@mkdir -p target
 	rt fmt --check
-	cd tests && cargo test --release --offline --quiet
 	rt ci > .rt-ci.log 2>&1 || { tail -n 60 .rt-ci.log; exit 1; }
+	$(MAKE) --no-print-directory library
+	cd tests && cargo test --release --offline --quiet --workspace
 	@cat .rt-ci.log

@@ -12,7 +12,8 @@ use Rattle.netlist.specs.Wired.{Wired}
 use Rattle.netlist.specs.Copies.{Copy, copy}
 use Rattle.netlist.specs.CopyLaws.{copy-path}
 use Rattle.cones.specs.Ranks.{Ranked}
-use Rattle.cone.specs.Lists.{Wires, sourceAt, Bounded, Visit, Room, members, most, copyAt, copiesIn}
+use Rattle.netlist.specs.Arrays.{copyAt}
+use Rattle.cone.specs.Lists.{Wires, sourceAt, Bounded, Visit, Room, members, most, copiesIn}
 use Rattle.cone.specs.ListLaws.{length-copiesIn, getD-copiesIn, in-copiesIn}
 use Rattle.cone.specs.Walking.{Walked, Closed, Refuted, walked-more, refuted-input, refuted-full, pin-feeds, closed-pins, node-gate, input-no-gate}
 

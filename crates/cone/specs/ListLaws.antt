@@ -14,7 +14,9 @@ use lib.Seq.{getD-set-same, getD-set-other, ext-getD, getD-append-seam}
 use Rattle.sequences.specs.Member.{_∈_, in-getD, getD-in, in-equal}
 use Rattle.netlist.specs.Copies.{Copy, copy}
 use Rattle.netlist.specs.CopyLaws.{copy-path}
-use Rattle.cone.specs.Lists.{Tells, First, copyAt, copiesFrom, copiesIn, Wires, Place, Room, members, Visit}
+use Rattle.netlist.specs.ArrayLaws.{length-copiesFrom, getD-copiesFrom}
+use Rattle.netlist.specs.Arrays.{copyAt, copiesFrom}
+use Rattle.cone.specs.Lists.{Tells, First, copiesIn, Wires, Place, Room, members, Visit}
 
 -- ---- tests
 
@@ -60,18 +62,6 @@ first-none P n b = record { bound = omega arith; found = λ k. absurd (self k); 
     self k = omega arith
 
 -- ---- copies in arrays
-
-pub length-copiesFrom : (nodes backs : List ℕ) (at n : ℕ) → length (copiesFrom nodes backs at n) ≡ n
-unfolding copiesFrom
-length-copiesFrom nodes backs at zero = refl
-length-copiesFrom nodes backs at (suc n) = ap suc (length-copiesFrom nodes backs (suc at) n)
-
-getD-copiesFrom : (nodes backs : List ℕ) (at n i : ℕ) (d : Copy) → i < n → getD (copiesFrom nodes backs at n) i d ≡ copyAt nodes backs (at + i)
-unfolding copiesFrom
-getD-copiesFrom nodes backs at zero i d h = absurd (not-suc-le-zero h)
-getD-copiesFrom nodes backs at (suc n) zero d h = ap (copyAt nodes backs) (sym (add-zero at))
-getD-copiesFrom nodes backs at (suc n) (suc i) d h =
-    getD-copiesFrom nodes backs (suc at) n i d (le-of-suc-le-suc h) ∙ ap (copyAt nodes backs) (suc-add at i ∙ sym (add-suc at i))
 
 pub length-copiesIn : (nodes backs : List ℕ) (n : ℕ) → length (copiesIn nodes backs n) ≡ n
 unfolding copiesIn

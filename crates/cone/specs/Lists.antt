@@ -6,7 +6,7 @@ use mathlib.Core.Logic.{_⊎_}
 use Prim.Native.Nat.{ℕ, zero, suc, _+_, _-_, _*_, _≤_, _<_}
 use lib.ListN.{length, getD}
 use Rattle.sequences.specs.Member.{_∈_}
-use Rattle.netlist.specs.Arrays.{stride}
+use Rattle.netlist.specs.Arrays.{stride, copyAt, copiesFrom}
 use Rattle.netlist.specs.Copies.{Copy, copy}
 
 -- a test tells whether P holds
@@ -19,15 +19,6 @@ pub record First (P : ℕ → Type 0) (n r : ℕ) : Type 0 where
   pub bound : r ≤ n
   pub found : r < n → P r
   pub before : (j : ℕ) → j < r → ¬ P j
-
--- the copy at place i of two arrays
-abbrev pub copyAt : List ℕ → List ℕ → ℕ → Copy
-copyAt nodes backs i = copy (getD nodes i 0) (getD backs i 0)
-
--- n copies, from place `at` on
-unfoldable pub copiesFrom : List ℕ → List ℕ → ℕ → ℕ → List Copy
-copiesFrom nodes backs at zero = []
-copiesFrom nodes backs at (suc n) = copyAt nodes backs at ∷ copiesFrom nodes backs (suc at) n
 
 -- the first n copies
 unfoldable pub copiesIn : List ℕ → List ℕ → ℕ → List Copy

@@ -10,7 +10,7 @@ use lib.Dec.{eqb}
 use lib.ListN.{length, getD, take, replicate}
 use Rattle.sequences.specs.Member.{_∈_, in-equal, in-getD, getD-in}
 use Rattle.netlist.specs.Net.{Net, Pin, gate}
-use Rattle.netlist.specs.Arrays.{stride, pinsIn}
+use Rattle.netlist.specs.Arrays.{stride, pinsIn, copyAt}
 use Rattle.netlist.specs.ArrayLaws.{pinAt}
 use Rattle.netlist.specs.Wired.{Wired}
 use Rattle.netlist.specs.Copies.{Copy, copy, Feeds, IsCone, IsLeaves}
@@ -20,7 +20,7 @@ use Rattle.tables.specs.Words.{bit-half, pack-same, pack-bits}
 use Rattle.tables.specs.Values.{same-true, same-refl, atLeaf-in, atLeaf-out, map-same}
 use Rattle.tables.specs.RunLaws.{map-map}
 use Rattle.truth.specs.Words.{LeafWord, valuesAt, Composed}
-use Rattle.cone.specs.Lists.{First, copyAt, copiesIn, sourceAt, Bounded}
+use Rattle.cone.specs.Lists.{First, copiesIn, sourceAt, Bounded}
 use Rattle.cone.specs.ListLaws.{length-copiesIn, getD-copiesIn, in-copiesIn, found-in, missing}
 use Rattle.cone.specs.Walking.{pin-feeds}
 use Rattle.cone.specs.Growing.{member}

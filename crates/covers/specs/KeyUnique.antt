@@ -30,7 +30,7 @@ rising-numbers : (l : List ℕ) → RisingNumbers l → Rising _<_ l
 rising-numbers [] r = rising-nil
 rising-numbers (a ∷ l) r = rising-cons (r .0) (rising-numbers l (r .1))
 
-numbers-unique : (l m : List ℕ) → RisingNumbers l → RisingNumbers m → Within l m → Within m l → l ≡ m
+pub numbers-unique : (l m : List ℕ) → RisingNumbers l → RisingNumbers m → Within l m → Within m l → l ≡ m
 numbers-unique l m r s = rising-unique lt-irrefl (λ a b c p q. omega arith) (rising-numbers l r) (rising-numbers m s)
 
 module _ {N : Net} {k φ : ℕ} (P : Passed N k) where

@@ -1,3 +1,6 @@
 pub mod Nets
 pub mod Computed
 pub mod ByHand
+pub mod Statements
+pub mod Plan
+pub mod Marked

@@ -27,9 +27,13 @@ netA = record {
   outputs = pin 4 0 ∷ [];
 }
 
--- "B: gate 3 = AND(0,1), gate 4 = AND(3,2), output reads 4 through one register."
+-- "B: gate 3 = AND(0,1), gate 4 = AND(3,2)", its output reading 4 through w registers
+abbrev pub throughB : ℕ → Net
+throughB w = record { inputs = 3; gates = pair (pin 0 0) (pin 1 0) 8 ∷ pair (pin 3 0) (pin 2 0) 8 ∷ []; outputs = pin 4 w ∷ [] }
+
+-- "output reads 4 through one register"
 abbrev pub netB : Net
-netB = record { inputs = 3; gates = pair (pin 0 0) (pin 1 0) 8 ∷ pair (pin 3 0) (pin 2 0) 8 ∷ []; outputs = pin 4 1 ∷ [] }
+netB = throughB 1
 
 abbrev pub bytesB : List ℕ
 bytesB = 3 ∷ 2 ∷ 1 ∷ 3 ∷ 0 ∷ 0 ∷ 1 ∷ 8 ∷ 3 ∷ 0 ∷ 3 ∷ 2 ∷ 8 ∷ 1 ∷ 4 ∷ 1 ∷ []
@@ -54,3 +58,24 @@ labelsA v = cond (eqb v 2) (pos 1) (pos 2)
 -- and as a record
 abbrev pub recordA : List ℕ
 recordA = 2 ∷ 2 ∷ 2 ∷ 2 ∷ 0 ∷ 0 ∷ 1 ∷ 8 ∷ 4 ∷ 2 ∷ 2 ∷ 2 ∷ 4 ∷ 1 ∷ 0 ∷ 9 ∷ []
+
+-- "Without the register"
+abbrev pub netB0 : Net
+netB0 = throughB 0
+
+abbrev pub bytesB0 : List ℕ
+bytesB0 = 3 ∷ 2 ∷ 1 ∷ 3 ∷ 0 ∷ 0 ∷ 1 ∷ 8 ∷ 3 ∷ 0 ∷ 3 ∷ 2 ∷ 8 ∷ 0 ∷ 4 ∷ []
+
+-- "A gate AND(0:0, 0:0)", gate 1 behind one input
+abbrev pub netD : Net
+netD = record { inputs = 1; gates = pair (pin 0 0) (pin 0 0) 8 ∷ []; outputs = pin 1 0 ∷ [] }
+
+abbrev pub bytesD : List ℕ
+bytesD = 1 ∷ 1 ∷ 1 ∷ 3 ∷ 0 ∷ 0 ∷ 0 ∷ 8 ∷ 0 ∷ 1 ∷ []
+
+-- "AND(0:0, 0:1)"
+abbrev pub netE : Net
+netE = record { inputs = 1; gates = pair (pin 0 0) (pin 0 1) 8 ∷ []; outputs = pin 1 0 ∷ [] }
+
+abbrev pub bytesE : List ℕ
+bytesE = 1 ∷ 1 ∷ 1 ∷ 3 ∷ 2 ∷ 0 ∷ 0 ∷ 1 ∷ 8 ∷ 0 ∷ 1 ∷ []

@@ -23,7 +23,9 @@ use Rattle.flow.specs.Closed.{Closed, Found, found-separation, few-leaves, smal
 use Rattle.mincut.specs.Circuit.{Circuit, graphOf, Layout, lawful, total, ending, wide-positive, terminal-is, forced-is}
 use Rattle.mincut.specs.Table.{viewOf, in-below}
 use Rattle.mincut.specs.Rounds.{Flowing, CutTold}
-use Rattle.mincut.specs.Collect.{LeafMark, CollectAsked, CollectTold, numberAt, copiesIn, copiesIn-in, in-copiesIn, length-copiesIn, rising-copiesIn, number-before}
+use Rattle.mincut.specs.Collect.{LeafMark, CollectAsked, CollectTold, numberAt, rising-copiesFrom, number-before}
+use Rattle.netlist.specs.Arrays.{copiesFrom}
+use Rattle.netlist.specs.ArrayLaws.{copiesFrom-in, in-copiesFrom, length-copiesFrom}
 use Rattle.mincut.specs.Bridge.{Holds, decode, encode, encode-decode, decode-encode, decode-one, inner-gate, gate-inner, to-feeds, from-feeds, order}
 
 -- A set of gate copies, none beyond the border, that contains the forced set.
@@ -202,9 +204,9 @@ module _ {C : Circuit} {N : Net} {t l : List ℕ} {k r : ℕ} (L : Layout C) (H 
     }
 
     module _ {nodes backs : List ℕ} {m : ℕ} (w : CollectTold (C .width) t nodes backs m) where
-      pub collected-leaves : IsLeaves N (coneOf C t) (copiesIn nodes backs 0 m)
+      pub collected-leaves : IsLeaves N (coneOf C t) (copiesFrom nodes backs 0 m)
       collected-leaves = record {
-        rising = rising-copiesIn nodes backs 0 m (λ i j a b e.
+        rising = rising-copiesFrom nodes backs 0 m (λ i j a b e.
             number-before (C .width) (getD nodes i 0) (getD backs i 0) (getD nodes j 0) (getD backs j 0) (w .back i (omega (arith, b, e))) (w .back j (omega (arith, e))) (w .rising i j b (omega (arith, e))));
         sound = sound;
         complete = complete;
@@ -213,17 +215,17 @@ module _ {C : Circuit} {N : Net} {t l : List ℕ} {k r : ℕ} (L : Layout C) (H 
           at-place : (i : ℕ) → i < m → decode C (numberAt (C .width) nodes backs i) ≡ copy (getD nodes i 0) (getD backs i 0)
           at-place i h = decode-encode C (copy (getD nodes i 0) (getD backs i 0)) (w .back i h)
 
-          sound : (y : Copy) → y ∈ copiesIn nodes backs 0 m → Leaf N (coneOf C t) y
+          sound : (y : Copy) → y ∈ copiesFrom nodes backs 0 m → Leaf N (coneOf C t) y
           sound y h =
-              let q = copiesIn-in nodes backs 0 m y h in
+              let q = copiesFrom-in nodes backs 0 m y h in
               let i : q .0 < m = omega (arith, q .2) in
               subst (Leaf N (coneOf C t)) (at-place (q .0) i ∙ sym (q .3)) (number-leaf (mark-leaf (numberAt (C .width) nodes backs (q .0)) (w .mark (q .0) i)))
 
-          complete : (y : Copy) → Leaf N (coneOf C t) y → y ∈ copiesIn nodes backs 0 m
+          complete : (y : Copy) → Leaf N (coneOf C t) y → y ∈ copiesFrom nodes backs 0 m
           complete y h =
               let n = leaf-number h in
               let q = w .all (encode C y) (leaf-mark (n .0)) in
-              in-equal (sym (decode-encode C y (n .1)) ∙ (ap (decode C) (sym (q .2)) ∙ at-place (q .0) (q .1))) (in-copiesIn nodes backs 0 m (q .0) (omega arith) (omega (arith, q .1)))
+              in-equal (sym (decode-encode C y (n .1)) ∙ (ap (decode C) (sym (q .2)) ∙ at-place (q .0) (q .1))) (in-copiesFrom nodes backs 0 m (q .0) (omega arith) (omega (arith, q .1)))
 
       pub collected-count : m ≡ r
-      collected-count = sym (length-copiesIn nodes backs 0 m) ∙ found-count collected-leaves
+      collected-count = sym (length-copiesFrom nodes backs 0 m) ∙ found-count collected-leaves

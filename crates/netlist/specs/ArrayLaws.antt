@@ -3,11 +3,13 @@ use mathlib.Core.Path.{_≡_, refl, sym, ap, _∙_, subst}
 use mathlib.Core.List.{List, [], _∷_}
 use Prim.Native.Nat.{ℕ, zero, suc, _+_, _-_, _*_, _≤_, _<_}
 use native.Mathlib.Nat.{add-zero, add-suc, suc-add, zero-add, not-suc-le-zero, le-of-suc-le-suc}
+use native.Mathlib.Decide.{ℕ-discrete}
 use native.Mathlib.Omega.{arith}
 use lib.ListN.{length, getD}
 use Rattle.sequences.specs.Member.{_∈_, here, there, not-in-nil}
 use Rattle.netlist.specs.Net.{Net, Pin, Gate, IsGate, gate, pins, nothing, size}
-use Rattle.netlist.specs.Arrays.{Arrays, netIn, pinsIn, gatesIn, stride}
+use Rattle.netlist.specs.Arrays.{Arrays, netIn, pinsIn, gatesIn, stride, copyAt, copiesFrom}
+use Rattle.netlist.specs.Copies.{Copy, copy}
 
 pub length-pinsIn : (s c : List ℕ) (at n : ℕ) → length (pinsIn s c at n) ≡ n
 unfolding pinsIn
@@ -100,3 +102,36 @@ module _ (a : Arrays) where
       let l = h .low in
       let u = h .high in
       (v - a .inputs, omega arith, omega arith)
+
+-- ---- lists of copies by their places
+
+pub length-copiesFrom : (nodes backs : List ℕ) (at n : ℕ) → length (copiesFrom nodes backs at n) ≡ n
+unfolding copiesFrom
+length-copiesFrom nodes backs at zero = refl
+length-copiesFrom nodes backs at (suc n) = ap suc (length-copiesFrom nodes backs (suc at) n)
+
+pub copiesFrom-in : (nodes backs : List ℕ) (at n : ℕ) (c : Copy) → c ∈ copiesFrom nodes backs at n → (i : ℕ) × (at ≤ i) × (i < at + n) × (c ≡ copy (getD nodes i 0) (getD backs i 0))
+unfolding copiesFrom
+copiesFrom-in nodes backs at zero c h = absurd (not-in-nil h)
+copiesFrom-in nodes backs at (suc n) c h = go (copiesFrom-in nodes backs (suc at) n c) h
+  where
+    go : (c ∈ copiesFrom nodes backs (suc at) n → (i : ℕ) × (suc at ≤ i) × (i < suc at + n) × (c ≡ copy (getD nodes i 0) (getD backs i 0)))
+        → c ∈ copy (getD nodes at 0) (getD backs at 0) ∷ copiesFrom nodes backs (suc at) n → (i : ℕ) × (at ≤ i) × (i < at + suc n) × (c ≡ copy (getD nodes i 0) (getD backs i 0))
+    go rest (here e) = (at, omega arith, omega arith, e)
+    go rest (there m) = let r = rest m in (r .0, omega (arith, r .1), omega (arith, r .2), r .3)
+
+pub in-copiesFrom : (nodes backs : List ℕ) (at n i : ℕ) → at ≤ i → i < at + n → copy (getD nodes i 0) (getD backs i 0) ∈ copiesFrom nodes backs at n
+unfolding copiesFrom
+in-copiesFrom nodes backs at zero i h k = absurd (omega (arith, h, k))
+in-copiesFrom nodes backs at (suc n) i h k = go (λ p. in-copiesFrom nodes backs (suc at) n i p (omega (arith, k))) (ℕ-discrete i at)
+  where
+    go : (suc at ≤ i → copy (getD nodes i 0) (getD backs i 0) ∈ copiesFrom nodes backs (suc at) n) → Dec (i ≡ at) → copy (getD nodes i 0) (getD backs i 0) ∈ copy (getD nodes at 0) (getD backs at 0) ∷ copiesFrom nodes backs (suc at) n
+    go rest (yes e) = here (ap (λ (j : ℕ). copy (getD nodes j 0) (getD backs j 0)) e)
+    go rest (no m) = there (rest (omega (arith, h, m)))
+
+pub getD-copiesFrom : (nodes backs : List ℕ) (at n i : ℕ) (d : Copy) → i < n → getD (copiesFrom nodes backs at n) i d ≡ copyAt nodes backs (at + i)
+unfolding copiesFrom
+getD-copiesFrom nodes backs at zero i d h = absurd (not-suc-le-zero h)
+getD-copiesFrom nodes backs at (suc n) zero d h = ap (copyAt nodes backs) (sym (add-zero at))
+getD-copiesFrom nodes backs at (suc n) (suc i) d h =
+    getD-copiesFrom nodes backs (suc at) n i d (le-of-suc-le-suc h) ∙ ap (copyAt nodes backs) (suc-add at i ∙ sym (add-suc at i))

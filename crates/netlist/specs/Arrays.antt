@@ -4,6 +4,7 @@ use mathlib.Core.List.{List, [], _∷_}
 use Prim.Native.Nat.{ℕ, zero, suc, _+_, _*_}
 use lib.ListN.{length, getD}
 use Rattle.netlist.specs.Net.{Net, Pin, Gate}
+use Rattle.netlist.specs.Copies.{Copy, copy}
 
 -- places for the pins of a gate: a pin map has "bits 0..5"
 abbrev pub stride : ℕ
@@ -41,3 +42,14 @@ netIn a = record {
   gates = gatesIn (a .pins) (a .sources) (a .counts) (a .tables) 0 (a .gates);
   outputs = pinsIn (a .outSources) (a .outCounts) 0 (a .outputs);
 }
+
+-- ---- lists of copies: nodes in one array, d's in another
+
+-- the copy at place i
+abbrev pub copyAt : List ℕ → List ℕ → ℕ → Copy
+copyAt nodes backs i = copy (getD nodes i 0) (getD backs i 0)
+
+-- n copies, from place `at` on
+unfoldable pub copiesFrom : List ℕ → List ℕ → ℕ → ℕ → List Copy
+copiesFrom nodes backs at zero = []
+copiesFrom nodes backs at (suc n) = copyAt nodes backs at ∷ copiesFrom nodes backs (suc at) n

@@ -27,6 +27,8 @@ pub record NoneBelow (C : Circuit) (k : ℕ) (tops os oc : List ℕ) (n φ : ℕ
 -- r is the least period of every net that suits, and the labels are its least labelling.
 pub record Period (C : Circuit) (k : ℕ) (tops os oc : List ℕ) (n : ℕ) (ls : List ℤ) (r : ℕ) : Type 0 where
   pub positive : 1 ≤ r
+  pub most : r ≤ C .gates
+  pub fine : Fine C ls
   pub least : (N : Net) → Suits C k tops N → Passed N k → N .outputs ≡ pinsIn os oc 0 n → LeastPeriod N k r
   pub labels : (N : Net) → Suits C k tops N → Passed N k → N .outputs ≡ pinsIn os oc 0 n → Least N k r (labelIn ls) × OutputsMet N r (labelIn ls)
 
@@ -65,9 +67,11 @@ module _ {C : Circuit} {k : ℕ} {tops os oc : List ℕ} {n : ℕ} where
   first : {φ : ℕ} → 1 ≤ φ → NoneBelow C k tops os oc n φ → (N : Net) → Suits C k tops N → (P : Passed N k) → N .outputs ≡ pinsIn os oc 0 n → Reachable N k φ → LeastPeriod N k φ
   first one f N S P o r = record { positive = one; met = reachable-met P one r; least = λ ψ a b m. f .below ψ a b N S o (met-reachable P a m) }
 
-  pub period-found : {φ : ℕ} {ls : List ℤ} {b : Bool} → 1 ≤ φ → NoneBelow C k tops os oc n φ → Labelled C k φ tops os oc n ls b → b ≡ true → Period C k tops os oc n ls φ
-  period-found {ls = ls} one f l e = record {
+  pub period-found : {φ : ℕ} {ls : List ℤ} {b : Bool} → 1 ≤ φ → φ ≤ C .gates → NoneBelow C k tops os oc n φ → Labelled C k φ tops os oc n ls b → b ≡ true → Period C k tops os oc n ls φ
+  period-found {ls = ls} one most f l e = record {
     positive = one;
+    most = most;
+    fine = l .fine;
     least = λ N S P o. let t = l .found e N S o in first one f N S P o (record { label = labelIn ls; least = t .0; outputs = t .1 });
     labels = λ N S P o. l .found e N S o;
   }
@@ -80,5 +84,5 @@ module _ {C : Circuit} {k : ℕ} {tops os oc : List ℕ} {n : ℕ} where
       last e N S P o = l .none e N S o (gates-reach P φ (let h = S .holds .gates in omega arith))
 
       go : (t : Bool) → b ≡ t → Period C k tops os oc n ls φ
-      go true e = period-found one f l e
-      go false e = record { positive = one; least = λ N S P o. absurd (last e N S P o); labels = λ N S P o. absurd (last e N S P o) }
+      go true e = period-found one (omega arith) f l e
+      go false e = record { positive = one; most = omega arith; fine = l .fine; least = λ N S P o. absurd (last e N S P o); labels = λ N S P o. absurd (last e N S P o) }

@@ -22,7 +22,8 @@ use Rattle.mincut.specs.Circuit.{Circuit, circuit, Layout, total, wide-positive
 use Rattle.mincut.specs.Chains.{Chains}
 use Rattle.mincut.specs.Roots.{Members}
 use Rattle.mincut.specs.Rounds.{Cleared, CutAsked, CutTold}
-use Rattle.mincut.specs.Collect.{CollectAsked, CollectTold, copiesIn}
+use Rattle.mincut.specs.Collect.{CollectAsked, CollectTold}
+use Rattle.netlist.specs.Arrays.{copiesFrom}
 use Rattle.mincut.specs.Bridge.{Holds, decode, encode, decode-encode}
 use Rattle.mincut.specs.Answer.{Separates, ForcedLeads, coneOf, none-few, fewest, found-separates, found-count, found-smallest, found-cone, collect-asked}
 use Rattle.mincut.specs.Answer.{collected-leaves, collected-count}
@@ -311,5 +312,5 @@ module _ {C : Circuit} {ls : List ℤ} {φ k g : ℕ} {h : ℤ} {t₀ l₀ membe
         let w = f p in
         let e = collected-count marked-layout (holds-marked marks H) loopless room o p (w .1) in
         separated-by N H R loopless b p
-        (subst (λ (n : ℕ). IsLeaves N (coneOf (marked C marks) t) (copiesIn nodes backs 0 n)) e (collected-leaves marked-layout (holds-marked marks H) loopless room o p (w .1)));
+        (subst (λ (n : ℕ). IsLeaves N (coneOf (marked C marks) t) (copiesFrom nodes backs 0 n)) e (collected-leaves marked-layout (holds-marked marks H) loopless room o p (w .1)));
   }

@@ -16,7 +16,7 @@ use Rattle.signed.specs.Range.{Small, room}
 use Rattle.mincut.specs.Circuit.{Circuit, Layout, total}
 use Rattle.mincut.specs.Chains.{Chains}
 use Rattle.mincut.specs.Rounds.{Cleared}
-use Rattle.mincut.specs.Collect.{copiesIn}
+use Rattle.netlist.specs.Arrays.{copiesFrom}
 use Rattle.mincut.specs.Bridge.{Holds}
 
 -- labels kept in an array
@@ -75,4 +75,4 @@ pub record Takes (C : Circuit) (k : ℕ) (nodes backs : List ℕ) : Type 0 where
 pub record Written (C : Circuit) (ls : List ℤ) (φ k g : ℕ) (h : ℤ) (nodes backs : List ℕ) (r : ℕ) : Type 0 where
   pub leaves :
       (N : Net) → Holds C N → Ranked N → Loopless N → k * reachOf N ≤ C .border → r ≤ k
-      → (w : Separated N (C .inputs + g) φ (labelIn ls) h (C .border) k r) × (w .leaves ≡ copiesIn nodes backs 0 r)
+      → (w : Separated N (C .inputs + g) φ (labelIn ls) h (C .border) k r) × (w .leaves ≡ copiesFrom nodes backs 0 r)

@@ -7,3 +7,4 @@ pub mod Decided
 pub mod Outcomes
 pub mod Program
 pub mod Accepted
+pub mod Kept

@@ -5,7 +5,8 @@ use borrow.Author.Tests.{not-true, not-false}
 use denote.Ref.{now}
 use Prim.Native.Nat.{ℕ, _-_, _≤_, _<_}
 use native.Mathlib.Omega.{arith}
-use Rattle.cone.specs.Lists.{Touched, copyAt}
+use Rattle.netlist.specs.Arrays.{copyAt}
+use Rattle.cone.specs.Lists.{Touched}
 use Rattle.cone.specs.ListLaws.{tells-all, tells-not}
 use Rattle.cone.proofs.all_touched.Statement.{statement}
 use Rattle.cone.proofs.all_touched.Tie as tie

@@ -6,7 +6,7 @@ use mathlib.Core.Path.{_≡_}
 use Prim.Native.Nat.{ℕ, _-_, _≤_, _<_}
 use native.Mathlib.Omega.{arith}
 use Rattle.netlist.specs.Copies.{copy}
-use Rattle.cone.specs.Lists.{copyAt}
+use Rattle.netlist.specs.Arrays.{copyAt}
 use Rattle.cone.specs.ListLaws.{first-here, first-none}
 use Rattle.cone.proofs.find.Statement.{statement}
 use Rattle.cone.proofs.find.Tie as tie

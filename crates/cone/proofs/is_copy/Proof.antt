@@ -3,7 +3,7 @@ use borrow.Author.Needs.{needs}
 use denote.Ref.{now}
 use native.Mathlib.Omega.{arith}
 use Rattle.netlist.specs.Copies.{copy}
-use Rattle.cone.specs.Lists.{copyAt}
+use Rattle.netlist.specs.Arrays.{copyAt}
 use Rattle.cone.specs.ListLaws.{tells-node, tells-back}
 use Rattle.cone.proofs.is_copy.Statement.{statement}
 use Rattle.cone.proofs.is_copy.Tie as tie

@@ -52,7 +52,7 @@ same-length-5 c = c .before .before .before .before .before .before .before .bef
 
 -- src/lib.rt:41:13
 returns : tie.Need-returns Inv-loop μ-loop
-returns c = (c .before .before .before .before .before .before .before .before .before .before .reach .ensures .0, period-found (c .before .before .before .before .before .before .before .before .before .before .before .before .before .before .before .before .before .before .loop .inv .0) (c .before .before .before .before .before .before .before .before .before .before .before .before .before .before .before .before .before .before .loop .inv .3) (c .before .before .before .before .before .before .before .before .before .before .reach .ensures .1) (c .if2 .taken))
+returns c = (c .before .before .before .before .before .before .before .before .before .before .reach .ensures .0, period-found (c .before .before .before .before .before .before .before .before .before .before .before .before .before .before .before .before .before .before .loop .inv .0) (c .before .before .before .before .before .before .before .before .before .before .before .before .before .before .before .before .before .before .loop .inv .1) (c .before .before .before .before .before .before .before .before .before .before .before .before .before .before .before .before .before .before .loop .inv .3) (c .before .before .before .before .before .before .before .before .before .before .reach .ensures .1) (c .if2 .taken))
 
 -- src/lib.rt:43:9
 add-phi : tie.Need-add-phi Inv-loop μ-loop

@@ -1,0 +1,28 @@
+// The library for other programs: map with one number for its answer.
+use mapper::Answer;
+use mapper::map;
+use signed::minus;
+use signed::whole;
+ghost use mathlib.Core.Path.{_≡_};
+ghost use Rattle.records.specs.Outcomes.{mapOutcome};
+ghost use Rattle.kamfelu.specs.Coded.{coded};
+
+// The record's length, or minus the number of the refusal.
+#[no_mangle]
+pub extern "C" fn kamfelu_map(
+    net: &[u8],
+    k: u32,
+    target: u32,
+    cover: &mut [u8],
+    scratch: &mut [u8],
+) -> i64
+    ensures answer { λ r. ⌜ r ≡ coded (mapOutcome (now (net .entry)) k target (now (cover .entry)) (now (scratch .entry)) .answer) ⌝ }
+    ensures area { λ _. ⌜ now (cover .exit) ≡ mapOutcome (now (net .entry)) k target (now (cover .entry)) (now (scratch .entry)) .area ⌝ }
+    ensures scratch { λ _. ⌜ now (scratch .exit) ≡ mapOutcome (now (net .entry)) k target (now (cover .entry)) (now (scratch .entry)) .scratch ⌝ }
+{
+    let answer = map(net, k, target, cover, scratch);
+    match answer {
+        Answer::Length(n) => whole(n),
+        Answer::Refused(n) => minus(0, n as usize),
+    }
+}

@@ -1,0 +1,2 @@
+pub mod Luts
+pub mod LutLaws

@@ -1,0 +1,36 @@
+-- Definitions: the tables of LUTs kept in arrays, and what a program that computes them asks and tells. Gate g has its leaves from place stride·g on.
+use mathlib.Core.Path.{_≡_}
+use mathlib.Core.List.{List}
+use Prim.Native.Nat.{ℕ, _+_, _*_, _≤_, _<_}
+use lib.ListN.{length, getD}
+use Rattle.netlist.specs.Net.{Net}
+use Rattle.netlist.specs.Checks.{Loopless}
+use Rattle.netlist.specs.Copies.{Copy, IsCut}
+use Rattle.netlist.specs.Arrays.{stride, copiesFrom}
+use Rattle.netlist.specs.Wired.{Wired}
+use Rattle.netlist.specs.Tables.{tableOf}
+use Rattle.cones.specs.Ranks.{Ranked}
+use Rattle.cone.specs.Lists.{Wires}
+use Rattle.cone.specs.Words.{Tabled}
+
+-- r is the table of the LUT of gate g with leaves L, for every net with this wiring and these tables where L is a cut.
+pub record LutTable (I G : ℕ) (ps so co ts : List ℕ) (L : List Copy) (g r : ℕ) : Type 0 where
+  pub table : (N : Net) → Wired N I G ps so co → Tabled N I G ts → Ranked N → Loopless N → (k : ℕ) (J : IsCut N k (I + g) L) → r ≡ tableOf N (I + g) (J .cone) L
+
+-- the arrays of a net's gates and of its LUTs
+pub record Tabulates (I G : ℕ) (ps so co ts marks sizes nodes backs : List ℕ) : Type 0 where
+  pub wires : Wires I G ps so co
+  pub atTables : G ≤ length ts
+  pub atMarks : G ≤ length marks
+  pub atSizes : G ≤ length sizes
+  pub atNodes : stride * G ≤ length nodes
+  pub atBacks : stride * G ≤ length backs
+  pub few : (g : ℕ) → g < G → ¬ (getD marks g 0 ≡ 0) → getD sizes g 0 ≤ stride
+
+-- r is the table of gate g, where it has a mark
+pub record GateTable (I G : ℕ) (ps so co ts marks sizes nodes backs : List ℕ) (g r : ℕ) : Type 0 where
+  pub marked : ¬ (getD marks g 0 ≡ 0) → LutTable I G ps so co ts (copiesFrom nodes backs (stride * g) (getD sizes g 0)) g r
+
+-- the tables of the gates below n
+pub record Tabulated (I G : ℕ) (ps so co ts marks sizes nodes backs luts : List ℕ) (n : ℕ) : Type 0 where
+  pub each : (g : ℕ) → g < n → GateTable I G ps so co ts marks sizes nodes backs g (getD luts g 0)

@@ -1,0 +1,127 @@
+// The tables of the LUTs of a cover, each over the cone between a root and its leaves.
+use cone::Told;
+use cone::table;
+use cone::walk;
+ghost use mathlib.Core.Path.{_≡_};
+ghost use Prim.Native.Nat.{ℕ, _+_, _*_, _≤_, _<_};
+ghost use lib.ListN.{length, getD};
+ghost use Rattle.cone.specs.Lists.{Wires, copiesIn};
+ghost use Rattle.luts.specs.Luts.{LutTable, GateTable, Tabulates, Tabulated};
+
+// The table of the LUT of gate g over its n leaves; 0 where they are no cut.
+fn lut_table(
+    inputs: usize,
+    gates: usize,
+    pins: &[usize],
+    sources: &[usize],
+    counts: &[usize],
+    tables: &[u64],
+    leaf_nodes: &[usize],
+    leaf_backs: &[usize],
+    n: usize,
+    g: usize,
+) -> u64
+    requires { ⌜ Wires inputs gates (now pins) (now sources) (now counts) × (gates ≤ length (now tables)) × (n ≤ 6) × (n ≤ length (now «leaf_nodes»)) × (n ≤ length (now «leaf_backs»)) × (g < gates) ⌝ }
+    ensures { λ r. ⌜ LutTable inputs gates (now (pins .entry)) (now (sources .entry)) (now (counts .entry)) (now (tables .entry)) (copiesIn (now («leaf_nodes» .entry)) (now («leaf_backs» .entry)) n) g r ⌝ }
+{
+    let cone = walk(
+        inputs,
+        gates,
+        pins,
+        sources,
+        counts,
+        leaf_nodes,
+        leaf_backs,
+        n,
+        g,
+    );
+    let verdict = cone.verdict;
+    if let Told::NoCut = verdict {
+        return 0;
+    }
+    table(
+        inputs,
+        gates,
+        pins,
+        sources,
+        counts,
+        tables,
+        leaf_nodes,
+        leaf_backs,
+        n,
+        g,
+        cone,
+    )
+}
+
+// The table of the LUT of gate g, 0 where it has no mark.
+fn gate_table(
+    inputs: usize,
+    gates: usize,
+    pins: &[usize],
+    sources: &[usize],
+    counts: &[usize],
+    tables: &[u64],
+    marks: &[usize],
+    sizes: &[usize],
+    nodes: &[usize],
+    backs: &[usize],
+    g: usize,
+) -> u64
+    requires { ⌜ Tabulates inputs gates (now pins) (now sources) (now counts) (now tables) (now marks) (now sizes) (now nodes) (now backs) × (g < gates) ⌝ }
+    ensures { λ r. ⌜ GateTable inputs gates (now (pins .entry)) (now (sources .entry)) (now (counts .entry)) (now (tables .entry)) (now (marks .entry)) (now (sizes .entry)) (now (nodes .entry)) (now (backs .entry)) g r ⌝ }
+{
+    if marks[g] == 0 {
+        return 0;
+    }
+    let at = 6 * g;
+    let n = sizes[g];
+    lut_table(
+        inputs,
+        gates,
+        pins,
+        sources,
+        counts,
+        tables,
+        &nodes[at..],
+        &backs[at..],
+        n,
+        g,
+    )
+}
+
+// The tables of all gates with a mark.
+pub fn tabulate(
+    inputs: usize,
+    gates: usize,
+    pins: &[usize],
+    sources: &[usize],
+    counts: &[usize],
+    tables: &[u64],
+    marks: &[usize],
+    sizes: &[usize],
+    nodes: &[usize],
+    backs: &[usize],
+    luts: &mut [u64],
+)
+    requires { ⌜ Tabulates inputs gates (now pins) (now sources) (now counts) (now tables) (now marks) (now sizes) (now nodes) (now backs) × (gates ≤ length (now luts)) ⌝ }
+    ensures { λ _. ⌜ Tabulated inputs gates (now (pins .entry)) (now (sources .entry)) (now (counts .entry)) (now (tables .entry)) (now (marks .entry)) (now (sizes .entry)) (now (nodes .entry)) (now (backs .entry)) (now (luts .exit)) gates ⌝ }
+{
+    let mut g = 0;
+    while g < gates {
+        luts[g] = gate_table(
+            inputs,
+            gates,
+            pins,
+            sources,
+            counts,
+            tables,
+            marks,
+            sizes,
+            nodes,
+            backs,
+            g,
+        );
+        g += 1;
+    }
+}

@@ -1,0 +1,124 @@
+// Map: the key of the examination. A net, k and a target; a cover in the cover area, or a refusal.
+use reader::Verdict;
+use reader::Wiring;
+use reader::read_net;
+use scratch::clear_first;
+use solver::settle;
+use writer::write_cover;
+ghost use mathlib.Core.Path.{_≡_};
+ghost use Prim.Native.Nat.{_≤_, _<_};
+ghost use lib.ListN.{length};
+ghost use Rattle.netbytes.specs.Limits.{scratchArea};
+ghost use Rattle.records.specs.Outcomes.{mapOutcome, mapSizes};
+ghost use Rattle.mapper.specs.Answers.{answerOf, InRange};
+ghost use Rattle.mapper.specs.Mapping.{Mapping, MapsTo, MapsNet};
+
+// The record's length, or the number of the refusal.
+pub enum Answer {
+    Length(usize),
+    Refused(u8),
+}
+
+fn wide(x: u32) -> usize
+    ensures { λ r. ⌜ r ≡ x ⌝ }
+{
+    x as usize
+}
+
+// Checks 1, 2 and 3: 0, or the number of the first that fails.
+fn check_sizes(k: u32, target: u32, area: &[u8], scratch: &[u8]) -> u8
+    ensures { λ r. ⌜ r ≡ mapSizes k target (now (area .entry)) (now (scratch .entry)) ⌝ }
+{
+    if k < 2 {
+        return 1;
+    }
+    if 6 < k {
+        return 1;
+    }
+    if 32 < target {
+        return 2;
+    }
+    if area.len() < 962 {
+        return 3;
+    }
+    if scratch.len() < 65536 {
+        return 3;
+    }
+    0
+}
+
+fn narrow(x: usize) -> u8
+    requires { ⌜ x < 256 ⌝ }
+    ensures { λ r. ⌜ r ≡ x ⌝ }
+{
+    x as u8
+}
+
+// Checks 9 to 12 and the cover of a net read, with the engine's table in work.
+fn map_read(net: Wiring, k: usize, target: usize, area: &mut [u8], work: &mut [u8]) -> Answer
+    requires { ⌜ Mapping k target net (now area) (now work) ⌝ }
+    ensures { λ r. ⌜ MapsNet k target net (now (area .entry)) (now (area .exit)) (answerOf r) ⌝ }
+{
+    let mut labels = [0i64; 48];
+    let mut marks = [0usize; 32];
+    let mut sizes = [0usize; 32];
+    let mut nodes = [0usize; 192];
+    let mut backs = [0usize; 192];
+    let mut tables = [0u64; 32];
+    let s = settle(
+        net,
+        k,
+        target,
+        work,
+        &mut labels,
+        &mut marks,
+        &mut sizes,
+        &mut nodes,
+        &mut backs,
+        &mut tables,
+    );
+    let refusal = s.refusal;
+    if refusal > 0 {
+        return Answer::Refused(narrow(refusal));
+    }
+    let n = write_cover(
+        net.inputs,
+        net.gates,
+        s.period,
+        &labels,
+        &marks,
+        &sizes,
+        &nodes,
+        &backs,
+        &tables,
+        area,
+    );
+    Answer::Length(n)
+}
+
+// Checks 4 to 12 and the cover.
+fn map_bytes(net: &[u8], k: u32, target: u32, area: &mut [u8], work: &mut [u8]) -> Answer
+    requires { ⌜ (2 ≤ k) × (k ≤ 6) × (target ≤ 32) × (962 ≤ length (now area)) × (scratchArea ≤ length (now work)) ⌝ }
+    ensures { λ r. ⌜ MapsTo k target (now (net .entry)) (now (area .entry)) (now (area .exit)) (answerOf r) ⌝ }
+{
+    let w = read_net(net, k);
+    let v = w.verdict;
+    if let Verdict::Refused(n) = v {
+        return Answer::Refused(n);
+    }
+    map_read(w.net, wide(k), wide(target), area, work)
+}
+
+// Map, for every input.
+pub fn map(net: &[u8], k: u32, target: u32, area: &mut [u8], scratch: &mut [u8]) -> Answer
+    ensures outcome { λ r. ⌜ mapOutcome (now (net .entry)) k target (now (area .entry)) (now (scratch .entry)) ≡ record { answer = answerOf r; area = now (area .exit); scratch = now (scratch .exit) } ⌝ }
+    ensures small { λ r. ⌜ InRange (answerOf r) ⌝ }
+{
+    let r = check_sizes(k, target, area, scratch);
+    if r > 0 {
+        return Answer::Refused(r);
+    }
+    let answer = map_bytes(net, k, target, area, &mut scratch[..65536]);
+    clear_first(scratch, 65536);
+    answer
+}

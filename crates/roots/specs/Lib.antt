@@ -1,0 +1,4 @@
+pub mod Choosing
+pub mod Marking
+pub mod KeyCut
+pub mod Rounds

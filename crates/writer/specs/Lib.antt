@@ -1,0 +1,5 @@
+pub mod Writing
+pub mod Behind
+pub mod LutLaws
+pub mod CoverLaws
+pub mod LagLaws

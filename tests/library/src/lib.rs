@@ -1,0 +1,77 @@
+//! The proved mapper, called through its static library.
+
+pub mod nets;
+
+extern "C" {
+    fn kamfelu_map(
+        net: *const u8,
+        net_len: usize,
+        k: u32,
+        target: u32,
+        cover: *mut u8,
+        cover_len: usize,
+        scratch: *mut u8,
+        scratch_len: usize,
+    ) -> i64;
+
+    #[cfg(feature = "mark")]
+    fn kamfelu_mark(
+        net: *const u8,
+        net_len: usize,
+        k: u32,
+        record: *const u8,
+        record_len: usize,
+        scratch: *mut u8,
+        scratch_len: usize,
+    ) -> i64;
+}
+
+/// The record's length, or the refusal's number.
+pub fn map(
+    net: &[u8],
+    k: u32,
+    target: u32,
+    cover: &mut [u8],
+    scratch: &mut [u8],
+) -> Result<usize, u8> {
+    // SAFETY: each pointer goes with its slice's length, and the slices are apart.
+    told(unsafe {
+        kamfelu_map(
+            net.as_ptr(),
+            net.len(),
+            k,
+            target,
+            cover.as_mut_ptr(),
+            cover.len(),
+            scratch.as_mut_ptr(),
+            scratch.len(),
+        )
+    })
+}
+
+/// The excess, or the refusal's number.
+#[cfg(feature = "mark")]
+pub fn mark(net: &[u8], k: u32, record: &[u8], scratch: &mut [u8]) -> Result<usize, u8> {
+    // SAFETY: each pointer goes with its slice's length, and the slices are apart.
+    told(unsafe {
+        kamfelu_mark(
+            net.as_ptr(),
+            net.len(),
+            k,
+            record.as_ptr(),
+            record.len(),
+            scratch.as_mut_ptr(),
+            scratch.len(),
+        )
+    })
+}
+
+/// A negative answer is a refusal.
+fn told(answer: i64) -> Result<usize, u8> {
+    let size = answer.unsigned_abs();
+    if answer < 0 {
+        Err(u8::try_from(size).expect("a refusal's number"))
+    } else {
+        Ok(usize::try_from(size).expect("a length"))
+    }
+}

@@ -1,0 +1,195 @@
+//! Nets made by hand: document 01's, and families that need many sweeps or large cones.
+
+use second::encode::encode;
+use second::generate::{random_net, Shape};
+use second::{Gate, Net, Pin, Random};
+
+pub const AND: u64 = 8;
+
+/// A pin or an output: its source and its count.
+pub type Read = (usize, u32);
+
+/// Inputs, each gate's pins and table, outputs.
+pub fn net(inputs: usize, gates: &[(&[Read], u64)], outputs: &[Read]) -> Net {
+    let reads = |list: &[Read]| -> Vec<Pin> {
+        let pin = |&(source, count): &Read| Pin { source, count };
+        list.iter().map(pin).collect()
+    };
+    let gate = |&(pins, table): &(&[Read], u64)| Gate {
+        pins: reads(pins),
+        table,
+    };
+    Net {
+        inputs,
+        gates: gates.iter().map(gate).collect(),
+        outputs: reads(outputs),
+    }
+}
+
+/// Net A as document 01 gives its bytes.
+pub fn net_a() -> Vec<u8> {
+    vec![
+        0x02, 0x03, 0x01, 0x03, 0x00, 0x00, 0x01, 0x08, 0x03, 0x02, 0x02, 0x04, 0x01, 0x06, 0x01,
+        0x00, 0x03, 0x01, 0x00, 0x04,
+    ]
+}
+
+/// Net B; its output reads gate 4 through `count` registers.
+pub fn net_b(count: u32) -> Vec<u8> {
+    let gates: [(&[Read], u64); 2] = [(&[(0, 0), (1, 0)], AND), (&[(3, 0), (2, 0)], AND)];
+    encode(&net(3, &gates, &[(4, count)]))
+}
+
+pub fn net_c() -> Vec<u8> {
+    encode(&net(2, &[(&[(0, 1), (1, 1)], AND)], &[(2, 0)]))
+}
+
+/// A line of gates with one pin each, of so many registers.
+pub fn line(gates: usize, count: u32) -> Net {
+    let pins: Vec<[Read; 1]> = (0..gates).map(|i| [(i, count)]).collect();
+    let gates: Vec<(&[Read], u64)> = pins.iter().map(|pins| (&pins[..], 2)).collect();
+    net(1, &gates, &[(gates.len(), 0)])
+}
+
+/// A line of AND gates: each reads the one before and an input of its own through
+/// `count` registers. The output has `at_output` registers.
+pub fn and_line(gates: usize, count: u32, at_output: u32) -> Net {
+    let inputs = gates + 1;
+    let mut pins = vec![[(0, count), (1, count)]];
+    for i in 1..gates {
+        pins.push([(inputs + i - 1, 0), (i + 1, count)]);
+    }
+    let gates: Vec<(&[Read], u64)> = pins.iter().map(|pins| (&pins[..], AND)).collect();
+    net(inputs, &gates, &[(inputs + gates.len() - 1, at_output)])
+}
+
+/// Six leaves with registers for each of 32 roots: the largest record, 962 bytes at k 6.
+pub fn largest_record() -> Net {
+    let mut pins: Vec<Vec<Read>> = Vec::new();
+    for i in 0..16 {
+        pins.push((0..6).map(|j| ((i + j) % 16, 1)).collect());
+    }
+    for i in 0..16 {
+        let mut own: Vec<Read> = (0..5).map(|j| ((i + j + 7) % 16, 1)).collect();
+        own.push((16 + i, 1));
+        pins.push(own);
+    }
+    let gates: Vec<(&[Read], u64)> = pins.iter().map(|pins| (&pins[..], 1 << 63)).collect();
+    let outputs: Vec<Read> = (0..16).map(|i| (32 + i, 0)).collect();
+    net(16, &gates, &outputs)
+}
+
+/// What a ring looks like.
+#[derive(Clone, Copy, Debug)]
+pub struct Ring {
+    pub gates: usize,
+    /// Gates of the ring; the others are a line from gate 0 of the ring to the output.
+    pub round: usize,
+    /// Registers on the pin that closes the ring, at least 1.
+    pub close: u32,
+    /// Registers on each pin of the line to the output.
+    pub far: u32,
+    /// Inputs; gate i reads input i modulo this.
+    pub inputs: usize,
+    /// Registers on the pins that read inputs.
+    pub entry: u32,
+    /// The number of pins of a gate of the ring: the ring's pin, then inputs.
+    pub pins: usize,
+}
+
+/// A ring against the numbering: each gate reads the next higher one without a register,
+/// the highest reads the lowest through the closing registers.
+pub fn ring(ring: Ring) -> Net {
+    let first = ring.inputs;
+    let mut pins: Vec<Vec<Read>> = Vec::new();
+    for i in 0..ring.round {
+        let mut own = if i + 1 < ring.round {
+            vec![(first + i + 1, 0)]
+        } else {
+            vec![(first, ring.close)]
+        };
+        own.extend((1..ring.pins).map(|j| ((i + j) % ring.inputs, ring.entry)));
+        pins.push(own);
+    }
+    for i in ring.round..ring.gates {
+        let source = if i == ring.round {
+            first
+        } else {
+            first + i - 1
+        };
+        pins.push(vec![(source, ring.far)]);
+    }
+    // Parity needs every pin.
+    let table =
+        |pins: usize| (0..1u64 << pins).fold(0, |t, i| t | u64::from(i.count_ones() % 2) << i);
+    let gates: Vec<(&[Read], u64)> = pins
+        .iter()
+        .map(|own| (&own[..], table(own.len())))
+        .collect();
+    let end = if ring.gates == ring.round {
+        first
+    } else {
+        first + ring.gates - 1
+    };
+    net(ring.inputs, &gates, &[(end, 0)])
+}
+
+/// The names of the slow families.
+pub const FAMILIES: [&str; 4] = ["ring", "far output", "registers", "tangle"];
+
+/// A net of a family with so many gates and at most so many pins a gate.
+pub fn of_family(family: usize, random: &mut Random, gates: usize, pins: usize) -> Net {
+    let own = random.within(2, pins);
+    match family {
+        // A ring of all gates.
+        0 => ring(Ring {
+            gates,
+            round: gates,
+            close: random.within(1, 3) as u32,
+            far: 0,
+            inputs: random.within(1, 16),
+            entry: random.below(4) as u32,
+            pins: own,
+        }),
+        // A ring whose output is up to 3 registers a gate away.
+        1 => ring(Ring {
+            gates,
+            round: random.within(1, gates),
+            close: random.within(1, 3) as u32,
+            far: random.within(1, 3) as u32,
+            inputs: random.within(1, 16),
+            entry: random.below(4) as u32,
+            pins: own,
+        }),
+        // Registers on every pin.
+        2 => random_net(
+            random,
+            &Shape {
+                inputs: (1, 3),
+                gates: (gates, gates),
+                outputs: (1, 1),
+                pins: (2, own),
+                count: 3,
+                registers: 100,
+                back: 50,
+                twin: 10,
+                input: 5,
+            },
+        ),
+        // Few registers, many loops, one input.
+        _ => {
+            let shape = Shape {
+                inputs: (1, 1),
+                gates: (gates, gates),
+                outputs: (1, 1),
+                pins: (1, own),
+                count: random.within(1, 3) as u32,
+                registers: random.pick(&[0, 10, 30]),
+                back: random.pick(&[20, 50]),
+                twin: 0,
+                input: 0,
+            };
+            random_net(random, &shape)
+        }
+    }
+}
