@@ -1,10 +1,15 @@
 # make run: the main job on an example net. make test: the whole gate.
-.PHONY: run test second library bench depth
+.PHONY: run test programs second library bench depth
 
-# The second mapper's listing of net A, for k 2 and the least period.
-run: second
-	tests/target/release/second listing < examples/net-a.bin
+# The listing of net A, for k 2 and the least period.
+run: programs
+	@target/bin/listing < examples/net-a.bin
 
+# The proved programs, in target/bin.
+programs:
+	@test -x target/bin/listing || rt check listing > .rt-programs.log 2>&1 || { tail -n 60 .rt-programs.log; exit 1; }
+
+# The second mapper, for comparison.
 second:
 	cd tests && cargo build --release --offline --quiet
 
@@ -25,6 +30,6 @@ depth: library
 test:
 	rt fmt --check
 	rt ci > .rt-ci.log 2>&1 || { tail -n 60 .rt-ci.log; exit 1; }
-	$(MAKE) --no-print-directory library
+	$(MAKE) --no-print-directory library programs
 	cd tests && cargo test --release --offline --quiet --workspace
 	@cat .rt-ci.log

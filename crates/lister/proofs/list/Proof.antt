@@ -1,0 +1,64 @@
+-- `lister::list` meets its contract: the listing of the input's parts.
+use denote.Ref.{now}
+use mathlib.Core.Path.{_∙_}
+use Rattle.luts.specs.LutLaws.{behind}
+use Rattle.lister.specs.Texts.{wrote-as}
+use Rattle.lister.specs.Inputs.{listed-parts}
+use borrow.Author.Needs.{needs}
+use Rattle.lister.proofs.list.Statement.{statement}
+use Rattle.lister.proofs.list.Tie as tie
+use Rattle.lister.proofs.list.Reads as reads
+use Rattle.lister.proofs.list.Lts as lts
+use Rattle.lister.proofs.byte_at.Reads as byte-at-reads
+use Rattle.lister.proofs.list_parts.Reads as list-parts-reads
+use Rattle.lister.proofs.net_place.Reads as net-place-reads
+
+-- src/lib.rt:138:9
+byte-at-requires : tie.Need-byte-at-requires
+byte-at-requires c κs = search needs
+
+-- src/lib.rt:139:9
+byte-at-requires-2 : tie.Need-byte-at-requires-2
+byte-at-requires-2 c κs = search needs
+
+-- src/lib.rt:140:9
+net-place-requires : tie.Need-net-place-requires
+net-place-requires c κs = search needs
+
+-- src/lib.rt:141:27
+sub-list-parts : tie.Need-sub-list-parts
+sub-list-parts c = search needs
+
+-- src/lib.rt:141:27
+part-list-parts-start : tie.Need-part-list-parts-start
+part-list-parts-start c = search needs
+
+-- src/lib.rt:141:27
+part-list-parts-end : tie.Need-part-list-parts-end
+part-list-parts-end c = search needs
+
+-- src/lib.rt:141:5
+list-parts-requires : tie.Need-list-parts-requires
+list-parts-requires c κs = search needs
+
+-- src/lib.rt:134:1
+same-length : tie.Need-same-length
+same-length c = search needs
+
+-- src/lib.rt:134:1
+returns : tie.Need-returns
+returns c = wrote-as (listed-parts (now (c .before .before .before .before .before .before .before .before .before .before .args .input)) _ _ _ (c .before .before .before .before .before .before .before .byte-at .ensures) (c .before .before .before .before .before .before .byte-at2 .ensures) (behind (now (c .before .before .before .before .before .before .before .before .before .before .args .input)) (c .before .before .before .before .before .net-place .result) ∙ c .before .before .before .before .before .net-place .ensures .1)) (c .before .before .list-parts .ensures)
+
+pub list-spec : {M : Type 1} → statement M
+list-spec =
+    tie.close
+    (tie.spec
+    byte-at-requires
+    byte-at-requires-2
+    net-place-requires
+    sub-list-parts
+    part-list-parts-start
+    part-list-parts-end
+    list-parts-requires
+    same-length
+    returns)

@@ -1,0 +1,77 @@
+-- `lister::list_net` meets its contract: a refusal of the walk, or the text for the net read.
+use denote.Ref.{now}
+use Rattle.lister.specs.Texts.{walk-refused, walk-listing, walk-lists}
+use borrow.Author.Needs.{needs}
+use Rattle.lister.proofs.list_net.Statement.{statement}
+use Rattle.lister.proofs.list_net.Tie as tie
+use Rattle.lister.proofs.list_net.Reads as reads
+use Rattle.lister.proofs.list_net.Lts as lts
+use Rattle.lister.proofs.list_read.Reads as list-read-reads
+use Rattle.lister.proofs.number.Reads as number-reads
+use Rattle.lister.proofs.wide.Reads as wide-reads
+use Rattle.reader.proofs.read_net.Reads as read-net-reads
+use Rattle.text.proofs.write_refusal.Reads as write-refusal-reads
+
+-- src/lib.rt:88:9
+read-net-requires : tie.Need-read-net-requires
+read-net-requires c κs = search needs
+
+-- src/lib.rt:90:29
+enum-known-v : tie.Need-enum-known-v
+enum-known-v c = search needs
+
+-- src/lib.rt:91:30
+number-requires : tie.Need-number-requires
+number-requires c κs = search needs
+
+-- src/lib.rt:91:9
+write-refusal-requires : tie.Need-write-refusal-requires
+write-refusal-requires c κs = search needs
+
+-- src/lib.rt:91:9
+same-length : tie.Need-same-length
+same-length c = search needs
+
+-- src/lib.rt:91:9
+returns : tie.Need-returns
+returns c = walk-refused (c .before .before .before .before .before .before .before .before .before .before .before .args .k) (c .before .before .before .before .before .before .before .before .before .before .before .args .target) (now (c .before .before .before .before .before .before .before .before .before .before .before .args .net)) (c .before .before .before .before .before .before .before .before .read-net .result) (c .before .before .before .before .before .before .before .before .read-net .ensures) (c .before .before .before .before .before .before .v .given .1) (c .before .before .before .before .number .ensures) (c .before .before .write-refusal .ensures)
+
+enum-told : tie.Need-enum-told
+enum-told c = search needs
+
+-- src/lib.rt:93:22
+wide-requires : tie.Need-wide-requires
+wide-requires c κs = search needs
+
+-- src/lib.rt:93:31
+wide-requires-2 : tie.Need-wide-requires-2
+wide-requires-2 c κs = search needs
+
+-- src/lib.rt:93:5
+list-read-requires : tie.Need-list-read-requires
+list-read-requires c κs = let p = c .before .before .before .before .before .before .before .before .pre in walk-listing (c .before .before .before .before .before .before .before .before .args .k) (c .before .before .before .before .before .before .before .before .args .target) (now (c .before .before .before .before .before .before .before .before .args .net)) (c .before .before .before .before .before .read-net .result) (c .before .before .before .before .before .read-net .ensures) (c .before .before .before .enum-told .given .1) (c .before .before .wide .ensures) (c .before .wide2 .ensures) (p .0) (p .1) (p .2) (p .3)
+
+-- src/lib.rt:84:1
+same-length-2 : tie.Need-same-length-2
+same-length-2 c = search needs
+
+-- src/lib.rt:84:1
+returns-2 : tie.Need-returns-2
+returns-2 c = walk-lists (c .before .before .before .before .before .before .before .before .before .before .before .args .k) (c .before .before .before .before .before .before .before .before .before .before .before .args .target) (now (c .before .before .before .before .before .before .before .before .before .before .before .args .net)) (c .before .before .before .before .before .before .before .before .read-net .result) (c .before .before .before .before .before .before .before .before .read-net .ensures) (c .before .before .before .before .before .before .enum-told .given .1) (c .before .before .before .before .before .wide .ensures) (c .before .before .before .before .wide2 .ensures) (c .before .before .list-read .ensures)
+
+pub list-net-spec : {M : Type 1} → statement M
+list-net-spec =
+    tie.close
+    (tie.spec
+    read-net-requires
+    enum-known-v
+    number-requires
+    write-refusal-requires
+    same-length
+    returns
+    enum-told
+    wide-requires
+    wide-requires-2
+    list-read-requires
+    same-length-2
+    returns-2)

@@ -1,0 +1,142 @@
+// The listing: from the bytes read (k, the target, the net) to the text printed.
+use reader::Verdict;
+use reader::Wiring;
+use reader::read_net;
+use solver::settle;
+use text::write_refusal;
+use text::write_text;
+ghost use mathlib.Core.Path.{_≡_};
+ghost use Prim.Native.Nat.{_≤_, _<_};
+ghost use lib.ListN.{length, getD, drop};
+ghost use Rattle.netbytes.specs.Walk.{rest};
+ghost use Rattle.records.specs.Outcomes.{checkNet};
+ghost use Rattle.records.specs.Program.{listChecked, listing, listingProgram};
+ghost use Rattle.writer.specs.Writing.{Wrote};
+ghost use Rattle.text.specs.Text.{textRoom};
+ghost use Rattle.lister.specs.Asked.{Listing, ListsNet};
+
+fn wide(x: u32) -> usize
+    ensures { λ r. ⌜ r ≡ x ⌝ }
+{
+    x as usize
+}
+
+fn number(x: u8) -> usize
+    ensures { λ r. ⌜ r ≡ x ⌝ }
+{
+    x as usize
+}
+
+fn byte(x: u8) -> u32
+    ensures { λ r. ⌜ r ≡ x ⌝ }
+{
+    x as u32
+}
+
+// Checks 9 to 12 and the cover of a net read.
+fn list_read(net: Wiring, k: usize, target: usize, out: &mut [u8]) -> usize
+    requires { ⌜ Listing k target net (now out) ⌝ }
+    ensures { λ r. ⌜ ListsNet k target net (now (out .entry)) (now (out .exit)) r ⌝ }
+{
+    let mut work = [0u8; 27840];
+    let mut labels = [0i64; 48];
+    let mut marks = [0usize; 32];
+    let mut sizes = [0usize; 32];
+    let mut nodes = [0usize; 192];
+    let mut backs = [0usize; 192];
+    let mut tables = [0u64; 32];
+    let s = settle(
+        net,
+        k,
+        target,
+        &mut work,
+        &mut labels,
+        &mut marks,
+        &mut sizes,
+        &mut nodes,
+        &mut backs,
+        &mut tables,
+    );
+    let refusal = s.refusal;
+    if refusal > 0 {
+        return write_refusal(refusal, out);
+    }
+    let outs = net.out_sources;
+    let delays = net.out_counts;
+    write_text(
+        net.inputs,
+        net.gates,
+        s.period,
+        &labels,
+        &marks,
+        &sizes,
+        &nodes,
+        &backs,
+        &tables,
+        &outs,
+        &delays,
+        net.outputs,
+        out,
+    )
+}
+
+// Checks 4 to 12 and the cover.
+fn list_net(net: &[u8], k: u32, target: u32, out: &mut [u8]) -> usize
+    requires { ⌜ (2 ≤ k) × (k ≤ 6) × (target ≤ 32) × (textRoom ≤ length (now out)) ⌝ }
+    ensures { λ r. ⌜ Wrote (listChecked k target (checkNet k (now (net .entry)))) (now (out .entry)) (now (out .exit)) r ⌝ }
+{
+    let w = read_net(net, k);
+    let v = w.verdict;
+    if let Verdict::Refused(n) = v {
+        return write_refusal(number(n), out);
+    }
+    list_read(w.net, wide(k), wide(target), out)
+}
+
+// All checks and the cover.
+fn list_parts(k: u32, target: u32, net: &[u8], out: &mut [u8]) -> usize
+    requires { ⌜ textRoom ≤ length (now out) ⌝ }
+    ensures { λ r. ⌜ Wrote (listing k target (now (net .entry))) (now (out .entry)) (now (out .exit)) r ⌝ }
+{
+    if k < 2 {
+        return write_refusal(1, out);
+    }
+    if 6 < k {
+        return write_refusal(1, out);
+    }
+    if 32 < target {
+        return write_refusal(2, out);
+    }
+    list_net(net, k, target, out)
+}
+
+// The byte at a place, 0 where it is missing.
+fn byte_at(bytes: &[u8], i: usize) -> u32
+    ensures { λ r. ⌜ r ≡ getD (now (bytes .entry)) i 0 ⌝ }
+{
+    if i < bytes.len() {
+        return byte(bytes[i]);
+    }
+    0
+}
+
+// The place behind k and the target.
+fn net_place(input: &[u8]) -> usize
+    ensures { λ r. ⌜ (r ≤ length (now (input .entry))) × (drop r (now (input .entry)) ≡ rest (rest (now (input .entry)))) ⌝ }
+{
+    if input.len() < 2 {
+        return input.len();
+    }
+    2
+}
+
+// The text for every input, in front of out; the bytes behind it are kept.
+pub fn list(input: &[u8], out: &mut [u8]) -> usize
+    requires { ⌜ textRoom ≤ length (now out) ⌝ }
+    ensures { λ r. ⌜ Wrote (listingProgram (now (input .entry))) (now (out .entry)) (now (out .exit)) r ⌝ }
+{
+    let k = byte_at(input, 0);
+    let target = byte_at(input, 1);
+    let at = net_place(input);
+    list_parts(k, target, &input[at..], out)
+}

@@ -1,0 +1,96 @@
+//! The program `listing` over standard input and output, against the second mapper's text.
+
+use library::nets::{largest_record, net_a, net_b, net_c};
+use second::damage::damaged_net;
+use second::encode::encode;
+use second::generate::{random_net, Shape};
+use second::listing::listing;
+use second::Random;
+use std::io::Write;
+use std::process::{Command, Stdio};
+
+const PROGRAM: &str = concat!(env!("CARGO_MANIFEST_DIR"), "/../../target/bin/listing");
+
+fn printed(given: &[u8]) -> String {
+    let mut child = Command::new(PROGRAM)
+        .stdin(Stdio::piped())
+        .stdout(Stdio::piped())
+        .spawn()
+        .expect("the program starts; `make programs` builds it");
+    let _ = child.stdin.take().unwrap().write_all(given);
+    let output = child.wait_with_output().unwrap();
+    assert!(output.status.success());
+    String::from_utf8(output.stdout).unwrap()
+}
+
+fn same(k: u8, target: u8, net: &[u8]) -> String {
+    let text = printed(&[&[k, target], net].concat());
+    assert_eq!(
+        text,
+        listing(k.into(), target.into(), net),
+        "k {k} target {target} net {net:02x?}"
+    );
+    text
+}
+
+#[test]
+fn examples() {
+    assert_eq!(
+        same(2, 0, &net_a()),
+        "period 2 luts 2 registers 1\n\
+        lut 2 label 1 lag 0 table 8 leaves 0:0 1:0\n\
+        lut 4 label 2 lag 0 table 9 leaves 2:0 4:1\n"
+    );
+    assert_eq!(same(2, 1, &net_a()), "refused 12\n");
+    for k in 1..8 {
+        for target in [0, 1, 2, 3, 32, 33, 255] {
+            for net in [
+                net_a(),
+                net_b(0),
+                net_b(1),
+                net_c(),
+                encode(&largest_record()),
+            ] {
+                same(k, target, &net);
+            }
+        }
+    }
+}
+
+#[test]
+fn refusals() {
+    assert_eq!(printed(&[]), "refused 1\n");
+    assert_eq!(printed(&[2]), "refused 4\n");
+    assert_eq!(printed(&[2, 33]), "refused 2\n");
+    assert_eq!(printed(&[7, 33]), "refused 1\n");
+    assert_eq!(same(2, 0, &[17]), "refused 5\n");
+    assert_eq!(same(2, 0, &[1, 1, 1, 0]), "refused 6\n");
+    assert_eq!(same(2, 0, &[1, 1, 1, 7]), "refused 7\n");
+    assert_eq!(same(2, 0, &[net_a(), vec![0]].concat()), "refused 8\n");
+    assert_eq!(
+        same(2, 0, &[net_a(), vec![0; 100_000]].concat()),
+        "refused 8\n"
+    );
+    // one gate that reads itself, without and with a register, and an output that reads the input
+    assert_eq!(same(2, 0, &[1, 1, 1, 1, 0, 1, 2, 0, 1]), "refused 9\n");
+    assert_eq!(same(2, 0, &[1, 1, 1, 1, 1, 1, 1, 2, 0, 1]), "refused 10\n");
+    assert_eq!(same(2, 0, &[1, 1, 1, 1, 0, 0, 2, 0, 0]), "refused 11\n");
+}
+
+#[test]
+fn random_nets() {
+    let mut random = Random::new(7);
+    for turn in 0..400 {
+        let gates = random.within(1, 14);
+        let shape = Shape::any(&mut random, gates, 4);
+        let net = encode(&random_net(&mut random, &shape));
+        let net = if turn % 4 == 0 {
+            damaged_net(&mut random, &net)
+        } else {
+            net
+        };
+        let k = random.within(2, 5) as u8;
+        let target = random.pick(&[0, 0, 1, 2, 3]);
+        same(k, target, &net);
+    }
+}
