@@ -1,9 +1,10 @@
 # make run: the main job on an example net. make test: the whole gate.
 .PHONY: run test programs second library bench depth
 
-# The listing of net A, for k 2 and the least period.
+# The listing of a net: NET is a file with k, the target and the net record.
+NET ?= examples/net-a.bin
 run: programs
-	@target/bin/listing < examples/net-a.bin
+	@target/bin/listing < $(NET)
 
 # The proved programs, in target/bin.
 programs:
