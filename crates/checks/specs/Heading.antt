@@ -1,4 +1,4 @@
--- Check 11 by marks: a gate is marked once it is read by an output or by a marked gate; its mark is 1 more than the registers on a path from it to an output.
+-- Check 11 by marks: a gate is marked once it is read by an output or by a marked gate, and its mark falls; it is 1 more than the registers on a path from it to an output, at last the fewest.
 use mathlib.Core.Path.{_≡_, refl, sym, ap, _∙_, subst}
 use mathlib.Core.Bool.{Bool, true, false}
 use mathlib.Core.List.{List, [], _∷_}
@@ -15,9 +15,9 @@ use Rattle.netlist.specs.Arrays.{stride, pinsIn}
 use Rattle.netlist.specs.ArrayLaws.{pinAt, in-pinsIn, pinsIn-in}
 use Rattle.netlist.specs.Wired.{Wired, wired-gate, gate-wired, wired-pin, pin-wired}
 use Rattle.netlist.specs.Checks.{Leading, AllLeading}
-use Rattle.labelling.specs.Pins.{OutPath, last, then}
-use Rattle.checks.specs.Marks.{Tells, Marked, Known, Grown, Wires, unmarked}
-use Rattle.checks.specs.MarkLaws.{grown-none, grown-one, grown-trans, unmarked-bound}
+use Rattle.labelling.specs.Pins.{OutPath, last, then, out-path}
+use Rattle.checks.specs.Marks.{Tells, Marked, Low, Above, Fallen, Wires, unmarked, left}
+use Rattle.checks.specs.MarkLaws.{low-more, gate-low, low-falls, fallen-none, fallen-one, fallen-trans, left-fits, unmarked-set, unmarked-bound}
 
 -- the outputs of a net, kept in arrays
 abbrev pub Ended : Net → ℕ → List ℕ → List ℕ → Type 0
@@ -26,6 +26,10 @@ Ended N O os oc = N .outputs ≡ pinsIn os oc 0 O
 -- a bound on counts, far above any net's
 abbrev pub mostRegisters : ℕ
 mostRegisters = 1000
+
+-- above every mark
+abbrev pub topOf : ℕ → ℕ
+topOf G = 2 + mostRegisters * (1 + G)
 
 pub record Heading (I G O : ℕ) (ps sources counts os oc m : List ℕ) : Type 0 where
   pub size : length m ≡ G
@@ -36,47 +40,42 @@ pub record Heading (I G O : ℕ) (ps sources counts os oc m : List ℕ) : Type 0
 abbrev pub Heads : ℕ → ℕ → ℕ → List ℕ → List ℕ → List ℕ → List ℕ → List ℕ → ℕ → ℕ → Type 0
 Heads I G O ps sources counts os oc u v = (N : Net) → Wired N I G ps sources counts → Ended N O os oc → OutPath N u (v - 1)
 
-pub record Push (I G O : ℕ) (ps sources counts os oc m m′ : List ℕ) (u r : ℕ) : Type 0 where
-  pub grown : Grown m m′ r
+pub record Push (I G O : ℕ) (ps sources counts os oc m m′ : List ℕ) (u v r : ℕ) : Type 0 where
+  pub fallen : Fallen (topOf G) m m′ r
   pub heading : Heading I G O ps sources counts os oc m′
-  pub known : Known I m′ u
+  pub low : Low I m′ u v
 
--- each source of gate g's first n pins is known
-abbrev pub Pushed : ℕ → List ℕ → List ℕ → ℕ → ℕ → Type 0
-Pushed I sources m g n = (j : ℕ) → j < n → Known I m (getD sources (stride * g + j) 0)
+-- each source of gate g's first n pins is low: at most its count above `base`
+abbrev pub Pushed : ℕ → List ℕ → List ℕ → List ℕ → ℕ → ℕ → ℕ → Type 0
+Pushed I sources counts m g n base = (j : ℕ) → j < n → Low I m (getD sources (stride * g + j) 0) (base + getD counts (stride * g + j) 0)
 
 pub record PushPins (I G O : ℕ) (ps sources counts os oc m m′ : List ℕ) (g n r : ℕ) : Type 0 where
-  pub grown : Grown m m′ r
+  pub fallen : Fallen (topOf G) m m′ r
   pub heading : Heading I G O ps sources counts os oc m′
-  pub pushed : Pushed I sources m′ g n
+  pub pushed : Pushed I sources counts m′ g n (getD m g 0)
 
 pub record PushSweep (I G O : ℕ) (ps sources counts os oc m m′ : List ℕ) (n r : ℕ) : Type 0 where
-  pub grown : Grown m m′ r
+  pub fallen : Fallen (topOf G) m m′ r
   pub heading : Heading I G O ps sources counts os oc m′
-  pub pushed : r ≡ 0 → (g : ℕ) → g < n → Marked m′ g → Pushed I sources m′ g (getD ps g 0)
+  pub pushed : r ≡ 0 → (g : ℕ) → g < n → Marked m′ g → Pushed I sources counts m′ g (getD ps g 0) (getD m′ g 0)
 
 -- what an output reads leads to it
 pub output-heads : (I G O : ℕ) (ps sources counts os oc : List ℕ) (i : ℕ) → i < O → Heads I G O ps sources counts os oc (getD os i 0) (getD oc i 0 + 1)
 output-heads I G O ps sources counts os oc i h N w e =
     last {c = getD oc i 0 + 1 - 1} (pinAt os oc i) (subst (λ (l : List Pin). pinAt os oc i ∈ l) (sym e) (subst (λ (x : ℕ). pinAt os oc x ∈ pinsIn os oc 0 O) (zero-add i) (in-pinsIn os oc 0 O i h))) refl (omega arith)
 
--- what pushing value v to node u does: nothing to a known node, else the mark is put
+-- what pushing value v to node u does: nothing to a low node, else the mark is put
 pub data Told (I : ℕ) (m m′ : List ℕ) (u v r : ℕ) : Type 0 where
-  kept : r ≡ 0 → m′ ≡ m → Known I m u → Told I m m′ u v r
-  put : r ≡ 1 → m′ ≡ set m (u - I) v → I ≤ u → getD m (u - I) 0 ≡ 0 → Told I m m′ u v r
-
--- what is known stays known
-pub known-grows : {I r : ℕ} {m m′ : List ℕ} → Grown m m′ r → (u : ℕ) → Known I m u → Known I m′ u
-known-grows a u (inl i) = inl i
-known-grows a u (inr (g, e, k)) = inr (g, e, λ z. k (sym (a .kept g k) ∙ z))
+  kept : r ≡ 0 → m′ ≡ m → Low I m u v → Told I m m′ u v r
+  put : r ≡ 1 → m′ ≡ set m (u - I) v → I ≤ u → Above v (getD m (u - I) 0) → Told I m m′ u v r
 
 module _ {I G O : ℕ} {ps sources counts os oc : List ℕ} where
-  pub push-new : {m : List ℕ} (u v : ℕ) → I ≤ u → u < I + G → getD m (u - I) 0 ≡ 0 → 1 ≤ v → v + mostRegisters * unmarked m ≤ 1 + mostRegisters * (2 + G)
-      → Heads I G O ps sources counts os oc u v → Heading I G O ps sources counts os oc m → Push I G O ps sources counts os oc m (set m (u - I) v) u 1
-  push-new {m} u v low high z one b heads a = record {
-    grown = grown;
-    heading = record { size = grown .size ∙ a .size; bound = λ i. bound i (ℕ-discrete i g); path = λ N w e i h k. path N w e i h k (ℕ-discrete i g) };
-    known = inr (g, omega arith, λ x. absurd (bad one (sym at ∙ x)));
+  pub push-new : {m : List ℕ} (u v : ℕ) → I ≤ u → u < I + G → Above v (getD m (u - I) 0) → 1 ≤ v → v + mostRegisters * unmarked m ≤ 1 + mostRegisters * (2 + G)
+      → Heads I G O ps sources counts os oc u v → Heading I G O ps sources counts os oc m → Push I G O ps sources counts os oc m (set m (u - I) v) u v 1
+  push-new {m} u v low high o one b heads a = record {
+    fallen = fallen;
+    heading = record { size = fallen .size ∙ a .size; bound = λ i. bound i (ℕ-discrete i g) o; path = λ N w e i h k. path N w e i h k (ℕ-discrete i g) };
+    low = inr (g, omega arith, (λ x. bad (sym at ∙ x)), (let q = at in omega arith));
   }
     where
       g : ℕ
@@ -85,18 +84,23 @@ module _ {I G O : ℕ} {ps sources counts os oc : List ℕ} where
       inside : g < length m
       inside = let x = a .size in omega arith
 
-      grown : Grown m (set m g v) 1
-      grown = grown-one m g v inside z (λ e. omega arith)
+      bad : v ≡ 0 → ⊥
+      bad e = omega arith
 
-      bad : 1 ≤ v → v ≡ 0 → ⊥
-      bad h e = omega arith
+      under : Above v (getD m g 0) → v < topOf G
+      under (inl z) = let x = unmarked-set m g v inside z bad in omega arith
+      under (inr l) = let x = a .bound g in omega arith
+
+      fallen : Fallen (topOf G) m (set m g v) 1
+      fallen = fallen-one (topOf G) m g v inside o bad (under o)
 
       at : getD (set m g v) g 0 ≡ v
       at = getD-set-same m g v 0 inside
 
-      bound : (i : ℕ) → Dec (i ≡ g) → getD (set m g v) i 0 + mostRegisters * unmarked (set m g v) ≤ 1 + mostRegisters * (1 + G)
-      bound i (yes e) = let x = grown .new in let y = at in let q = ap (λ (k : ℕ). getD (set m g v) k 0) e in omega arith
-      bound i (no n) = let x = grown .new in let y = getD-set-other m g i v 0 n in let w = a .bound i in omega arith
+      bound : (i : ℕ) → Dec (i ≡ g) → Above v (getD m g 0) → getD (set m g v) i 0 + mostRegisters * unmarked (set m g v) ≤ 1 + mostRegisters * (1 + G)
+      bound i (yes e) (inl z) = let x = unmarked-set m g v inside z bad in let y = at in let q = ap (λ (k : ℕ). getD (set m g v) k 0) e in omega arith
+      bound i (yes e) (inr l) = let x = fallen .fewer in let y = at in let q = ap (λ (k : ℕ). getD (set m g v) k 0) e in let w = a .bound g in omega arith
+      bound i (no n) p = let x = fallen .fewer in let y = getD-set-other m g i v 0 n in let w = a .bound i in omega arith
 
       path : (N : Net) → Wired N I G ps sources counts → Ended N O os oc → (i : ℕ) → i < G → Marked (set m g v) i → Dec (i ≡ g) → OutPath N (I + i) (getD (set m g v) i 0 - 1)
       path N w e i h k (yes q) =
@@ -110,10 +114,14 @@ module _ {I G O : ℕ} {ps sources counts os oc : List ℕ} where
           subst (λ (x : ℕ). OutPath N (I + i) (x - 1)) (sym o) (a .path N w e i h (λ x. k (o ∙ x)))
 
   pub push-told : {m m′ : List ℕ} {r : ℕ} (u v : ℕ) → u < I + G → 1 ≤ v → v + mostRegisters * unmarked m ≤ 1 + mostRegisters * (2 + G)
-      → Heads I G O ps sources counts os oc u v → Heading I G O ps sources counts os oc m → Told I m m′ u v r → Push I G O ps sources counts os oc m m′ u r
+      → Heads I G O ps sources counts os oc u v → Heading I G O ps sources counts os oc m → Told I m m′ u v r → Push I G O ps sources counts os oc m m′ u v r
   push-told {m} {m′} {r} u v h one b heads a (kept e q k) =
-      rw e (rw q (record { grown = grown-none m; heading = a; known = k }))
+      rw e (rw q (record { fallen = fallen-none (topOf G) m; heading = a; low = k }))
   push-told {m} {m′} {r} u v h one b heads a (put e q l z) = rw e (rw q (push-new u v l h z one b heads a))
+
+  -- a sum of pushes fits
+  pub left-fit : {m : List ℕ} → G ≤ 1000000 → Heading I G O ps sources counts os oc m → left (topOf G) m ≤ 2000000000000000
+  left-fit {m} f a = let x = left-fits (topOf G) m (omega arith) (λ g. let b = a .bound g in omega arith) in let z = a .size in omega arith
 
   -- ---- the pins of a marked gate
 
@@ -131,19 +139,19 @@ module _ {I G O : ℕ} {ps sources counts os oc : List ℕ} where
           go (suc x) k = omega arith
 
   pub pins-none : {m : List ℕ} (g : ℕ) → Heading I G O ps sources counts os oc m → PushPins I G O ps sources counts os oc m m g 0 0
-  pins-none {m} g a = record { grown = grown-none m; heading = a; pushed = λ j h. absurd (not-suc-le-zero h) }
+  pins-none {m} g a = record { fallen = fallen-none (topOf G) m; heading = a; pushed = λ j h. absurd (not-suc-le-zero h) }
 
-  pub pins-next : {m m′ m″ : List ℕ} {g n r s : ℕ} → PushPins I G O ps sources counts os oc m m′ g n r → Push I G O ps sources counts os oc m′ m″ (getD sources (stride * g + n) 0) s
+  pub pins-next : {m m′ m″ : List ℕ} {g n r s : ℕ} → PushPins I G O ps sources counts os oc m m′ g n r → Push I G O ps sources counts os oc m′ m″ (getD sources (stride * g + n) 0) (getD m g 0 + getD counts (stride * g + n) 0) s
       → PushPins I G O ps sources counts os oc m m″ g (n + 1) (r + s)
-  pins-next {m″ = m″} {g = g} {n = n} a b = record {
-    grown = grown-trans (a .grown) (b .grown);
+  pins-next {m = m} {m″ = m″} {g = g} {n = n} a b = record {
+    fallen = fallen-trans (a .fallen) (b .fallen);
     heading = b .heading;
     pushed = λ j h. go j h (ℕ-discrete j n);
   }
     where
-      go : (j : ℕ) → j < n + 1 → Dec (j ≡ n) → Known I m″ (getD sources (stride * g + j) 0)
-      go j h (yes e) = rw e (b .known)
-      go j h (no q) = known-grows (b .grown) (getD sources (stride * g + j) 0) (a .pushed j (lower q h))
+      go : (j : ℕ) → j < n + 1 → Dec (j ≡ n) → Low I m″ (getD sources (stride * g + j) 0) (getD m g 0 + getD counts (stride * g + j) 0)
+      go j h (yes e) = rw e (b .low)
+      go j h (no q) = low-falls (b .fallen) (getD sources (stride * g + j) 0) (getD m g 0 + getD counts (stride * g + j) 0) (a .pushed j (lower q h))
         where
           lower : ¬ (j ≡ n) → j < n + 1 → j < n
           lower q h = omega arith
@@ -154,20 +162,20 @@ module _ {I G O : ℕ} {ps sources counts os oc : List ℕ} where
   -- ---- sweeps
 
   pub heads-none : {m : List ℕ} → Heading I G O ps sources counts os oc m → PushSweep I G O ps sources counts os oc m m 0 0
-  heads-none {m} a = record { grown = grown-none m; heading = a; pushed = λ e g h. absurd (not-suc-le-zero h) }
+  heads-none {m} a = record { fallen = fallen-none (topOf G) m; heading = a; pushed = λ e g h. absurd (not-suc-le-zero h) }
 
   -- one gate more: unmarked, or its pins pushed
-  pub heads-next : {m m′ m″ : List ℕ} {n r s : ℕ} → PushSweep I G O ps sources counts os oc m m′ n r → Grown m′ m″ s → Heading I G O ps sources counts os oc m″
-      → (s ≡ 0 → Marked m″ n → Pushed I sources m″ n (getD ps n 0)) → PushSweep I G O ps sources counts os oc m m″ (n + 1) (r + s)
+  pub heads-next : {m m′ m″ : List ℕ} {n r s : ℕ} → PushSweep I G O ps sources counts os oc m m′ n r → Fallen (topOf G) m′ m″ s → Heading I G O ps sources counts os oc m″
+      → (s ≡ 0 → Marked m″ n → Pushed I sources counts m″ n (getD ps n 0) (getD m″ n 0)) → PushSweep I G O ps sources counts os oc m m″ (n + 1) (r + s)
   heads-next {m″ = m″} {n = n} {r = r} {s = s} a b h p = record {
-    grown = grown-trans (a .grown) b;
+    fallen = fallen-trans (a .fallen) b;
     heading = h;
     pushed = λ e g k. go e g (ℕ-discrete g n) k;
   }
     where
-      go : r + s ≡ 0 → (g : ℕ) → Dec (g ≡ n) → g < n + 1 → Marked m″ g → Pushed I sources m″ g (getD ps g 0)
+      go : r + s ≡ 0 → (g : ℕ) → Dec (g ≡ n) → g < n + 1 → Marked m″ g → Pushed I sources counts m″ g (getD ps g 0) (getD m″ g 0)
       go e g (yes q) k = rw q (p (omega arith))
-      go e g (no q) k = subst (λ (l : List ℕ). Marked l g → Pushed I sources l g (getD ps g 0)) (sym (b .same (omega arith))) (a .pushed (omega arith) g (lower q k))
+      go e g (no q) k = subst (λ (l : List ℕ). Marked l g → Pushed I sources counts l g (getD ps g 0) (getD l g 0)) (sym (b .same (omega arith))) (a .pushed (omega arith) g (lower q k))
         where
           lower : ¬ (g ≡ n) → g < n + 1 → g < n
           lower q h = omega arith
@@ -175,27 +183,27 @@ module _ {I G O : ℕ} {ps sources counts os oc : List ℕ} where
   pub heads-at : {m m′ : List ℕ} {n n′ r : ℕ} → n ≡ n′ → PushSweep I G O ps sources counts os oc m m′ n r → PushSweep I G O ps sources counts os oc m m′ n′ r
   heads-at {m} {m′} {n} {n′} {r} e s = subst (λ (i : ℕ). PushSweep I G O ps sources counts os oc m m′ i r) e s
 
--- the sources of the first n outputs are known
+-- the sources of the first n outputs are low
 pub record PushOuts (I G O : ℕ) (ps sources counts os oc m m′ : List ℕ) (n r : ℕ) : Type 0 where
-  pub grown : Grown m m′ r
+  pub fallen : Fallen (topOf G) m m′ r
   pub heading : Heading I G O ps sources counts os oc m′
-  pub known : (i : ℕ) → i < n → Known I m′ (getD os i 0)
+  pub low : (i : ℕ) → i < n → Low I m′ (getD os i 0) (getD oc i 0 + 1)
 
 module _ {I G O : ℕ} {ps sources counts os oc : List ℕ} where
   pub outs-none : {m : List ℕ} → Heading I G O ps sources counts os oc m → PushOuts I G O ps sources counts os oc m m 0 0
-  outs-none {m} a = record { grown = grown-none m; heading = a; known = λ i h. absurd (not-suc-le-zero h) }
+  outs-none {m} a = record { fallen = fallen-none (topOf G) m; heading = a; low = λ i h. absurd (not-suc-le-zero h) }
 
-  pub outs-next : {m m′ m″ : List ℕ} {n r s : ℕ} → PushOuts I G O ps sources counts os oc m m′ n r → Push I G O ps sources counts os oc m′ m″ (getD os n 0) s
+  pub outs-next : {m m′ m″ : List ℕ} {n r s : ℕ} → PushOuts I G O ps sources counts os oc m m′ n r → Push I G O ps sources counts os oc m′ m″ (getD os n 0) (getD oc n 0 + 1) s
       → PushOuts I G O ps sources counts os oc m m″ (n + 1) (r + s)
   outs-next {m″ = m″} {n = n} a b = record {
-    grown = grown-trans (a .grown) (b .grown);
+    fallen = fallen-trans (a .fallen) (b .fallen);
     heading = b .heading;
-    known = λ i h. go i h (ℕ-discrete i n);
+    low = λ i h. go i h (ℕ-discrete i n);
   }
     where
-      go : (i : ℕ) → i < n + 1 → Dec (i ≡ n) → Known I m″ (getD os i 0)
-      go i h (yes e) = rw e (b .known)
-      go i h (no q) = known-grows (b .grown) (getD os i 0) (a .known i (lower q h))
+      go : (i : ℕ) → i < n + 1 → Dec (i ≡ n) → Low I m″ (getD os i 0) (getD oc i 0 + 1)
+      go i h (yes e) = rw e (b .low)
+      go i h (no q) = low-falls (b .fallen) (getD os i 0) (getD oc i 0 + 1) (a .low i (lower q h))
         where
           lower : ¬ (i ≡ n) → i < n + 1 → i < n
           lower q h = omega arith
@@ -214,14 +222,14 @@ module _ {I G O : ℕ} {ps sources counts os oc : List ℕ} where
 -- the end of the sweeps
 pub record Headed (I G O : ℕ) (ps sources counts os oc m m′ : List ℕ) : Type 0 where
   pub heading : Heading I G O ps sources counts os oc m′
-  pub kept : (u : ℕ) → Known I m u → Known I m′ u
-  pub pushed : (g : ℕ) → g < G → Marked m′ g → Pushed I sources m′ g (getD ps g 0)
+  pub kept : (u v : ℕ) → Low I m u v → Low I m′ u v
+  pub pushed : (g : ℕ) → g < G → Marked m′ g → Pushed I sources counts m′ g (getD ps g 0) (getD m′ g 0)
 
 -- one gate of a sweep
 pub record HeadGate (I G O : ℕ) (ps sources counts os oc m m′ : List ℕ) (g r : ℕ) : Type 0 where
-  pub grown : Grown m m′ r
+  pub fallen : Fallen (topOf G) m m′ r
   pub heading : Heading I G O ps sources counts os oc m′
-  pub pushed : r ≡ 0 → Marked m′ g → Pushed I sources m′ g (getD ps g 0)
+  pub pushed : r ≡ 0 → Marked m′ g → Pushed I sources counts m′ g (getD ps g 0) (getD m′ g 0)
 
 -- counts within the bound
 pub record Counted (G O : ℕ) (ps counts os oc : List ℕ) (I : ℕ) : Type 0 where
@@ -234,28 +242,26 @@ pub record Counted (G O : ℕ) (ps counts os oc : List ℕ) (I : ℕ) : Type 0 w
 
 module _ {I G O : ℕ} {ps sources counts os oc : List ℕ} where
   -- one pin of a marked gate pushed
-  pub pins-push : {m m′ m″ : List ℕ} {r s : ℕ} (g j base : ℕ) → Wires I G ps sources counts → Counted G O ps counts os oc I → g < G → Marked m g → base ≡ getD m g 0 → j < getD ps g 0
+  pub pins-push : {m m′ m″ : List ℕ} {r s : ℕ} (g j base : ℕ) → Wires I G ps sources counts → Counted G O ps counts os oc I → Heading I G O ps sources counts os oc m → g < G → Marked m g → base ≡ getD m g 0 → j < getD ps g 0
       → PushPins I G O ps sources counts os oc m m′ g j r → Told I m′ m″ (getD sources (stride * g + j) 0) (base + getD counts (stride * g + j) 0) s
       → PushPins I G O ps sources counts os oc m m″ g (j + 1) (r + s)
-  pins-push {m} {m′} {m″} {r} {s} g j base ws cs h k e l a t =
-      let same : getD m′ g 0 ≡ base = a .grown .kept g k ∙ sym e in
-      let mk : Marked m′ g = λ z. k (sym (a .grown .kept g k) ∙ z) in
+  pins-push {m} {m′} {m″} {r} {s} g j base ws cs start h k e l a t =
       let w = getD counts (stride * g + j) 0 in
-      let b = a .heading .bound g in
+      let src = getD sources (stride * g + j) 0 in
+      let b = start .bound g in
+      let f = a .fallen .fewer in
       let c = cs .count g j h l in
-      pins-next a (push-told (getD sources (stride * g + j) 0) (base + w) (ws .node g j h l) (some base w (λ z. k (sym e ∙ z))) (omega arith)
-      (subst (λ (x : ℕ). Heads I G O ps sources counts os oc (getD sources (stride * g + j) 0) (x + w)) same (pin-heads {m = m′} g j ws h mk l (a .heading))) (a .heading) t)
+      pins-next a (push-told src (getD m g 0 + w) (ws .node g j h l) (some (getD m g 0) w k) (omega arith) (pin-heads {m = m} g j ws h k l start) (a .heading)
+      (subst (λ (x : ℕ). Told I m′ m″ src (x + w) s) e t))
     where
       some : (x w : ℕ) → ¬ (x ≡ 0) → 1 ≤ x + w
       some zero w n = absurd (n refl)
       some (suc x) w n = omega arith
 
   -- the value fits
-  pub pins-fit : {m m′ : List ℕ} {r : ℕ} (g j : ℕ) → Counted G O ps counts os oc I → g < G → Marked m g → j < getD ps g 0 → PushPins I G O ps sources counts os oc m m′ g j r
-      → getD m g 0 + getD counts (stride * g + j) 0 ≤ 2000000000
-  pins-fit {m} {m′} g j cs h k l a =
-      let same : getD m′ g 0 ≡ getD m g 0 = a .grown .kept g k in
-      let b = a .heading .bound g in
+  pub pins-fit : {m : List ℕ} (g j : ℕ) → Counted G O ps counts os oc I → Heading I G O ps sources counts os oc m → g < G → j < getD ps g 0 → getD m g 0 + getD counts (stride * g + j) 0 ≤ 2000000000
+  pins-fit {m} g j cs start h l =
+      let b = start .bound g in
       let c = cs .count g j h l in
       let f = cs .few in
       omega arith
@@ -271,16 +277,20 @@ module _ {I G O : ℕ} {ps sources counts os oc : List ℕ} where
 module _ {I G O : ℕ} {ps sources counts os oc : List ℕ} where
   pub heads-gate : {m m′ m″ : List ℕ} {n r s : ℕ} → PushSweep I G O ps sources counts os oc m m′ n r → HeadGate I G O ps sources counts os oc m′ m″ n s
       → PushSweep I G O ps sources counts os oc m m″ (n + 1) (r + s)
-  heads-gate a b = heads-next a (b .grown) (b .heading) (b .pushed)
+  heads-gate a b = heads-next a (b .fallen) (b .heading) (b .pushed)
 
   pub outs-at : {m m′ : List ℕ} {n n′ r : ℕ} → n ≡ n′ → PushOuts I G O ps sources counts os oc m m′ n r → PushOuts I G O ps sources counts os oc m m′ n′ r
   outs-at {m} {m′} {n} {n′} {r} e s = subst (λ (i : ℕ). PushOuts I G O ps sources counts os oc m m′ i r) e s
 
   pub gate-none : {m : List ℕ} (g : ℕ) → getD m g 0 ≡ 0 → Heading I G O ps sources counts os oc m → HeadGate I G O ps sources counts os oc m m g 0
-  gate-none {m} g z a = record { grown = grown-none m; heading = a; pushed = λ e k. absurd (k z) }
+  gate-none {m} g z a = record { fallen = fallen-none (topOf G) m; heading = a; pushed = λ e k. absurd (k z) }
 
   pub gate-pins : {m m′ : List ℕ} {r : ℕ} (g : ℕ) → PushPins I G O ps sources counts os oc m m′ g (getD ps g 0) r → HeadGate I G O ps sources counts os oc m m′ g r
-  gate-pins g a = record { grown = a .grown; heading = a .heading; pushed = λ e k. a .pushed }
+  gate-pins {m} {m′} g a = record {
+    fallen = a .fallen;
+    heading = a .heading;
+    pushed = λ e k. subst (λ (l : List ℕ). Pushed I sources counts m′ g (getD ps g 0) (getD l g 0)) (sym (a .fallen .same e)) (a .pushed);
+  }
 
 -- ---- the check
 
@@ -288,38 +298,37 @@ pub record HeadCheck (I G O : ℕ) (ps sources counts os oc m : List ℕ) (r : B
   pub heading : Heading I G O ps sources counts os oc m
   pub tells : (N : Net) → Wired N I G ps sources counts → Ended N O os oc → Tells r (AllLeading N)
   pub marked : r ≡ true → (g : ℕ) → g < G → Marked m g
+  pub fewest : (N : Net) → Wired N I G ps sources counts → Ended N O os oc → (g c : ℕ) → OutPath N (I + g) c → getD m g 0 - 1 ≤ c
 
 path-leading : {N : Net} {v c : ℕ} → OutPath N v c → Leading N v
 path-leading (last o i e f) = Leading.output o i e
 path-leading (then u p d g i e f r) = Leading.along u p g i e (path-leading r)
 
 pub heads-all : {I G O : ℕ} {ps sources counts os oc m : List ℕ} {r : Bool} → Heading I G O ps sources counts os oc m
-    → ((i : ℕ) → i < O → Known I m (getD os i 0)) → ((g : ℕ) → g < G → Marked m g → Pushed I sources m g (getD ps g 0))
+    → ((i : ℕ) → i < O → Low I m (getD os i 0) (getD oc i 0 + 1)) → ((g : ℕ) → g < G → Marked m g → Pushed I sources counts m g (getD ps g 0) (getD m g 0))
     → Tells r ((g : ℕ) → g < G → Marked m g) → HeadCheck I G O ps sources counts os oc m r
 heads-all {I} {G} {O} {ps} {sources} {counts} {os} {oc} {m} {r} a seeds pushed t = record {
   heading = a;
   tells = λ N w e. record {
     holds = λ q v g. let i = gate-wired w v g in subst (Leading N) (sym (i .2)) (path-leading (a .path N w e (i .0) (i .1) (t .holds q (i .0) (i .1))));
-    fails = λ q f. t .fails q (λ g h. place g (known N w e (f (I + g) (wired-gate w g h))));
+    fails = λ q f. t .fails q (λ g h. let p = out-path (f (I + g) (wired-gate w g h)) in gate-low I m g (p .0 + 1) (low N w e (p .1)) .0);
   };
   marked = t .holds;
+  fewest = λ N w e g c p. let l = gate-low I m g (c + 1) (low N w e p) .1 in omega arith;
 }
   where
-    place : (g : ℕ) → Known I m (I + g) → Marked m g
-    place g (inl i) = absurd (beyond i)
-      where
-        beyond : I + g < I → ⊥
-        beyond i = omega arith
-    place g (inr (h, e, k)) = subst (Marked m) (same e) k
-      where
-        same : I + g ≡ I + h → h ≡ g
-        same e = omega arith
-
-    known : (N : Net) → Wired N I G ps sources counts → Ended N O os oc → {v : ℕ} → Leading N v → Known I m v
-    known N w e {v} (Leading.output o i q) =
+    -- a node is low by any path from it to an output
+    low : (N : Net) → Wired N I G ps sources counts → Ended N O os oc → {v c : ℕ} → OutPath N v c → Low I m v (c + 1)
+    low N w e {v} {c} (last o i q f) =
         let j = pinsIn-in os oc 0 O o (subst (λ (l : List Pin). o ∈ l) e i) in
-        subst (Known I m) (ap (λ (x : ℕ). getD os x 0) (sym (zero-add (j .0))) ∙ sym (ap (λ (p : Pin). p .src) (j .2)) ∙ q) (seeds (j .0) (j .1))
-    known N w e {v} (Leading.along u p g i q l) =
+        let z = zero-add (j .0) in
+        let x : getD os (j .0) 0 ≡ v = ap (λ (x : ℕ). getD os x 0) (sym z) ∙ sym (ap (λ (p : Pin). p .src) (j .2)) ∙ q in
+        let y : getD oc (j .0) 0 ≡ c = ap (λ (x : ℕ). getD oc x 0) (sym z) ∙ sym (ap (λ (p : Pin). p .count) (j .2)) ∙ sym f in
+        low-more I m x (omega arith) (seeds (j .0) (j .1))
+    low N w e {v} {c} (then u p d g i q f r) =
         let k = gate-wired w u g in
         let j = pin-wired w (k .0) (k .1) p (subst (λ (x : ℕ). p ∈ pins N x) (k .2) i) in
-        subst (Known I m) (sym (ap (λ (x : Pin). x .src) (j .2)) ∙ q) (pushed (k .0) (k .1) (place (k .0) (subst (Known I m) (k .2) (known N w e l))) (j .0) (j .1))
+        let l = gate-low I m (k .0) (d + 1) (subst (λ (x : ℕ). Low I m x (d + 1)) (k .2) (low N w e r)) in
+        let h = l .1 in
+        let y : getD counts (stride * k .0 + j .0) 0 ≡ p .count = sym (ap (λ (x : Pin). x .count) (j .2)) in
+        low-more I m (sym (ap (λ (x : Pin). x .src) (j .2)) ∙ q) (omega arith) (pushed (k .0) (k .1) (l .0) (j .0) (j .1))

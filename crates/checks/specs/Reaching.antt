@@ -1,12 +1,12 @@
--- Check 10 by marks: a gate is marked with 1 more than the place of a pin whose source is known. What the steps keep, and what the end means.
+-- Check 10 by marks: a gate is marked with 1 more than the place of a pin whose source is known, and its rank is above that source's. What the steps keep, and what the end means.
 use mathlib.Core.Path.{_≡_, refl, sym, ap, _∙_, subst}
 use mathlib.Core.Bool.{Bool, true, false}
 use mathlib.Core.List.{List, [], _∷_}
 use mathlib.Core.Logic.{_⊎_, inl, inr}
 use Prim.Native.Nat.{ℕ, zero, suc, _+_, _-_, _*_, _≤_, _<_}
-use native.Mathlib.Decide.{ℕ-discrete}
+use native.Mathlib.Decide.{ℕ-discrete, decLt}
 use native.Mathlib.Omega.{arith}
-use lib.ListN.{length, getD, set}
+use lib.ListN.{length, getD, set, length-set, List·getD-eq-default}
 use lib.Seq.{getD-set-same, getD-set-other}
 use Rattle.sequences.specs.Member.{_∈_}
 use Rattle.sequences.specs.Decide.{dec-stable}
@@ -15,17 +15,28 @@ use Rattle.netlist.specs.Arrays.{stride}
 use Rattle.netlist.specs.ArrayLaws.{pinAt}
 use Rattle.netlist.specs.Wired.{Wired, wired-gate, gate-wired, wired-pin, pin-wired}
 use Rattle.netlist.specs.Checks.{Reached, AllReached}
-use Rattle.checks.specs.Marks.{Tells, Marked, Known, First, Grown, Wires}
-use Rattle.checks.specs.MarkLaws.{first-all, grown-none, grown-one, grown-trans}
+use Rattle.checks.specs.Marks.{Tells, Marked, Known, First, Grown, Wires, unmarked}
+use Rattle.checks.specs.MarkLaws.{first-all, grown-none, grown-one, grown-trans, unmarked-bound}
 
 -- pin j of gate g has a known source
 abbrev pub KnownPin : ℕ → List ℕ → List ℕ → ℕ → ℕ → Type 0
 KnownPin I m sources g j = Known I m (getD sources (stride * g + j) 0)
 
--- each mark is 1 more than a pin's place, and marked gates of any net with this wiring are reached
-pub record Reaching (I G : ℕ) (ps sources counts m : List ℕ) : Type 0 where
+-- node u is an input, or a marked gate with a rank below r
+abbrev pub Falls : ℕ → List ℕ → List ℕ → ℕ → ℕ → Type 0
+Falls I m ranks u r = (u < I) ⊎ ((h : ℕ) × (u ≡ I + h) × Marked m h × (getD ranks h 0 < r))
+
+-- r is the rank of a gate that reads node u: 0 behind an input, else 1 more than the rank of u
+abbrev pub Behind : ℕ → List ℕ → ℕ → ℕ → Type 0
+Behind I ranks u r = ((u < I) × (r ≡ 0)) ⊎ ((I ≤ u) × (r ≡ getD ranks (u - I) 0 + 1))
+
+-- each mark is 1 more than a pin's place, ranks fall along these pins, and marked gates of any net with this wiring are reached
+pub record Reaching (I G : ℕ) (ps sources counts m ranks : List ℕ) : Type 0 where
   pub size : length m ≡ G
+  pub room : length ranks ≡ G
+  pub bound : (g : ℕ) → Marked m g → getD ranks g 0 + unmarked m < G
   pub pin : (g : ℕ) → g < G → Marked m g → getD m g 0 ≤ getD ps g 0
+  pub falls : (g : ℕ) → g < G → Marked m g → Falls I m ranks (getD sources (stride * g + (getD m g 0 - 1)) 0) (getD ranks g 0)
   pub reached : (N : Net) → Wired N I G ps sources counts → (g : ℕ) → g < G → Marked m g → Reached N (I + g)
 
 -- an unmarked gate has no known source
@@ -33,35 +44,53 @@ abbrev pub Shut : ℕ → List ℕ → List ℕ → List ℕ → ℕ → Type 0
 Shut I ps sources m g = ¬ Marked m g → (j : ℕ) → j < getD ps g 0 → ¬ KnownPin I m sources g j
 
 -- the outcome of one gate: r is 1 if it is newly marked
-pub record ReachGate (I G : ℕ) (ps sources counts m m′ : List ℕ) (g r : ℕ) : Type 0 where
+pub record ReachGate (I G : ℕ) (ps sources counts m m′ ranks′ : List ℕ) (g r : ℕ) : Type 0 where
   pub grown : Grown m m′ r
-  pub reaching : Reaching I G ps sources counts m′
+  pub reaching : Reaching I G ps sources counts m′ ranks′
   pub shut : r ≡ 0 → Shut I ps sources m′ g
 
 -- of all gates below n
-pub record ReachSweep (I G : ℕ) (ps sources counts m m′ : List ℕ) (n r : ℕ) : Type 0 where
+pub record ReachSweep (I G : ℕ) (ps sources counts m m′ ranks′ : List ℕ) (n r : ℕ) : Type 0 where
   pub grown : Grown m m′ r
-  pub reaching : Reaching I G ps sources counts m′
+  pub reaching : Reaching I G ps sources counts m′ ranks′
   pub shut : r ≡ 0 → (g : ℕ) → g < n → Shut I ps sources m′ g
 
+-- the gate of a node
+place : (I u g : ℕ) → u ≡ I + g → g ≡ u - I
+place I u g e = omega arith
+
 module _ {I G : ℕ} {ps sources counts : List ℕ} where
-  known-reached : {m : List ℕ} → Reaching I G ps sources counts m → (N : Net) → Wired N I G ps sources counts → (u : ℕ) → u < I + G → Known I m u → Reached N u
+  known-reached : {m ranks : List ℕ} → Reaching I G ps sources counts m ranks → (N : Net) → Wired N I G ps sources counts → (u : ℕ) → u < I + G → Known I m u → Reached N u
   known-reached r N w u h (inl i) = Reached.input {v = u} (let a = w .inputs in omega arith)
   known-reached r N w u h (inr (g, e, k)) = subst (Reached N) (sym e) (r .reached N w g (omega arith) k)
 
-  pub reach-marked : {m : List ℕ} (g : ℕ) → Reaching I G ps sources counts m → Marked m g → ReachGate I G ps sources counts m m g 0
+  -- ranks are below the number of gates
+  pub rank-below : {m ranks : List ℕ} → Reaching I G ps sources counts m ranks → (u : ℕ) → Known I m u → I ≤ u → getD ranks (u - I) 0 < G
+  rank-below r u (inl i) l = absurd (apart i l)
+    where
+      apart : u < I → I ≤ u → ⊥
+      apart i l = omega arith
+  rank-below {ranks = ranks} r u (inr (g, e, k)) l =
+      let b = r .bound g k in
+      let q : getD ranks g 0 ≡ getD ranks (u - I) 0 = ap (λ (n : ℕ). getD ranks n 0) (place I u g e) in
+      omega arith
+
+  pub reach-marked : {m ranks : List ℕ} (g : ℕ) → Reaching I G ps sources counts m ranks → Marked m g → ReachGate I G ps sources counts m m ranks g 0
   reach-marked {m} g r k = record { grown = grown-none m; reaching = r; shut = λ e n. absurd (n k) }
 
-  pub reach-none : {m : List ℕ} (g n : ℕ) → Reaching I G ps sources counts m → getD ps g 0 ≤ n → First (KnownPin I m sources g) (getD ps g 0) n → ReachGate I G ps sources counts m m g 0
+  pub reach-none : {m ranks : List ℕ} (g n : ℕ) → Reaching I G ps sources counts m ranks → getD ps g 0 ≤ n → First (KnownPin I m sources g) (getD ps g 0) n → ReachGate I G ps sources counts m m ranks g 0
   reach-none {m} g n r h f = record { grown = grown-none m; reaching = r; shut = λ e k j l. first-all f h j l }
 
-  pub reach-one : {m : List ℕ} (g j : ℕ) → Wires I G ps sources counts → g < G → Reaching I G ps sources counts m → getD m g 0 ≡ 0 → j < getD ps g 0
-      → First (KnownPin I m sources g) (getD ps g 0) j → ReachGate I G ps sources counts m (set m g (j + 1)) g 1
-  reach-one {m} g j ws h r z l f = record {
+  pub reach-one : {m ranks : List ℕ} (g j x : ℕ) → Wires I G ps sources counts → g < G → Reaching I G ps sources counts m ranks → getD m g 0 ≡ 0 → j < getD ps g 0
+      → First (KnownPin I m sources g) (getD ps g 0) j → Behind I ranks (getD sources (stride * g + j) 0) x → ReachGate I G ps sources counts m (set m g (j + 1)) (set ranks g x) g 1
+  reach-one {m} {ranks} g j x ws h r z l f b = record {
     grown = one;
     reaching = record {
       size = one .size ∙ r .size;
+      room = length-set ranks g x ∙ r .room;
+      bound = λ i q. bound i q (ℕ-discrete i g);
       pin = λ i k q. pin i k q (ℕ-discrete i g);
+      falls = λ i k q. falls i k q (ℕ-discrete i g);
       reached = λ N w i k q. reached N w i k q (ℕ-discrete i g);
     };
     shut = λ e. absurd (bad e);
@@ -79,6 +108,62 @@ module _ {I G : ℕ} {ps sources counts : List ℕ} where
       at : getD (set m g (j + 1)) g 0 ≡ j + 1
       at = getD-set-same m g (j + 1) 0 inside
 
+      rank-at : getD (set ranks g x) g 0 ≡ x
+      rank-at = getD-set-same ranks g x 0 (let a = r .room in omega arith)
+
+      -- a marked gate is another one, and stays as it was
+      other : (i : ℕ) → Marked m i → ¬ (i ≡ g)
+      other i k e = k (ap (λ (n : ℕ). getD m n 0) e ∙ z)
+
+      falls-on : (v y : ℕ) → Falls I m ranks v y → Falls I (set m g (j + 1)) (set ranks g x) v y
+      falls-on v y (inl i) = inl i
+      falls-on v y (inr (i, e, k, q)) =
+          let o = getD-set-other ranks g i x 0 (other i k) in
+          inr (i, e, (λ w. k (sym (getD-set-other m g i (j + 1) 0 (other i k)) ∙ w)), omega arith)
+
+      -- what the pin reads is an input, or its rank is 1 less
+      source-falls : KnownPin I m sources g j → Behind I ranks (getD sources (stride * g + j) 0) x → Falls I m ranks (getD sources (stride * g + j) 0) x
+      source-falls kn (inl p) = inl (p .0)
+      source-falls (inl i) (inr p) = inl i
+      source-falls (inr (i, e, k)) (inr p) =
+          let y : getD ranks i 0 ≡ getD ranks (getD sources (stride * g + j) 0 - I) 0 = ap (λ (n : ℕ). getD ranks n 0) (place I (getD sources (stride * g + j) 0) i e) in
+          let q = p .1 in
+          inr (i, e, k, omega arith)
+
+      first-bound : KnownPin I m sources g j → Behind I ranks (getD sources (stride * g + j) 0) x → x + unmarked (set m g (j + 1)) < G
+      first-bound kn (inl p) = let a = one .new in let c = unmarked-bound m in let d = r .size in let q = p .1 in omega arith
+      first-bound (inl i) (inr p) = absurd (apart i (p .0))
+        where
+          apart : {u : ℕ} → u < I → I ≤ u → ⊥
+          apart a c = omega arith
+      first-bound (inr (i, e, k)) (inr p) =
+          let y : getD ranks i 0 ≡ getD ranks (getD sources (stride * g + j) 0 - I) 0 = ap (λ (n : ℕ). getD ranks n 0) (place I (getD sources (stride * g + j) 0) i e) in
+          let q = p .1 in
+          let a = one .new in
+          let c = r .bound i k in
+          omega arith
+
+      bound : (i : ℕ) → Marked (set m g (j + 1)) i → Dec (i ≡ g) → getD (set ranks g x) i 0 + unmarked (set m g (j + 1)) < G
+      bound i q (yes e) = rw e (let a = rank-at in let c = first-bound (f .found l) b in omega arith)
+      bound i q (no n) =
+          let o = getD-set-other m g i (j + 1) 0 n in
+          let w = getD-set-other ranks g i x 0 n in
+          let c = r .bound i (λ y. q (o ∙ y)) in
+          let a = one .new in
+          omega arith
+
+      falls : (i : ℕ) → i < G → Marked (set m g (j + 1)) i → Dec (i ≡ g) → Falls I (set m g (j + 1)) (set ranks g x) (getD sources (stride * i + (getD (set m g (j + 1)) i 0 - 1)) 0) (getD (set ranks g x) i 0)
+      falls i k q (yes e) =
+          rw (e, rank-at) (subst (λ (y : ℕ). Falls I (set m g (j + 1)) (set ranks g x) (getD sources (stride * g + y) 0) x) (before at)
+          (falls-on (getD sources (stride * g + j) 0) x (source-falls (f .found l) b)))
+        where
+          before : {y : ℕ} → y ≡ j + 1 → j ≡ y - 1
+          before e = omega arith
+      falls i k q (no n) =
+          let o = getD-set-other m g i (j + 1) 0 n in
+          let w = getD-set-other ranks g i x 0 n in
+          rw (o, w) (falls-on (getD sources (stride * i + (getD m i 0 - 1)) 0) (getD ranks i 0) (r .falls i k (λ y. q (o ∙ y))))
+
       pin : (i : ℕ) → i < G → Marked (set m g (j + 1)) i → Dec (i ≡ g) → getD (set m g (j + 1)) i 0 ≤ getD ps i 0
       pin i k q (yes e) = rw e (let a = at in omega arith)
       pin i k q (no n) = let o = getD-set-other m g i (j + 1) 0 n in rw o (r .pin i k (λ x. q (o ∙ x)))
@@ -89,15 +174,15 @@ module _ {I G : ℕ} {ps sources counts : List ℕ} where
           (known-reached r N w (getD sources (stride * g + j) 0) (ws .node g j h l) (f .found l)))
       reached N w i k q (no n) = let o = getD-set-other m g i (j + 1) 0 n in r .reached N w i k (λ x. q (o ∙ x))
 
-  pub sweep-none : {m : List ℕ} → Reaching I G ps sources counts m → ReachSweep I G ps sources counts m m 0 0
+  pub sweep-none : {m ranks : List ℕ} → Reaching I G ps sources counts m ranks → ReachSweep I G ps sources counts m m ranks 0 0
   sweep-none {m} r = record { grown = grown-none m; reaching = r; shut = λ e g h. absurd (none h) }
     where
       none : {g : ℕ} → g < 0 → ⊥
       none h = omega arith
 
-  pub sweep-next : {m m′ m″ : List ℕ} {n r s : ℕ} → ReachSweep I G ps sources counts m m′ n r → ReachGate I G ps sources counts m′ m″ n s
-      → ReachSweep I G ps sources counts m m″ (n + 1) (r + s)
-  sweep-next {m} {m′} {m″} {n} {r} {s} a b = record {
+  pub sweep-next : {m m′ m″ ranks′ ranks″ : List ℕ} {n r s : ℕ} → ReachSweep I G ps sources counts m m′ ranks′ n r → ReachGate I G ps sources counts m′ m″ ranks″ n s
+      → ReachSweep I G ps sources counts m m″ ranks″ (n + 1) (r + s)
+  sweep-next {m} {m′} {m″} {n = n} {r = r} {s = s} a b = record {
     grown = grown-trans (a .grown) (b .grown);
     reaching = b .reaching;
     shut = λ e g h. go e g (ℕ-discrete g n) h;
@@ -110,8 +195,8 @@ module _ {I G : ℕ} {ps sources counts : List ℕ} where
           lower : ¬ (g ≡ n) → g < n + 1 → g < n
           lower q h = omega arith
 
-  pub sweep-at : {m m′ : List ℕ} {n n′ r : ℕ} → n ≡ n′ → ReachSweep I G ps sources counts m m′ n r → ReachSweep I G ps sources counts m m′ n′ r
-  sweep-at {m} {m′} {n} {n′} {r} e s = subst (λ (i : ℕ). ReachSweep I G ps sources counts m m′ i r) e s
+  pub sweep-at : {m m′ ranks′ : List ℕ} {n n′ r : ℕ} → n ≡ n′ → ReachSweep I G ps sources counts m m′ ranks′ n r → ReachSweep I G ps sources counts m m′ ranks′ n′ r
+  sweep-at {m} {m′} {ranks′} {n} {n′} {r} e s = subst (λ (i : ℕ). ReachSweep I G ps sources counts m m′ ranks′ i r) e s
 
   -- where a sweep marks nothing new, every reached gate is marked
   pub all-marked : (m : List ℕ) → ((g : ℕ) → g < G → Shut I ps sources m g) → (N : Net) → Wired N I G ps sources counts → {u : ℕ} → Reached N u → Known I m u
@@ -127,17 +212,29 @@ module _ {I G : ℕ} {ps sources counts : List ℕ} where
 -- ---- the check
 
 -- what the whole check leaves and says: the marks reach as they should, and r tells whether every gate is reached, for any net with this wiring
-pub record ReachCheck (I G : ℕ) (ps sources counts m : List ℕ) (r : Bool) : Type 0 where
-  pub reaching : Reaching I G ps sources counts m
+pub record ReachCheck (I G : ℕ) (ps sources counts m ranks : List ℕ) (r : Bool) : Type 0 where
+  pub reaching : Reaching I G ps sources counts m ranks
   pub tells : (N : Net) → Wired N I G ps sources counts → Tells r (AllReached N)
   pub marked : r ≡ true → (g : ℕ) → g < G → Marked m g
 
 module _ {I G : ℕ} {ps sources counts : List ℕ} where
-  pub reach-zeros : (m : List ℕ) → length m ≡ G → ((g : ℕ) → g < G → getD m g 0 ≡ 0) → Reaching I G ps sources counts m
-  reach-zeros m e z = record { size = e; pin = λ g h k. absurd (k (z g h)); reached = λ N w g h k. absurd (k (z g h)) }
+  pub reach-zeros : (m ranks : List ℕ) → length m ≡ G → length ranks ≡ G → ((g : ℕ) → g < G → getD m g 0 ≡ 0) → Reaching I G ps sources counts m ranks
+  reach-zeros m ranks e q z = record {
+    size = e;
+    room = q;
+    bound = λ g k. absurd (k (all g (decLt g G)));
+    pin = λ g h k. absurd (k (z g h));
+    falls = λ g h k. absurd (k (z g h));
+    reached = λ N w g h k. absurd (k (z g h));
+  }
+    where
+      all : (g : ℕ) → Dec (g < G) → getD m g 0 ≡ 0
+      all g (yes h) = z g h
+      all g (no n) = List·getD-eq-default m 0 {n = g} (omega arith)
 
-  pub reach-all : {m : List ℕ} {r : Bool} → Reaching I G ps sources counts m → ((g : ℕ) → g < G → Shut I ps sources m g) → Tells r ((g : ℕ) → g < G → Marked m g) → ReachCheck I G ps sources counts m r
-  reach-all {m} {r} a s t = record {
+  pub reach-all : {m ranks : List ℕ} {r : Bool} → Reaching I G ps sources counts m ranks → ((g : ℕ) → g < G → Shut I ps sources m g) → Tells r ((g : ℕ) → g < G → Marked m g)
+      → ReachCheck I G ps sources counts m ranks r
+  reach-all {m} a s t = record {
     reaching = a;
     tells = λ N w. record {
       holds = λ e v g. let i = gate-wired w v g in subst (Reached N) (sym (i .2)) (a .reached N w (i .0) (i .1) (t .holds e (i .0) (i .1)));

@@ -2,10 +2,10 @@
 ghost use mathlib.Core.Path.{_≡_};
 ghost use mathlib.Core.Bool.{true, false};
 ghost use mathlib.Core.List.{List};
-ghost use Prim.Native.Nat.{ℕ, _+_, _*_, _≤_, _<_};
+ghost use Prim.Native.Nat.{ℕ, _+_, _-_, _*_, _≤_, _<_};
 ghost use lib.ListN.{length, getD};
-ghost use Rattle.checks.specs.Marks.{Tells, Marked, Known, First, Wires};
-ghost use Rattle.checks.specs.Reaching.{Reaching, ReachGate, ReachSweep, Shut, ReachCheck};
+ghost use Rattle.checks.specs.Marks.{Tells, Marked, Known, Low, First, Wires};
+ghost use Rattle.checks.specs.Reaching.{Behind, Reaching, ReachGate, ReachSweep, Shut, ReachCheck};
 ghost use Rattle.checks.specs.Heading.{Told, Heading, PushPins, PushOuts, HeadGate, PushSweep, Headed, Counted, HeadCheck};
 ghost use Rattle.checks.specs.Placing.{Placing, PlaceGate, PlaceSweep, Placed, PlaceCheck};
 
@@ -37,6 +37,18 @@ fn first_known(inputs: usize, marks: &[usize], sources: &[usize], at: usize, n: 
     n
 }
 
+// The rank of a gate that reads this node: 0 behind an input, else 1 more than the node's.
+fn rank_behind(inputs: usize, gates: usize, ranks: &[usize], node: usize) -> usize
+    requires { ⌜ (node < inputs + length (now ranks)) × (inputs ≤ node → getD (now ranks) (node - inputs) 0 < gates) ⌝ }
+    ensures { λ r. ⌜ Behind inputs (now (ranks .entry)) node r ⌝ }
+{
+    if node < inputs {
+        0
+    } else {
+        ranks[node - inputs] + 1
+    }
+}
+
 // Marks gate g if it reads a known node: 1 if it is newly marked.
 fn reach_gate(
     inputs: usize,
@@ -45,10 +57,11 @@ fn reach_gate(
     sources: &[usize],
     counts: &[usize],
     marks: &mut [usize],
+    ranks: &mut [usize],
     g: usize,
 ) -> usize
-    requires { ⌜ Wires inputs gates (now pins) (now sources) (now counts) × (g < gates) × Reaching inputs gates (now pins) (now sources) (now counts) (now marks) ⌝ }
-    ensures { λ r. ⌜ ReachGate inputs gates (now (pins .entry)) (now (sources .entry)) (now (counts .entry)) (now (marks .entry)) (now (marks .exit)) g r ⌝ }
+    requires { ⌜ Wires inputs gates (now pins) (now sources) (now counts) × (g < gates) × Reaching inputs gates (now pins) (now sources) (now counts) (now marks) (now ranks) ⌝ }
+    ensures { λ r. ⌜ ReachGate inputs gates (now (pins .entry)) (now (sources .entry)) (now (counts .entry)) (now (marks .entry)) (now (marks .exit)) (now (ranks .exit)) g r ⌝ }
 {
     if marks[g] != 0 {
         return 0;
@@ -56,6 +69,7 @@ fn reach_gate(
     let n = pins[g];
     let j = first_known(inputs, marks, sources, 6 * g, n);
     if j < n {
+        ranks[g] = rank_behind(inputs, gates, ranks, sources[6 * g + j]);
         marks[g] = j + 1;
         1
     } else {
@@ -71,14 +85,15 @@ fn reach_sweep(
     sources: &[usize],
     counts: &[usize],
     marks: &mut [usize],
+    ranks: &mut [usize],
 ) -> usize
-    requires { ⌜ Wires inputs gates (now pins) (now sources) (now counts) × Reaching inputs gates (now pins) (now sources) (now counts) (now marks) ⌝ }
-    ensures { λ r. ⌜ ReachSweep inputs gates (now (pins .entry)) (now (sources .entry)) (now (counts .entry)) (now (marks .entry)) (now (marks .exit)) gates r ⌝ }
+    requires { ⌜ Wires inputs gates (now pins) (now sources) (now counts) × Reaching inputs gates (now pins) (now sources) (now counts) (now marks) (now ranks) ⌝ }
+    ensures { λ r. ⌜ ReachSweep inputs gates (now (pins .entry)) (now (sources .entry)) (now (counts .entry)) (now (marks .entry)) (now (marks .exit)) (now (ranks .exit)) gates r ⌝ }
 {
     let mut new = 0;
     let mut g = 0;
     while g < gates {
-        let r = reach_gate(inputs, gates, pins, sources, counts, marks, g);
+        let r = reach_gate(inputs, gates, pins, sources, counts, marks, ranks, g);
         new += r;
         g += 1;
     }
@@ -93,13 +108,14 @@ fn reach_all(
     sources: &[usize],
     counts: &[usize],
     marks: &mut [usize],
+    ranks: &mut [usize],
 )
-    requires { ⌜ Wires inputs gates (now pins) (now sources) (now counts) × Reaching inputs gates (now pins) (now sources) (now counts) (now marks) ⌝ }
-    ensures { λ _. ⌜ Reaching inputs gates (now (pins .entry)) (now (sources .entry)) (now (counts .entry)) (now (marks .exit)) × ((g : ℕ) → g < gates → Shut inputs (now (pins .entry)) (now (sources .entry)) (now (marks .exit)) g) ⌝ }
+    requires { ⌜ Wires inputs gates (now pins) (now sources) (now counts) × Reaching inputs gates (now pins) (now sources) (now counts) (now marks) (now ranks) ⌝ }
+    ensures { λ _. ⌜ Reaching inputs gates (now (pins .entry)) (now (sources .entry)) (now (counts .entry)) (now (marks .exit)) (now (ranks .exit)) × ((g : ℕ) → g < gates → Shut inputs (now (pins .entry)) (now (sources .entry)) (now (marks .exit)) g) ⌝ }
 {
-    let mut new = reach_sweep(inputs, gates, pins, sources, counts, marks);
+    let mut new = reach_sweep(inputs, gates, pins, sources, counts, marks, ranks);
     while 0 < new {
-        new = reach_sweep(inputs, gates, pins, sources, counts, marks);
+        new = reach_sweep(inputs, gates, pins, sources, counts, marks, ranks);
     }
 }
 
@@ -129,7 +145,7 @@ fn zero(marks: &mut [usize])
     }
 }
 
-// Check 10: whether every gate is reached from an input. Each gate's mark is then 1 more than the place of a pin on its way to an input.
+// Check 10: whether every gate is reached from an input. Each gate's mark is then 1 more than the place of a pin that reads an input or a gate of smaller rank.
 pub fn check_reached(
     inputs: usize,
     gates: usize,
@@ -137,12 +153,13 @@ pub fn check_reached(
     sources: &[usize],
     counts: &[usize],
     marks: &mut [usize],
+    ranks: &mut [usize],
 ) -> bool
-    requires { ⌜ Wires inputs gates (now pins) (now sources) (now counts) × (length (now marks) ≡ gates) ⌝ }
-    ensures { λ r. ⌜ ReachCheck inputs gates (now (pins .entry)) (now (sources .entry)) (now (counts .entry)) (now (marks .exit)) r ⌝ }
+    requires { ⌜ Wires inputs gates (now pins) (now sources) (now counts) × (length (now marks) ≡ gates) × (length (now ranks) ≡ gates) ⌝ }
+    ensures { λ r. ⌜ ReachCheck inputs gates (now (pins .entry)) (now (sources .entry)) (now (counts .entry)) (now (marks .exit)) (now (ranks .exit)) r ⌝ }
 {
     zero(marks);
-    reach_all(inputs, gates, pins, sources, counts, marks);
+    reach_all(inputs, gates, pins, sources, counts, marks, ranks);
     all_marked(marks, gates)
 }
 
@@ -284,12 +301,30 @@ pub fn check_loops(
     all_marked(marks, gates)
 }
 
-// Puts a value at a gate without a mark: 1 if it did.
+// Whether a node is an input or a gate with a mark of at most this value.
+fn settled(inputs: usize, marks: &[usize], node: usize, value: usize) -> bool
+    requires { ⌜ node < inputs + length (now marks) ⌝ }
+    ensures { λ r. ⌜ Tells r (Low inputs (now (marks .entry)) node value) ⌝ }
+{
+    if node < inputs {
+        return true;
+    }
+    let mark = marks[node - inputs];
+    if mark == 0 {
+        return false;
+    }
+    if value < mark {
+        return false;
+    }
+    true
+}
+
+// Puts a value at a gate without a mark or with a larger one: 1 if it did.
 fn push(inputs: usize, marks: &mut [usize], node: usize, value: usize) -> usize
     requires { ⌜ node < inputs + length (now marks) ⌝ }
     ensures { λ r. ⌜ Told inputs (now (marks .entry)) (now (marks .exit)) node value r ⌝ }
 {
-    if known(inputs, marks, node) {
+    if settled(inputs, marks, node, value) {
         0
     } else {
         marks[node - inputs] = value;
@@ -297,7 +332,7 @@ fn push(inputs: usize, marks: &mut [usize], node: usize, value: usize) -> usize
     }
 }
 
-// Marks what the marked gate g reads: how many are newly marked.
+// Marks what the marked gate g reads, or lowers its mark: how often.
 fn push_pins(
     inputs: usize,
     gates: usize,
@@ -359,7 +394,7 @@ fn head_gate(
     }
 }
 
-// One sweep over all gates: how many are newly marked.
+// One sweep over all gates: how many marks are new or lower.
 fn head_sweep(
     inputs: usize,
     gates: usize,
@@ -395,7 +430,7 @@ fn head_sweep(
     new
 }
 
-// Sweeps until nothing is newly marked.
+// Sweeps until no mark is new or lower.
 fn head_all(
     inputs: usize,
     gates: usize,
@@ -451,7 +486,7 @@ fn push_outputs(
     new
 }
 
-// Check 11: whether every gate leads to an output. Each gate's mark is then 1 more than the registers on a path from it to an output, the output's own among them.
+// Check 11: whether every gate leads to an output. Each gate's mark is then 1 more than the fewest registers on a path from it to an output, the output's own among them.
 pub fn check_leading(
     inputs: usize,
     gates: usize,

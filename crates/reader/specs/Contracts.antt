@@ -52,6 +52,16 @@ abbrev pub onward : {A : Type 0} → Verdict → Result A → Result A
 onward Read x = x
 onward (Refused n) x = refused n
 
+-- whether a pin map has more pins than k
+pub data Width (k p : ℕ) (v : Verdict) : Type 0 where
+  fits : ones p ≤ k → v ≡ Read → Width k p v
+  over : k < ones p → v ≡ Refused 7 → Width k p v
+
+-- the first refusal of two verdicts
+abbrev pub firstOf : Verdict → Verdict → Verdict
+firstOf Read b = b
+firstOf (Refused n) b = Refused n
+
 -- the maps are read: the gate is what the readers behind them make of it
 pub record MapsRead (s : List ℕ) (at k : ℕ) (m : Maps) : Type 0 where
   pub result : (nodes : ℕ) → gateReader k nodes (drop at s)

@@ -1,6 +1,6 @@
 -- Laws of reading a gate, one for each way out.
 use mathlib.Core.Path.{_≡_, sym, ap, ap₂, _∙_}
-use mathlib.Core.Bool.{Bool}
+use mathlib.Core.Bool.{Bool, true, false, false≢true}
 use mathlib.Core.List.{List}
 use Prim.Native.Nat.{ℕ, _≤_, _<_}
 use native.Mathlib.Omega.{arith}
@@ -20,7 +20,14 @@ use Rattle.netbytes.specs.Sound.{between-true}
 use Rattle.netbytes.specs.Stages.{madeGate, fromPinMap, fromWidth, fromMaps, fromSources, fromCounts, fromTable, gate-stages}
 use Rattle.reader.specs.Fields.{fieldByte}
 use Rattle.reader.specs.RowLaws.{pinsFrom-alike, take-alike, fromBytes-take}
-use Rattle.reader.specs.Contracts.{MapsRead, onward}
+use Rattle.reader.specs.Answer.{outcome}
+use Rattle.reader.specs.FieldLaws.{went, stopped}
+use Rattle.reader.specs.Contracts.{MapsRead, onward, Width, firstOf, fits, over}
+
+-- the walk goes on
+abbrev wentOn : Verdict → Bool
+wentOn Read = true
+wentOn (Refused n) = false
 
 module _ (s : List ℕ) (at k : ℕ) where
   -- the maps are refused, and the gate with them
@@ -33,32 +40,41 @@ module _ (s : List ℕ) (at k : ℕ) where
   pub pin-map-stops : {n : ℕ} (m : Maps) → fieldByte PinMap 0 (drop at s) ≡ refused n → m .verdict ≡ Refused n → m .pins ≡ 0 → MapsRead s at k m
   pin-map-stops m e v z = stop-maps m (λ nodes. gate-stages k nodes (drop at s) ∙ then-stops (fromPinMap k nodes) e) v z
 
-  module _ (p after : ℕ) (e : fieldByte PinMap 0 (drop at s) ≡ got p (drop after s)) where
+  module _ (p after : ℕ) (here : fieldByte PinMap 0 (drop at s) ≡ got p (drop after s)) where
     pin-map-goes : (nodes : ℕ) → gateReader k nodes (drop at s) ≡ fromPinMap k nodes p (drop after s)
-    pin-map-goes nodes = gate-stages k nodes (drop at s) ∙ then-goes (fromPinMap k nodes) e
+    pin-map-goes nodes = gate-stages k nodes (drop at s) ∙ then-goes (fromPinMap k nodes) here
 
-    pub width-stops : (m : Maps) → k < ones p → m .verdict ≡ Refused 7 → m .pins ≡ 0 → MapsRead s at k m
+    width-stops : (m : Maps) → k < ones p → m .verdict ≡ Refused 7 → m .pins ≡ 0 → MapsRead s at k m
     width-stops m h v z = stop-maps m
         (λ nodes. pin-map-goes nodes
         ∙ ap (λ (t : Bool). andThen (check t 7 (ones p) (drop after s)) (fromWidth nodes p)) (lt-leb (ones p) k h)) v z
 
-    module _ (h : ones p ≤ k) where
-      width-goes : (nodes : ℕ) → gateReader k nodes (drop at s) ≡ fromWidth nodes p (ones p) (drop after s)
-      width-goes nodes = pin-map-goes nodes
-          ∙ ap (λ (t : Bool). andThen (check t 7 (ones p) (drop after s)) (fromWidth nodes p)) (le-leb (ones p) k h)
+    width-goes : ones p ≤ k → (nodes : ℕ) → gateReader k nodes (drop at s) ≡ fromWidth nodes p (ones p) (drop after s)
+    width-goes h nodes = pin-map-goes nodes
+        ∙ ap (λ (t : Bool). andThen (check t 7 (ones p) (drop after s)) (fromWidth nodes p)) (le-leb (ones p) k h)
 
-      pub register-map-stops : {n : ℕ} (m : Maps) → fieldByte RegisterMap p (drop after s) ≡ refused n → m .verdict ≡ Refused n → m .pins ≡ 0 → MapsRead s at k m
-      register-map-stops m f v z = stop-maps m (λ nodes. width-goes nodes ∙ then-stops (fromMaps nodes p (ones p)) f) v z
+    -- the verdicts on the width and on the register map, in this order
+    module _ {v : Verdict} (w : Verdict) (width : Width k p v) (r end : ℕ) (f : fieldByte RegisterMap p (drop after s) ≡ outcome w r (drop end s)) where
+      pub maps-stop : {n : ℕ} (m : Maps) → firstOf v w ≡ Refused n → m .verdict ≡ Refused n → m .pins ≡ 0 → MapsRead s at k m
+      maps-stop {n} m q x z = go width
+        where
+          go : Width k p v → MapsRead s at k m
+          go (fits h e) =
+              stop-maps m (λ nodes. width-goes h nodes ∙ then-stops (fromMaps nodes p (ones p)) (stopped r (drop end s) f (ap (λ (t : Verdict). firstOf t w) (sym e) ∙ q))) x z
+          go (over h e) = width-stops m h (x ∙ sym q ∙ ap (λ (t : Verdict). firstOf t w) e) z
 
-      pub maps-go : (r end : ℕ) → fieldByte RegisterMap p (drop after s) ≡ got r (drop end s)
-          → MapsRead s at k (record { verdict = Read; at = end; pins = p; registers = r })
-      maps-go r end f =
-          let range = between-true 1 63 p (byte-got 4 6 (between 1 63) (drop at s) p (drop after s) e) in
-          let high = range .1 in
-          record {
-            result = λ nodes. width-goes nodes ∙ then-goes (fromMaps nodes p (ones p)) f;
-            small = omega arith;
-          }
+      pub maps-go : firstOf v w ≡ Read → MapsRead s at k (record { verdict = Read; at = end; pins = p; registers = r })
+      maps-go q = go width
+        where
+          go : Width k p v → MapsRead s at k (record { verdict = Read; at = end; pins = p; registers = r })
+          go (fits h e) =
+              let range = between-true 1 63 p (byte-got 4 6 (between 1 63) (drop at s) p (drop after s) here) in
+              let high = range .1 in
+              record {
+                result = λ nodes. width-goes h nodes ∙ then-goes (fromMaps nodes p (ones p)) (went r (drop end s) f (ap (λ (t : Verdict). firstOf t w) (sym e) ∙ q));
+                small = omega arith;
+              }
+          go (over h e) = absurd (false≢true (ap wentOn (sym (ap (λ (t : Verdict). firstOf t w) e) ∙ q)))
 
 -- the lists behind the maps, where m pins, c counts and b table bytes are read
 module _ (nodes p r m c b : ℕ) (em : m ≡ ones p) (ec : c ≡ ones r) (eb : b ≡ tableBytes m) (t : List ℕ) where

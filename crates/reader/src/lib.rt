@@ -9,7 +9,7 @@ ghost use Rattle.reader.specs.Answer.{outcome, resultOf};
 ghost use Rattle.netlist.specs.Tables.{bit};
 ghost use Rattle.netlist.specs.Arrays.{pinsIn};
 ghost use Rattle.netbytes.specs.Walk.{fromBytes, pinsFrom, netReader};
-ghost use Rattle.reader.specs.Contracts.{ItemsRead, TableBytes, Count, Spreading, MapsRead, ListsRead, GateRead, PinsStored, narrow, GateStored, GatesRead, OutputRead, OutputsRead, SizesRead, Sized, withPin, withOutput};
+ghost use Rattle.reader.specs.Contracts.{ItemsRead, TableBytes, Count, Spreading, Width, firstOf, MapsRead, ListsRead, GateRead, PinsStored, narrow, GateStored, GatesRead, OutputRead, OutputsRead, SizesRead, Sized, withPin, withOutput};
 
 // How the walk ended: the record was read, or it was refused with this number.
 pub enum Verdict {
@@ -378,7 +378,28 @@ fn no_maps(n: u8) -> Maps
     }
 }
 
-// The maps of a gate: more pins than k is told before the register map is read.
+// Whether a pin map has more pins than k.
+fn width(map: u8, k: u32) -> Verdict
+    ensures { λ r. ⌜ Width k map r ⌝ }
+{
+    if k < ones_of(map) {
+        Verdict::Refused(7)
+    } else {
+        Verdict::Read
+    }
+}
+
+// The first refusal of two verdicts.
+fn first_of(a: Verdict, b: Verdict) -> Verdict
+    ensures { λ r. ⌜ r ≡ firstOf a b ⌝ }
+{
+    match a {
+        Verdict::Read => b,
+        Verdict::Refused(n) => Verdict::Refused(n),
+    }
+}
+
+// The maps of a gate: more pins than k is told before what the register map breaks.
 fn read_maps(bytes: &[u8], at: usize, k: u32) -> Maps
     ensures { λ r. ⌜ MapsRead (now (bytes .entry)) at k r ⌝ }
 {
@@ -388,11 +409,10 @@ fn read_maps(bytes: &[u8], at: usize, k: u32) -> Maps
         return no_maps(n);
     }
     let map = pins.value;
-    if k < ones_of(map) {
-        return no_maps(7);
-    }
+    let pin_width = width(map, k);
     let registers = read_byte(bytes, pins.at, Field::RegisterMap, wide(map));
-    let w = registers.verdict;
+    let register_map = registers.verdict;
+    let w = first_of(pin_width, register_map);
     if let Verdict::Refused(n) = w {
         return no_maps(n);
     }

@@ -44,14 +44,14 @@ module _ {I G O : ℕ} {ps so co os oc placed order first tops : List ℕ} where
   pub told-loop : PlaceCheck I G ps so co placed order false → GraphTold I G O ps so co os oc order first tops 9
   told-loop a = loop refl (λ N w. a .tells N w .fails refl)
 
-  pub told-unreached : PlaceCheck I G ps so co placed order true → ReachCheck I G ps so co first false → GraphTold I G O ps so co os oc order first tops 10
+  pub told-unreached : {ranks : List ℕ} → PlaceCheck I G ps so co placed order true → ReachCheck I G ps so co first ranks false → GraphTold I G O ps so co os oc order first tops 10
   told-unreached a b = unreached refl (λ N w. (a .tells N w .holds refl, b .tells N w .fails refl))
 
-  pub told-unled : PlaceCheck I G ps so co placed order true → ReachCheck I G ps so co first true → HeadCheck I G O ps so co os oc tops false
+  pub told-unled : {ranks : List ℕ} → PlaceCheck I G ps so co placed order true → ReachCheck I G ps so co first ranks true → HeadCheck I G O ps so co os oc tops false
       → GraphTold I G O ps so co os oc order first tops 11
   told-unled a b c = unled refl (λ N w e. (a .tells N w .holds refl, b .tells N w .holds refl, c .tells N w e .fails refl))
 
-  pub told-passed : PlaceCheck I G ps so co placed order true → ReachCheck I G ps so co first true → HeadCheck I G O ps so co os oc tops true
+  pub told-passed : {ranks : List ℕ} → PlaceCheck I G ps so co placed order true → ReachCheck I G ps so co first ranks true → HeadCheck I G O ps so co os oc tops true
       → GraphTold I G O ps so co os oc order first tops 0
   told-passed a b c = passed refl (λ N w e. (a .tells N w .holds refl, b .tells N w .holds refl, c .tells N w e .holds refl)) (record {
     inOrder = a .gates refl;

@@ -373,7 +373,7 @@ fn plan(
     )
 }
 
-// Checks 9, 10 and 11 in this order: 0, or the number of the first that fails.
+// Checks 9, 10 and 11 in this order: 0, or the number of the first that fails. In the end placed has the gates' ranks.
 fn check_graph(
     inputs: usize,
     gates: usize,
@@ -394,7 +394,7 @@ fn check_graph(
     if !check_loops(inputs, gates, pins, sources, counts, placed, order) {
         return 9;
     }
-    if !check_reached(inputs, gates, pins, sources, counts, first) {
+    if !check_reached(inputs, gates, pins, sources, counts, first, placed) {
         return 10;
     }
     if !check_leading(

@@ -1,4 +1,4 @@
--- `checks::check_leading` meets its contract: from what the outputs read, marks grow until every source of a marked gate is known.
+-- `checks::check_leading` meets its contract: from what the outputs read, marks grow and fall until every source of a marked gate is low.
 use mathlib.Core.Path.{_∙_}
 use native.Mathlib.Omega.{arith}
 use Rattle.checks.specs.Heading.{heading-zeros, heads-all}
@@ -31,7 +31,7 @@ same-length : tie.Need-same-length
 same-length c = search needs
 
 returns : tie.Need-returns
-returns c = let a = c .before .before .before .before .head-all .ensures in heads-all (a .heading) (λ i h. a .kept _ (c .before .before .before .before .before .before .before .before .push-outputs .ensures .known i h)) (a .pushed) (c .all-marked .ensures)
+returns c = let a = c .before .before .before .before .head-all .ensures in heads-all (a .heading) (λ i h. a .kept _ _ (c .before .before .before .before .before .before .before .before .push-outputs .ensures .low i h)) (a .pushed) (c .all-marked .ensures)
 
 pub check-leading-spec : {M : Type 1} → statement M
 check-leading-spec =

@@ -16,9 +16,9 @@ zero-requires c κs = search needs
 
 reach-all-requires : tie.Need-reach-all-requires
 reach-all-requires c κs =
-    let z = c .before .before .before .zero .ensures in
-    let l = c .before .before .before .before .before .before .before .before .before .pre .1 in
-    (c .before .before .before .before .before .before .before .before .before .pre .0, reach-zeros _ (z .0 ∙ l) (λ g h. z .1 g (omega arith)))
+    let z = c .before .before .before .before .zero .ensures in
+    let l = c .before .before .before .before .before .before .before .before .before .before .before .pre .1 in
+    (c .before .before .before .before .before .before .before .before .before .before .before .pre .0, reach-zeros _ _ (z .0 ∙ l) (c .before .before .before .before .before .before .before .before .before .before .before .pre .2) (λ g h. z .1 g (omega arith)))
 
 all-marked-requires : tie.Need-all-marked-requires
 all-marked-requires c κs = search needs
@@ -26,9 +26,12 @@ all-marked-requires c κs = search needs
 same-length : tie.Need-same-length
 same-length c = search needs
 
+same-length-2 : tie.Need-same-length-2
+same-length-2 c = search needs
+
 returns : tie.Need-returns
-returns c = reach-all (c .before .before .before .before .reach-all .ensures .0) (c .before .before .before .before .reach-all .ensures .1) (c .all-marked .ensures)
+returns c = reach-all (c .before .before .before .before .before .before .reach-all .ensures .0) (c .before .before .before .before .before .before .reach-all .ensures .1) (c .all-marked .ensures)
 
 pub check-reached-spec : {M : Type 1} → statement M
 check-reached-spec =
-    tie.close (tie.spec zero-requires reach-all-requires all-marked-requires same-length returns)
+    tie.close (tie.spec zero-requires reach-all-requires all-marked-requires same-length same-length-2 returns)

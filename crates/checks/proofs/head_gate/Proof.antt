@@ -23,7 +23,7 @@ same-length : tie.Need-same-length
 same-length c = search needs
 
 returns-2 : tie.Need-returns-2
-returns-2 c = search needs
+returns-2 c = gate-pins (c .before .before .before .before .before .before .before .before .before .before .before .before .args .g) (c .before .before .push-pins .ensures)
 
 pub head-gate-spec : {M : Type 1} → statement M
 head-gate-spec =

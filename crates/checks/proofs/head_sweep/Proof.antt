@@ -3,8 +3,7 @@ use borrow.Author.Needs.{needs}
 use Prim.Native.Nat.{_-_, _≤_}
 use native.Mathlib.Omega.{arith}
 use denote.Ref.{now}
-use Rattle.checks.specs.MarkLaws.{unmarked-bound}
-use Rattle.checks.specs.Heading.{PushSweep, heads-none, heads-gate, heads-at}
+use Rattle.checks.specs.Heading.{PushSweep, heads-none, heads-gate, heads-at, left-fit}
 use Rattle.checks.proofs.head_sweep.Statement.{statement}
 use Rattle.checks.proofs.head_sweep.Tie as tie
 
@@ -24,8 +23,8 @@ head-gate-requires c κs = (c .before .before .before .before .before .before .b
 add-new : tie.Need-add-new Inv-loop μ-loop
 add-new c =
     let s = heads-gate (c .before .before .before .before .before .loop .inv .1) (c .before .before .head-gate .ensures) in
-    let n = s .grown .new in
-    let b = unmarked-bound (now (c .before .before .before .before .before .before .before .before .before .before .before .before .args .marks)) in
+    let n = s .fallen .new in
+    let b = left-fit (c .before .before .before .before .before .before .before .before .before .before .before .before .pre .1 .few) (c .before .before .before .before .before .before .before .before .before .before .before .before .pre .2) in
     omega arith
 
 add-g : tie.Need-add-g Inv-loop μ-loop
@@ -38,7 +37,7 @@ loop-again : tie.Need-loop-again Inv-loop μ-loop
 loop-again c = (omega arith, heads-gate (c .before .before .before .before .before .loop .inv .1) (c .before .before .head-gate .ensures))
 
 same-length : tie.Need-same-length Inv-loop μ-loop
-same-length c = c .before .loop .inv .1 .grown .size
+same-length c = c .before .loop .inv .1 .fallen .size
 
 returns : tie.Need-returns Inv-loop μ-loop
 returns c = heads-at (omega arith) (c .before .loop .inv .1)

@@ -1,10 +1,9 @@
--- `checks::push_outputs` meets its contract. The loop's invariant: what the first i outputs read is known.
+-- `checks::push_outputs` meets its contract. The loop's invariant: what the first i outputs read is low.
 use borrow.Author.Needs.{needs}
 use Prim.Native.Nat.{_-_, _≤_}
 use native.Mathlib.Omega.{arith}
 use denote.Ref.{now}
-use Rattle.checks.specs.MarkLaws.{unmarked-bound}
-use Rattle.checks.specs.Heading.{PushOuts, outs-none, outs-push, outs-at}
+use Rattle.checks.specs.Heading.{PushOuts, outs-none, outs-push, outs-at, left-fit}
 use Rattle.checks.proofs.push_outputs.Statement.{statement}
 use Rattle.checks.proofs.push_outputs.Tie as tie
 
@@ -39,8 +38,8 @@ push-requires c κs = let n = c .before .before .before .before .before .before 
 add-new : tie.Need-add-new Inv-loop μ-loop
 add-new c =
     let a = outs-push (c .before .before .before .before .before .before .before .loop .i) (c .before .before .before .before .before .before .before .before .before .before .before .before .before .before .pre .1) (omega arith) (c .before .before .before .before .before .before .before .loop .inv .1) (c .before .before .push .ensures) in
-    let n = a .grown .new in
-    let b = unmarked-bound (now (c .before .before .before .before .before .before .before .before .before .before .before .before .before .before .args .marks)) in
+    let n = a .fallen .new in
+    let b = left-fit (c .before .before .before .before .before .before .before .before .before .before .before .before .before .before .pre .1 .few) (c .before .before .before .before .before .before .before .before .before .before .before .before .before .before .pre .2) in
     omega arith
 
 add-i : tie.Need-add-i Inv-loop μ-loop
@@ -53,7 +52,7 @@ loop-again : tie.Need-loop-again Inv-loop μ-loop
 loop-again c = (omega arith, outs-push (c .before .before .before .before .before .before .before .loop .i) (c .before .before .before .before .before .before .before .before .before .before .before .before .before .before .pre .1) (omega arith) (c .before .before .before .before .before .before .before .loop .inv .1) (c .before .before .push .ensures))
 
 same-length : tie.Need-same-length Inv-loop μ-loop
-same-length c = c .before .loop .inv .1 .grown .size
+same-length c = c .before .loop .inv .1 .fallen .size
 
 returns : tie.Need-returns Inv-loop μ-loop
 returns c = outs-at (omega arith) (c .before .loop .inv .1)

@@ -4,8 +4,7 @@ use mathlib.Core.Path.{_≡_, refl}
 use Prim.Native.Nat.{_-_, _≤_}
 use native.Mathlib.Omega.{arith}
 use denote.Ref.{now}
-use Rattle.checks.specs.MarkLaws.{unmarked-bound}
-use Rattle.checks.specs.Heading.{PushPins, pins-none, pins-push, pins-fit, pins-at}
+use Rattle.checks.specs.Heading.{PushPins, pins-none, pins-push, pins-fit, pins-at, left-fit}
 use Rattle.checks.proofs.push_pins.Statement.{statement}
 use Rattle.checks.proofs.push_pins.Tie as tie
 
@@ -45,7 +44,7 @@ shared-slice-read-value c = let r = c .before .before .before .before .before .b
 
 add-value-2 : tie.Need-add-value-2 Inv-loop μ-loop
 add-value-2 c =
-    let b = pins-fit (c .before .before .before .before .before .before .before .before .before .before .before .args .g) (c .before .before .loop .j) (c .before .before .before .before .before .before .before .before .before .before .before .pre .1) (c .before .before .before .before .before .before .before .before .before .before .before .pre .2) (c .before .before .before .before .before .before .before .before .before .before .before .pre .3) (omega arith) (c .before .before .loop .inv .1) in
+    let b = pins-fit (c .before .before .before .before .before .before .before .before .before .before .before .args .g) (c .before .before .loop .j) (c .before .before .before .before .before .before .before .before .before .before .before .pre .1) (c .before .before .before .before .before .before .before .before .before .before .before .pre .4) (c .before .before .before .before .before .before .before .before .before .before .before .pre .2) (omega arith) in
     omega arith
 
 mul-push : tie.Need-mul-push Inv-loop μ-loop
@@ -68,9 +67,9 @@ push-requires c κs =
 
 add-new : tie.Need-add-new Inv-loop μ-loop
 add-new c =
-    let a = pins-push (c .before .before .before .before .before .before .before .before .before .before .before .before .before .before .before .before .args .g) (c .before .before .before .before .before .before .before .loop .j) _ (c .before .before .before .before .before .before .before .before .before .before .before .before .before .before .before .before .pre .0) (c .before .before .before .before .before .before .before .before .before .before .before .before .before .before .before .before .pre .1) (c .before .before .before .before .before .before .before .before .before .before .before .before .before .before .before .before .pre .2) (c .before .before .before .before .before .before .before .before .before .before .before .before .before .before .before .before .pre .3) refl (omega arith) (c .before .before .before .before .before .before .before .loop .inv .1) (c .before .before .push .ensures) in
-    let n = a .grown .new in
-    let b = unmarked-bound (now (c .before .before .before .before .before .before .before .before .before .before .before .before .before .before .before .before .args .marks)) in
+    let a = pins-push (c .before .before .before .before .before .before .before .before .before .before .before .before .before .before .before .before .args .g) (c .before .before .before .before .before .before .before .loop .j) _ (c .before .before .before .before .before .before .before .before .before .before .before .before .before .before .before .before .pre .0) (c .before .before .before .before .before .before .before .before .before .before .before .before .before .before .before .before .pre .1) (c .before .before .before .before .before .before .before .before .before .before .before .before .before .before .before .before .pre .4) (c .before .before .before .before .before .before .before .before .before .before .before .before .before .before .before .before .pre .2) (c .before .before .before .before .before .before .before .before .before .before .before .before .before .before .before .before .pre .3) refl (omega arith) (c .before .before .before .before .before .before .before .loop .inv .1) (c .before .before .push .ensures) in
+    let n = a .fallen .new in
+    let b = left-fit (c .before .before .before .before .before .before .before .before .before .before .before .before .before .before .before .before .pre .1 .few) (c .before .before .before .before .before .before .before .before .before .before .before .before .before .before .before .before .pre .4) in
     omega arith
 
 add-j : tie.Need-add-j Inv-loop μ-loop
@@ -81,10 +80,10 @@ loop-less c = omega arith
 
 loop-again : tie.Need-loop-again Inv-loop μ-loop
 loop-again c =
-    (omega arith, pins-push (c .before .before .before .before .before .before .before .before .before .before .before .before .before .before .before .before .args .g) (c .before .before .before .before .before .before .before .loop .j) _ (c .before .before .before .before .before .before .before .before .before .before .before .before .before .before .before .before .pre .0) (c .before .before .before .before .before .before .before .before .before .before .before .before .before .before .before .before .pre .1) (c .before .before .before .before .before .before .before .before .before .before .before .before .before .before .before .before .pre .2) (c .before .before .before .before .before .before .before .before .before .before .before .before .before .before .before .before .pre .3) refl (omega arith) (c .before .before .before .before .before .before .before .loop .inv .1) (c .before .before .push .ensures))
+    (omega arith, pins-push (c .before .before .before .before .before .before .before .before .before .before .before .before .before .before .before .before .args .g) (c .before .before .before .before .before .before .before .loop .j) _ (c .before .before .before .before .before .before .before .before .before .before .before .before .before .before .before .before .pre .0) (c .before .before .before .before .before .before .before .before .before .before .before .before .before .before .before .before .pre .1) (c .before .before .before .before .before .before .before .before .before .before .before .before .before .before .before .before .pre .4) (c .before .before .before .before .before .before .before .before .before .before .before .before .before .before .before .before .pre .2) (c .before .before .before .before .before .before .before .before .before .before .before .before .before .before .before .before .pre .3) refl (omega arith) (c .before .before .before .before .before .before .before .loop .inv .1) (c .before .before .push .ensures))
 
 same-length : tie.Need-same-length Inv-loop μ-loop
-same-length c = c .before .loop .inv .1 .grown .size
+same-length c = c .before .loop .inv .1 .fallen .size
 
 returns : tie.Need-returns Inv-loop μ-loop
 returns c = pins-at (omega arith) (c .before .loop .inv .1)

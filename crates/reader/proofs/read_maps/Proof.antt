@@ -1,12 +1,19 @@
 -- `reader::read_maps` meets its contract: one law for each way out.
+use mathlib.Core.Path.{sym, _∙_}
 use denote.Ref.{now}
-use native.Mathlib.Omega.{arith}
 use Rattle.reader.specs.FieldLaws.{went, stopped}
-use Rattle.reader.specs.GateLaws.{pin-map-stops, width-stops, register-map-stops, maps-go}
+use Rattle.reader.specs.GateLaws.{pin-map-stops, maps-stop, maps-go}
 use lib.ListN.{drop}
 use borrow.Author.Needs.{needs}
 use Rattle.reader.proofs.read_maps.Statement.{statement}
 use Rattle.reader.proofs.read_maps.Tie as tie
+use Rattle.reader.proofs.read_maps.Reads as reads
+use Rattle.reader.proofs.read_maps.Lts as lts
+use Rattle.reader.proofs.first_of.Reads as first-of-reads
+use Rattle.reader.proofs.no_maps.Reads as no-maps-reads
+use Rattle.reader.proofs.read_byte.Reads as read-byte-reads
+use Rattle.reader.proofs.wide.Reads as wide-reads
+use Rattle.reader.proofs.width.Reads as width-reads
 
 read-byte-requires : tie.Need-read-byte-requires
 read-byte-requires c κs = search needs
@@ -28,20 +35,8 @@ returns c =
 enum-told : tie.Need-enum-told
 enum-told c = search needs
 
-ones-of-requires : tie.Need-ones-of-requires
-ones-of-requires c κs = search needs
-
-no-maps-requires-2 : tie.Need-no-maps-requires-2
-no-maps-requires-2 c κs = search needs
-
-returns-2 : tie.Need-returns-2
-returns-2 c =
-    let a = c .before .before .before .before .before .before .before .args in
-    let s = now (a .bytes) in
-    let b = c .before .before .before .before .before .read-byte in
-    let n = c .no-maps2 in
-    width-stops s (a .at) (a .k) (b .result .value) (b .result .at) (went (b .result .value) (drop (b .result .at) s) (b .ensures) (c .before .before .before .enum-told .given .1)) (n .result)
-    (omega (arith, c .before .before .ones-of .ensures)) (n .ensures .0) (n .ensures .1)
+width-requires : tie.Need-width-requires
+width-requires c κs = search needs
 
 wide-requires : tie.Need-wide-requires
 wide-requires c κs = search needs
@@ -49,35 +44,36 @@ wide-requires c κs = search needs
 read-byte-requires-2 : tie.Need-read-byte-requires-2
 read-byte-requires-2 c κs = search needs
 
+first-of-requires : tie.Need-first-of-requires
+first-of-requires c κs = search needs
+
 enum-known-w : tie.Need-enum-known-w
 enum-known-w c = search needs
 
-no-maps-requires-3 : tie.Need-no-maps-requires-3
-no-maps-requires-3 c κs = search needs
+no-maps-requires-2 : tie.Need-no-maps-requires-2
+no-maps-requires-2 c κs = search needs
 
-returns-3 : tie.Need-returns-3
-returns-3 c =
+returns-2 : tie.Need-returns-2
+returns-2 c =
     let a = c .before .before .before .before .before .before .before .before .before .before .before .before .args in
     let s = now (a .bytes) in
     let b = c .before .before .before .before .before .before .before .before .before .before .read-byte in
-    let n = c .no-maps3 in
-    let d = c .before .before .before .before .read-byte2 in
-    register-map-stops s (a .at) (a .k) (b .result .value) (b .result .at) (went (b .result .value) (drop (b .result .at) s) (b .ensures) (c .before .before .before .before .before .before .before .before .enum-told .given .1))
-    (omega (arith, c .before .before .before .before .before .before .before .ones-of .ensures)) (n .result)
-    (stopped (d .result .value) (drop (d .result .at) s) (rw (c .before .before .before .before .before .wide .ensures) at (d .ensures)) (c .before .before .w .given .1)) (n .ensures .0) (n .ensures .1)
+    let d = c .before .before .before .before .before .read-byte2 in
+    let n = c .no-maps2 in
+    maps-stop s (a .at) (a .k) (b .result .value) (b .result .at) (went (b .result .value) (drop (b .result .at) s) (b .ensures) (c .before .before .before .before .before .before .before .before .enum-told .given .1)) (d .result .verdict) (c .before .before .before .before .before .before .before .width .ensures)
+    (d .result .value) (d .result .at) (rw (c .before .before .before .before .before .before .wide .ensures) at (d .ensures)) (n .result) (sym (c .before .before .before .before .first-of .ensures) ∙ c .before .before .w .given .1) (n .ensures .0) (n .ensures .1)
 
 enum-told-2 : tie.Need-enum-told-2
 enum-told-2 c = search needs
 
-returns-4 : tie.Need-returns-4
-returns-4 c =
+returns-3 : tie.Need-returns-3
+returns-3 c =
     let a = c .before .before .before .before .before .before .before .before .before .before .args in
     let s = now (a .bytes) in
     let b = c .before .before .before .before .before .before .before .before .read-byte in
-    let d = c .before .before .read-byte2 in
-    maps-go s (a .at) (a .k) (b .result .value) (b .result .at) (went (b .result .value) (drop (b .result .at) s) (b .ensures) (c .before .before .before .before .before .before .enum-told .given .1))
-    (omega (arith, c .before .before .before .before .before .ones-of .ensures)) (d .result .value) (d .result .at)
-    (went (d .result .value) (drop (d .result .at) s) (rw (c .before .before .before .wide .ensures) at (d .ensures)) (c .enum-told2 .given .1))
+    let d = c .before .before .before .read-byte2 in
+    maps-go s (a .at) (a .k) (b .result .value) (b .result .at) (went (b .result .value) (drop (b .result .at) s) (b .ensures) (c .before .before .before .before .before .before .enum-told .given .1)) (d .result .verdict) (c .before .before .before .before .before .width .ensures)
+    (d .result .value) (d .result .at) (rw (c .before .before .before .before .wide .ensures) at (d .ensures)) (sym (c .before .before .first-of .ensures) ∙ c .enum-told2 .given .1)
 
 pub read-maps-spec : {M : Type 1} → statement M
 read-maps-spec =
@@ -88,13 +84,12 @@ read-maps-spec =
     no-maps-requires
     returns
     enum-told
-    ones-of-requires
-    no-maps-requires-2
-    returns-2
+    width-requires
     wide-requires
     read-byte-requires-2
+    first-of-requires
     enum-known-w
-    no-maps-requires-3
-    returns-3
+    no-maps-requires-2
+    returns-2
     enum-told-2
-    returns-4)
+    returns-3)

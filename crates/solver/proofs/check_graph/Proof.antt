@@ -47,7 +47,7 @@ same-length-5 c = search needs
 
 -- src/lib.rt:398:9
 returns-2 : tie.Need-returns-2
-returns-2 c = told-unreached (subst (PlaceCheck _ _ _ _ _ _ _) (not-false (c .before .before .before .before .before .if1 .left)) (c .before .before .before .before .before .before .before .before .before .before .check-loops .ensures)) (subst (ReachCheck _ _ _ _ _ _) (not-true (c .if2 .taken)) (c .before .before .before .check-reached .ensures))
+returns-2 c = told-unreached (subst (PlaceCheck _ _ _ _ _ _ _) (not-false (c .before .before .before .before .before .before .before .before .if1 .left)) (c .before .before .before .before .before .before .before .before .before .before .before .before .before .check-loops .ensures)) (subst (ReachCheck _ _ _ _ _ _ _) (not-true (c .if2 .taken)) (c .before .before .before .before .before .check-reached .ensures))
 
 -- src/lib.rt:400:9
 check-leading-requires : tie.Need-check-leading-requires
@@ -71,7 +71,7 @@ same-length-9 c = search needs
 
 -- src/lib.rt:403:9
 returns-3 : tie.Need-returns-3
-returns-3 c = told-unled (subst (PlaceCheck _ _ _ _ _ _ _) (not-false (c .before .before .before .before .before .before .before .before .before .before .if1 .left)) (c .before .before .before .before .before .before .before .before .before .before .before .before .before .before .before .check-loops .ensures)) (subst (ReachCheck _ _ _ _ _ _) (not-false (c .before .before .before .before .before .if2 .left)) (c .before .before .before .before .before .before .before .before .check-reached .ensures)) (subst (HeadCheck _ _ _ _ _ _ _ _ _) (not-true (c .if3 .taken)) (c .before .before .before .check-leading .ensures))
+returns-3 c = told-unled (subst (PlaceCheck _ _ _ _ _ _ _) (not-false (c .before .before .before .before .before .before .before .before .before .before .before .before .before .if1 .left)) (c .before .before .before .before .before .before .before .before .before .before .before .before .before .before .before .before .before .before .check-loops .ensures)) (subst (ReachCheck _ _ _ _ _ _ _) (not-false (c .before .before .before .before .before .if2 .left)) (c .before .before .before .before .before .before .before .before .before .before .check-reached .ensures)) (subst (HeadCheck _ _ _ _ _ _ _ _ _) (not-true (c .if3 .taken)) (c .before .before .before .check-leading .ensures))
 
 -- src/lib.rt:377:1
 same-length-10 : tie.Need-same-length-10
@@ -91,7 +91,7 @@ same-length-13 c = search needs
 
 -- src/lib.rt:377:1
 returns-4 : tie.Need-returns-4
-returns-4 c = told-passed (subst (PlaceCheck _ _ _ _ _ _ _) (not-false (c .before .before .before .before .before .before .before .before .before .before .if1 .left)) (c .before .before .before .before .before .before .before .before .before .before .before .before .before .before .before .check-loops .ensures)) (subst (ReachCheck _ _ _ _ _ _) (not-false (c .before .before .before .before .before .if2 .left)) (c .before .before .before .before .before .before .before .before .check-reached .ensures)) (subst (HeadCheck _ _ _ _ _ _ _ _ _) (not-false (c .if3 .left)) (c .before .before .before .check-leading .ensures))
+returns-4 c = told-passed (subst (PlaceCheck _ _ _ _ _ _ _) (not-false (c .before .before .before .before .before .before .before .before .before .before .before .before .before .if1 .left)) (c .before .before .before .before .before .before .before .before .before .before .before .before .before .before .before .before .before .before .check-loops .ensures)) (subst (ReachCheck _ _ _ _ _ _ _) (not-false (c .before .before .before .before .before .if2 .left)) (c .before .before .before .before .before .before .before .before .before .before .check-reached .ensures)) (subst (HeadCheck _ _ _ _ _ _ _ _ _) (not-false (c .if3 .left)) (c .before .before .before .check-leading .ensures))
 
 pub check-graph-spec : {M : Type 1} → statement M
 check-graph-spec =

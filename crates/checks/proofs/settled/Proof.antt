@@ -1,0 +1,32 @@
+-- `checks::settled` meets its contract: an input is low, a gate if its mark is not 0 and at most the value.
+use mathlib.Core.Logic.{inl}
+use denote.Ref.{now}
+use native.Mathlib.Omega.{arith}
+use Rattle.checks.specs.MarkLaws.{tells-yes, tells-no, low-unmarked, low-above, low-gate}
+use borrow.Author.Needs.{needs}
+use Rattle.checks.proofs.settled.Statement.{statement}
+use Rattle.checks.proofs.settled.Tie as tie
+use Rattle.checks.proofs.settled.Reads as reads
+use Rattle.checks.proofs.settled.Lts as lts
+
+returns : tie.Need-returns
+returns c = tells-yes (inl (c .if1 .taken))
+
+mul-mark : tie.Need-mul-mark
+mul-mark c = search needs
+
+shared-slice-read-mark : tie.Need-shared-slice-read-mark
+shared-slice-read-mark c = search needs
+
+returns-2 : tie.Need-returns-2
+returns-2 c = tells-no (low-unmarked (c .before .before .before .args .inputs) (now (c .before .before .before .args .marks)) (c .before .before .before .args .node) (c .before .before .before .args .value) (omega arith) (c .if2 .taken))
+
+returns-3 : tie.Need-returns-3
+returns-3 c = tells-no (low-above (c .before .before .before .before .args .inputs) (now (c .before .before .before .before .args .marks)) (c .before .before .before .before .args .node) (c .before .before .before .before .args .value) (omega arith) (c .if3 .taken))
+
+returns-4 : tie.Need-returns-4
+returns-4 c = tells-yes (low-gate (c .before .before .before .before .args .inputs) (now (c .before .before .before .before .args .marks)) (c .before .before .before .before .args .node) (c .before .before .before .before .args .value) (omega arith) (c .before .if2 .left) (c .if3 .left))
+
+pub settled-spec : {M : Type 1} → statement M
+settled-spec =
+    tie.close (tie.spec returns mul-mark shared-slice-read-mark returns-2 returns-3 returns-4)
