@@ -227,6 +227,18 @@ late-read P =
     ∙ judged-17 netB 2 r (λ e m. late-tables P e m .cut) (late-tables P) late-fed late-short
     (cutsRight? (ranked (P .reached)) 2 late) (tablesRight? P late) (allFed? netB late) (enough? netB late) (shortChains? netB 1 late) (1 - leastPeriod P)
 
+-- ---- the record that is turned back
+
+marked-17 : (scratch : List ℕ) → scratchArea ≤ length scratch
+    → markOutcome bytesB 2 (coverBytes 1 (lut 3 (copy 0 0 ∷ copy 1 0 ∷ []) (pos 0) 8 ∷ lut 4 (copy 2 0 ∷ copy 3 0 ∷ []) (pos 2) 8 ∷ [])) scratch
+    ≡ record { answer = turnedBack 17; scratch = cleared scratchArea scratch }
+unfolding late passed? gate markOutcome markSizes markSized markChecked
+marked-17 scratch h =
+    let r = net-passes bytesB 2 netB (given (passed? netB 2) tt) (b-2 .reads) in
+    let sizes : markSizes 2 scratch ≡ 0 = rw (le-ltb (length scratch) scratchArea h) refl in
+    ap (λ (n : ℕ). markSized n 2 bytesB (coverBytes 1 late) scratch) sizes
+    ∙ ap (λ (a : Answer). record { answer = a; scratch = cleared scratchArea scratch }) (ap (λ (c : Checked 2). markChecked 2 c (coverBytes 1 late)) (r .1) ∙ late-read (r .0))
+
 -- ---- the theorem
 
 -- The examples in document 01's words and order. Where it names no k, for every k.
@@ -254,6 +266,10 @@ pub record MarkedExamples : Type 0 where
   pub one-leaf : (k : ℕ) → 2 ≤ k → k ≤ 6 → Maps bytesD netD k 1 (pos 1 ∷ []) (lut 1 (copy 0 0 ∷ []) (pos 0) 2 ∷ [])
   -- "AND(0:0, 0:1): two leaves."
   pub two-leaves : (k : ℕ) → 2 ≤ k → k ≤ 6 → Maps bytesE netE k 1 (pos 1 ∷ []) (lut 1 (copy 0 0 ∷ copy 0 1 ∷ []) (pos 0) 8 ∷ [])
+  -- "B, k 2, period 1, lag of root 4 ... at 2: 17."
+  pub B-mark : (scratch : List ℕ) → scratchArea ≤ length scratch
+      → markOutcome bytesB 2 (coverBytes 1 (lut 3 (copy 0 0 ∷ copy 1 0 ∷ []) (pos 0) 8 ∷ lut 4 (copy 2 0 ∷ copy 3 0 ∷ []) (pos 2) 8 ∷ [])) scratch
+      ≡ record { answer = turnedBack 17; scratch = cleared scratchArea scratch }
 
 -- **The examples that document 01 marks [P].**
 pub marked-examples : MarkedExamples
@@ -275,15 +291,5 @@ marked-examples = record {
       (λ R. tt, refl, (tt, refl, refl, refl)) (λ R. tt, refl, (tt, refl, refl, refl));
   two-leaves = maps-all bytesE netE 0 _ ((copy 1 0 ∷ []) ∷ []) _ boundE (λ R. tt, refl, (tt, refl, refl, refl)) (λ R. tt, refl, (tt, refl, refl, refl)) (λ R. tt, refl, (tt, refl, refl, refl))
       (λ R. tt, refl, (tt, refl, refl, refl)) (λ R. tt, refl, (tt, refl, refl, refl));
+  B-mark = marked-17;
 }
-
--- "B, k 2, period 1, lag of root 4 ... at 2: 17."
-pub marked : (scratch : List ℕ) → scratchArea ≤ length scratch
-    → markOutcome bytesB 2 (coverBytes 1 (lut 3 (copy 0 0 ∷ copy 1 0 ∷ []) (pos 0) 8 ∷ lut 4 (copy 2 0 ∷ copy 3 0 ∷ []) (pos 2) 8 ∷ [])) scratch
-    ≡ record { answer = turnedBack 17; scratch = cleared scratchArea scratch }
-unfolding late passed? gate markOutcome markSizes markSized markChecked
-marked scratch h =
-    let r = net-passes bytesB 2 netB (given (passed? netB 2) tt) (b-2 .reads) in
-    let sizes : markSizes 2 scratch ≡ 0 = rw (le-ltb (length scratch) scratchArea h) refl in
-    ap (λ (n : ℕ). markSized n 2 bytesB (coverBytes 1 late) scratch) sizes
-    ∙ ap (λ (a : Answer). record { answer = a; scratch = cleared scratchArea scratch }) (ap (λ (c : Checked 2). markChecked 2 c (coverBytes 1 late)) (r .1) ∙ late-read (r .0))

@@ -1,10 +1,12 @@
-// The library for other programs: map with one number for its answer.
+// The library for other programs: map and mark, each with one number for its answer.
 use mapper::Answer;
 use mapper::map;
+use marker::Grade;
+use marker::mark;
 use signed::minus;
 use signed::whole;
 ghost use mathlib.Core.Path.{_≡_};
-ghost use Rattle.records.specs.Outcomes.{mapOutcome};
+ghost use Rattle.records.specs.Outcomes.{mapOutcome, markOutcome};
 ghost use Rattle.kamfelu.specs.Coded.{coded};
 
 // The record's length, or minus the number of the refusal.
@@ -24,5 +26,18 @@ pub extern "C" fn kamfelu_map(
     match answer {
         Answer::Length(n) => whole(n),
         Answer::Refused(n) => minus(0, n as usize),
+    }
+}
+
+// The excess, or minus the number of the refusal.
+#[no_mangle]
+pub extern "C" fn kamfelu_mark(net: &[u8], k: u32, cover: &[u8], scratch: &mut [u8]) -> i64
+    ensures answer { λ r. ⌜ r ≡ coded (markOutcome (now (net .entry)) k (now (cover .entry)) (now (scratch .entry)) .answer) ⌝ }
+    ensures scratch { λ _. ⌜ now (scratch .exit) ≡ markOutcome (now (net .entry)) k (now (cover .entry)) (now (scratch .entry)) .scratch ⌝ }
+{
+    let m = mark(net, k, cover, scratch);
+    match m {
+        Grade::Excess(n) => whole(n),
+        Grade::Refused(n) => minus(0, n as usize),
     }
 }

@@ -28,6 +28,7 @@ use Rattle.solver.specs.Checking.{check-refused, check-loop, check-unreached, c
 use Rattle.solver.specs.Planned.{Lengths}
 use Rattle.solver.specs.Settling.{Settling, SettledAs}
 use Rattle.solver.specs.Settling as settling
+use Rattle.text.specs.PutLaws.{wrote-same}
 use Rattle.text.specs.Text.{textRoom, Listable, Lists}
 use Rattle.mapper.specs.Outcome.{Sure}
 use Rattle.mapper.specs.Recording.{Long, cover-writable}
@@ -36,7 +37,7 @@ use Rattle.lister.specs.Lines.{listed-cover, listed-none}
 
 -- text written, under an equal name
 pub wrote-as : {text text′ before after : List ℕ} {r : ℕ} → text ≡ text′ → Wrote text′ before after r → Wrote text before after r
-wrote-as {before = before} {after} {r} e t = subst (λ (l : List ℕ). Wrote l before after r) (sym e) t
+wrote-as e t = wrote-same (sym e) t
 
 -- the text lies within the area
 pub wrote-within : {text before after : List ℕ} {r : ℕ} → Wrote text before after r → r ≤ length after

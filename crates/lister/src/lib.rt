@@ -1,4 +1,5 @@
 // The listing: from the bytes read (k, the target, the net) to the text printed.
+use mapper::wide;
 use reader::Verdict;
 use reader::Wiring;
 use reader::read_net;
@@ -15,12 +16,6 @@ ghost use Rattle.writer.specs.Writing.{Wrote};
 ghost use Rattle.text.specs.Text.{textRoom};
 ghost use Rattle.lister.specs.Asked.{Listing, ListsNet};
 
-fn wide(x: u32) -> usize
-    ensures { λ r. ⌜ r ≡ x ⌝ }
-{
-    x as usize
-}
-
 fn number(x: u8) -> usize
     ensures { λ r. ⌜ r ≡ x ⌝ }
 {
@@ -28,7 +23,7 @@ fn number(x: u8) -> usize
 }
 
 fn byte(x: u8) -> u32
-    ensures { λ r. ⌜ r ≡ x ⌝ }
+    ensures { λ r. ⌜ (r ≡ x) × (r < 256) ⌝ }
 {
     x as u32
 }
@@ -111,8 +106,9 @@ fn list_parts(k: u32, target: u32, net: &[u8], out: &mut [u8]) -> usize
 }
 
 // The byte at a place, 0 where it is missing.
-fn byte_at(bytes: &[u8], i: usize) -> u32
-    ensures { λ r. ⌜ r ≡ getD (now (bytes .entry)) i 0 ⌝ }
+pub fn byte_at(bytes: &[u8], i: usize) -> u32
+    ensures value { λ r. ⌜ r ≡ getD (now (bytes .entry)) i 0 ⌝ }
+    ensures small { λ r. ⌜ r < 256 ⌝ }
 {
     if i < bytes.len() {
         return byte(bytes[i]);

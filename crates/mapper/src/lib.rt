@@ -19,7 +19,7 @@ pub enum Answer {
     Refused(u8),
 }
 
-fn wide(x: u32) -> usize
+pub fn wide(x: u32) -> usize
     ensures { λ r. ⌜ r ≡ x ⌝ }
 {
     x as usize
@@ -47,7 +47,7 @@ fn check_sizes(k: u32, target: u32, area: &[u8], scratch: &[u8]) -> u8
     0
 }
 
-fn narrow(x: usize) -> u8
+pub fn narrow(x: usize) -> u8
     requires { ⌜ x < 256 ⌝ }
     ensures { λ r. ⌜ r ≡ x ⌝ }
 {

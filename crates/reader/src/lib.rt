@@ -121,7 +121,7 @@ struct Part {
     net: Wiring,
 }
 
-fn wide(x: u8) -> usize
+pub fn wide(x: u8) -> usize
     ensures { λ r. ⌜ r ≡ x ⌝ }
 {
     x as usize
@@ -179,7 +179,7 @@ fn within(map: u8, whole: usize) -> bool
 }
 
 // Whether a table byte of a gate with so many pins has no spare bit set.
-fn table_byte(pins: usize, byte: u8) -> bool
+pub fn table_byte(pins: usize, byte: u8) -> bool
     ensures { λ r. ⌜ r ≡ allowedOf Field.Table pins byte ⌝ }
 {
     match pins {
@@ -273,14 +273,14 @@ fn read_items(bytes: &[u8], at: usize, n: usize, field: Field, limit: usize) -> 
 }
 
 // The ones of a map as a number of things.
-fn count_of(map: u8) -> usize
+pub fn count_of(map: u8) -> usize
     ensures { λ r. ⌜ Count map r ⌝ }
 {
     ones_of(map) as usize
 }
 
 // The number of table bytes of a gate with so many pins.
-fn table_bytes(pins: usize) -> usize
+pub fn table_bytes(pins: usize) -> usize
     requires { ⌜ pins ≤ 6 ⌝ }
     ensures { λ r. ⌜ TableBytes pins r ⌝ }
 {
@@ -293,7 +293,7 @@ fn table_bytes(pins: usize) -> usize
 }
 
 // Whether place i of a map is set.
-fn has(map: u8, i: usize) -> bool
+pub fn has(map: u8, i: usize) -> bool
     requires { ⌜ i < 6 ⌝ }
     ensures { λ r. ⌜ r ≡ bit map i ⌝ }
 {
@@ -309,7 +309,7 @@ fn joined(high: u64, low: u8) -> u64
 }
 
 // The number of eight bytes, low byte first.
-fn number(values: [u8; 8]) -> u64
+pub fn number(values: [u8; 8]) -> u64
     ensures { λ r. ⌜ r ≡ fromBytes values ⌝ }
 {
     let mut n: u64 = 0;

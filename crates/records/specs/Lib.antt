@@ -8,3 +8,5 @@ pub mod Outcomes
 pub mod Program
 pub mod Accepted
 pub mod Kept
+pub mod Held
+pub mod HeldLaws

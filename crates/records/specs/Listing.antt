@@ -102,6 +102,9 @@ leavesWord = 32 ∷ 108 ∷ 101 ∷ 97 ∷ 118 ∷ 101 ∷ 115 ∷ []
 abbrev pub refusedWord : List ℕ
 refusedWord = 114 ∷ 101 ∷ 102 ∷ 117 ∷ 115 ∷ 101 ∷ 100 ∷ 32 ∷ []
 
+abbrev pub excessWord : List ℕ
+excessWord = 101 ∷ 120 ∷ 99 ∷ 101 ∷ 115 ∷ 115 ∷ 32 ∷ []
+
 unfoldable pub leafText : List Copy → List ℕ
 leafText [] = []
 leafText (y ∷ L) = (32 ∷ decimal (y .node)) ++ (58 ∷ decimal (y .back)) ++ leafText L
@@ -124,3 +127,7 @@ coverText N period label es =
 -- "A refusal prints `refused N`."
 unfoldable pub refusalText : ℕ → List ℕ
 refusalText n = refusedWord ++ decimal n ++ newline
+
+-- the marking program's line for an accepted record: `excess N`
+unfoldable pub excessText : ℕ → List ℕ
+excessText n = excessWord ++ decimal n ++ newline

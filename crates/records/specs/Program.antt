@@ -1,15 +1,16 @@
--- Definitions: the listing program, from the bytes it reads to the bytes it prints (document 01, "Listing and marked examples").
+-- Definitions: the listing program (document 01, "Listing and marked examples") and the marking program, from the bytes they read to the bytes they print.
 use mathlib.Core.List.{List, [], _∷_}
-use Prim.Native.Nat.{ℕ, zero, suc}
+use Prim.Native.Nat.{ℕ, zero, suc, _+_, _*_}
 use lib.Dec.{ltb}
+use lib.ListN.{take, drop, replicate}
 use mathlib.Core.Bool.{cond, not}
 use Rattle.netlist.specs.Net.{Net}
 use Rattle.covers.specs.Key.{Key, entries}
-use Rattle.netbytes.specs.Limits.{leastK, mostK, mostPeriod}
+use Rattle.netbytes.specs.Limits.{leastK, mostK, mostPeriod, scratchArea}
 use Rattle.netbytes.specs.Reading.{between}
 use Rattle.netbytes.specs.Walk.{first, rest}
-use Rattle.records.specs.Listing.{coverText, refusalText}
-use Rattle.records.specs.Outcomes.{Checked, passes, fails, checkNet, Mapped, covered, unreachable, mapped}
+use Rattle.records.specs.Listing.{coverText, refusalText, excessText}
+use Rattle.records.specs.Outcomes.{Answer, accepted, turnedBack, Checked, passes, fails, checkNet, Mapped, covered, unreachable, mapped, markOutcome}
 
 -- the cover with its labels, or refusal 12
 unfoldable pub listMapped : {N : Net} {k : ℕ} → Mapped N k → List ℕ
@@ -33,3 +34,24 @@ listing k target net =
 unfoldable pub listingProgram : List ℕ → List ℕ
 unfolding listing
 listingProgram input = listing (first input) (first (rest input)) (rest (rest input))
+
+-- ---- marking
+
+-- `excess N` or `refused N`
+unfoldable pub answerText : Answer → List ℕ
+answerText (accepted n) = excessText n
+answerText (turnedBack n) = refusalText n
+
+-- what mark says of the record; the program lends a scratch of 65,536 bytes, so that 3 never arises
+unfoldable pub marking : ℕ → List ℕ → List ℕ → List ℕ
+unfolding answerText
+marking k net bytes = answerText ((markOutcome net k bytes (replicate scratchArea 0)) .answer)
+
+-- The marking program reads k, the net's length in two bytes, low first, the net, then the record; a missing k or length byte reads as 0, the net is what there is of it,
+-- whatever follows is the record.
+unfoldable pub markingProgram : List ℕ → List ℕ
+unfolding marking
+markingProgram input =
+    let n = first (rest input) + 256 * first (rest (rest input)) in
+    let behind = rest (rest (rest input)) in
+    marking (first input) (take n behind) (drop n behind)

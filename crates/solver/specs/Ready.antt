@@ -46,7 +46,7 @@ gate-netIn a g h =
     ∙ getD-gatesIn (a .pins) (a .sources) (a .counts) (a .tables) 0 (a .gates) g nothing h ∙ ap (gateAt (a .pins) (a .sources) (a .counts) (a .tables)) (zero-add g)
 
 -- the tables of a net kept in arrays
-tabled-netIn : (a : Arrays) → Tabled (netIn a) (a .inputs) (a .gates) (a .tables)
+pub tabled-netIn : (a : Arrays) → Tabled (netIn a) (a .inputs) (a .gates) (a .tables)
 tabled-netIn a = record { table = λ g h. ap (λ (x : Gate). x .table) (gate-netIn a g h) }
 
 -- the same cover with labels that agree on the gates
@@ -70,6 +70,19 @@ covered-with {N} {a = a} {ls} same c i g = record {
 pub cleared-part : (n : ℕ) (s : List ℕ) → take n (cleared n s) ≡ replicate n 0
 unfolding cleared
 cleared-part n s = take-at (replicate n 0) (drop n s) n (length-replicate n 0)
+
+-- the wiring of a net read
+pub net-wires : {k : ℕ} {w : Wiring} → WalkFacts k w → Lengths w → Wires (w .inputs) (w .gates) (w .pins) (w .sources) (w .counts)
+net-wires f l = record {
+  sizes = let c = f .gates-high in let d = l .atPins in omega arith;
+  room = let c = f .gates-high in let d = l .atSources in omega arith;
+  room′ = let c = f .gates-high in let d = l .atCounts in omega arith;
+  inputs = let c = f .inputs-high in omega arith;
+  gates = f .gates-high;
+  pins = f .pins-high;
+  node = f .source;
+  count = f .count;
+}
 
 module _ {k target : ℕ} {w : Wiring} {first tops order : List ℕ} (p : Planning k target w first tops order) (l : Lengths w) where
   abbrev I : ℕ
@@ -175,16 +188,7 @@ module _ {k target : ℕ} {w : Wiring} {first tops order : List ℕ} (p : Planni
     }
 
     wires : Wires I G (w .pins) (w .sources) (w .counts)
-    wires = record {
-      sizes = let c = p .facts .gates-high in let d = l .atPins in omega arith;
-      room = let c = p .facts .gates-high in let d = l .atSources in omega arith;
-      room′ = let c = p .facts .gates-high in let d = l .atCounts in omega arith;
-      inputs = let c = p .facts .inputs-high in omega arith;
-      gates = p .facts .gates-high;
-      pins = p .facts .pins-high;
-      node = p .facts .source;
-      count = p .facts .count;
-    }
+    wires = net-wires (p .facts) l
 
     outputs-are : N .outputs ≡ pinsIn (w .«out_sources») (w .«out_counts») 0 (w .outputs)
     outputs-are = outputs-netIn (arraysOf w)

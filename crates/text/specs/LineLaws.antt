@@ -15,7 +15,7 @@ use Rattle.netlist.specs.ArrayLaws.{length-copiesFrom}
 use Rattle.netlist.specs.Net.{Net}
 use Rattle.covers.specs.Key.{Entry}
 use Rattle.records.specs.Kept.{Kept, entryAt, entriesFrom, entriesIn}
-use Rattle.records.specs.Listing.{decimal, signed, tableText, leafText, lutLine, lutLines, coverText, registerCount, lutWord, labelWord, lagWord, tableWord, leavesWord, newline, periodWord, lutsWord, registersWord, refusedWord, refusalText}
+use Rattle.records.specs.Listing.{decimal, signed, tableText, leafText, lutLine, lutLines, coverText, registerCount, lutWord, labelWord, lagWord, tableWord, leavesWord, newline, periodWord, lutsWord, registersWord, refusedWord, refusalText, excessWord, excessText}
 use Rattle.signed.specs.Range.{Small}
 use Rattle.signed.specs.RangeLaws.{back, small-fits}
 use Rattle.writer.specs.Writing.{marked}
@@ -111,3 +111,7 @@ cover-text N a count registers e f =
 pub refusal-text : (n : ℕ) → (refusedWord ++ decimal n) ++ newline ≡ refusalText n
 unfolding refusalText
 refusal-text n = refl
+
+pub excess-text : (n : ℕ) → (excessWord ++ decimal n) ++ newline ≡ excessText n
+unfolding excessText
+excess-text n = refl

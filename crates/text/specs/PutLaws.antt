@@ -48,6 +48,10 @@ put-more k h w = let p = w .few in put-few k (omega arith) w
 pub put-same : {m at r : ℕ} {a b before after : List ℕ} → a ≡ b → Put m at a before after r → Put m at b before after r
 put-same e w = rw e at w
 
+-- other words for the same bytes
+pub wrote-same : {r : ℕ} {a b before after : List ℕ} → a ≡ b → Wrote a before after r → Wrote b before after r
+wrote-same e w = rw e at w
+
 -- from the front
 pub put-wrote : {m r : ℕ} {bytes before after : List ℕ} → m ≤ length before → Put m 0 bytes before after r → Wrote bytes before after r
 put-wrote {m} {r} {bytes} {before} h w =

@@ -23,7 +23,7 @@ use Rattle.writer.specs.Writing.{ArraysHeld, LutsHeld, Below, Wrote}
 abbrev pub textRoom : ℕ
 textRoom = 12288
 
--- and for a refusal
+-- and for a refusal or an excess
 abbrev pub refusalRoom : ℕ
 refusalRoom = 29
 

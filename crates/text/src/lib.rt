@@ -6,7 +6,7 @@ ghost use lib.IntN.{pos, natAbs, _+ℤ_, _-ℤ_};
 ghost use lib.ListN.{length};
 ghost use Rattle.netlist.specs.Arrays.{copiesFrom, pinsIn};
 ghost use Rattle.records.specs.Kept.{kept, entriesFrom, entriesIn};
-ghost use Rattle.records.specs.Listing.{digit, decimal, signed, tableText, leafText, refusalText, lagIn, leafSum, lutSum, outputSum};
+ghost use Rattle.records.specs.Listing.{digit, decimal, signed, tableText, leafText, newline, refusalText, excessText, lagIn, leafSum, lutSum, outputSum};
 ghost use Rattle.signed.specs.Range.{Small, room};
 ghost use Rattle.writer.specs.Writing.{Below, Wrote};
 ghost use Rattle.text.specs.Text.{Listable, Lists, Put, hexText, lineFront, lineBack, firstLine, lineAt, linesFrom, GateAsked, GatesAsked, Within, Counted, marking, registersOf, LagsHeld, LeavesHeld, refusalRoom};
@@ -514,11 +514,27 @@ pub fn write_text(
     )
 }
 
+// A word and a number on a line, in front of the area; the bytes behind it are kept.
+fn write_said(word: &[u8], n: usize, out: &mut [u8]) -> usize
+    requires { ⌜ (length (now word) + 20) + 1 ≤ length (now out) ⌝ }
+    ensures { λ r. ⌜ Wrote ((now (word .entry) ++ decimal n) ++ newline) (now (out .entry)) (now (out .exit)) r ⌝ }
+{
+    let a = put_field(word, n, 0, out);
+    put_byte(10, a, out)
+}
+
 // The text of a refusal, in front of the area; the bytes behind it are kept.
 pub fn write_refusal(n: usize, out: &mut [u8]) -> usize
     requires { ⌜ refusalRoom ≤ length (now out) ⌝ }
     ensures { λ r. ⌜ Wrote (refusalText n) (now (out .entry)) (now (out .exit)) r ⌝ }
 {
-    let a = put_field(b"refused ", n, 0, out);
-    put_byte(10, a, out)
+    write_said(b"refused ", n, out)
+}
+
+// The text of an excess, in front of the area; the bytes behind it are kept.
+pub fn write_excess(n: usize, out: &mut [u8]) -> usize
+    requires { ⌜ refusalRoom ≤ length (now out) ⌝ }
+    ensures { λ r. ⌜ Wrote (excessText n) (now (out .entry)) (now (out .exit)) r ⌝ }
+{
+    write_said(b"excess ", n, out)
 }

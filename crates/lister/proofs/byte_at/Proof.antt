@@ -24,7 +24,7 @@ returns c = search needs
 
 -- src/lib.rt:114:1
 returns-2 : tie.Need-returns-2
-returns-2 c = sym (List·getD-eq-default (now (c .before .before .args .bytes)) 0 (omega (arith, c .if1 .left)))
+returns-2 c = (sym (List·getD-eq-default (now (c .before .before .args .bytes)) 0 (omega (arith, c .if1 .left))), omega arith)
 
 pub byte-at-spec : {M : Type 1} → statement M
 byte-at-spec = tie.close (tie.spec shared-slice-read-byte byte-requires returns returns-2)

@@ -47,7 +47,7 @@ same-length c = search needs
 
 -- src/lib.rt:134:1
 returns : tie.Need-returns
-returns c = wrote-as (listed-parts (now (c .before .before .before .before .before .before .before .before .before .before .args .input)) _ _ _ (c .before .before .before .before .before .before .before .byte-at .ensures) (c .before .before .before .before .before .before .byte-at2 .ensures) (behind (now (c .before .before .before .before .before .before .before .before .before .before .args .input)) (c .before .before .before .before .before .net-place .result) ∙ c .before .before .before .before .before .net-place .ensures .1)) (c .before .before .list-parts .ensures)
+returns c = wrote-as (listed-parts (now (c .before .before .before .before .before .before .before .before .before .before .args .input)) _ _ _ (c .before .before .before .before .before .before .before .byte-at .ensures .0) (c .before .before .before .before .before .before .byte-at2 .ensures .0) (behind (now (c .before .before .before .before .before .before .before .before .before .before .args .input)) (c .before .before .before .before .before .net-place .result) ∙ c .before .before .before .before .before .net-place .ensures .1)) (c .before .before .list-parts .ensures)
 
 pub list-spec : {M : Type 1} → statement M
 list-spec =

@@ -1,0 +1,142 @@
+-- `candidate::read_cover` meets its contract: one law for each way out.
+use denote.Ref.{now}
+use mathlib.Core.Path.{_≡_, _∙_}
+use mathlib.Core.Bool.{true}
+use lib.ListN.{drop, length}
+use native.Mathlib.Omega.{arith}
+use borrow.Author.Tests.{not-true, not-false}
+use Rattle.candidate.specs.Contracts.{Empty}
+use Rattle.candidate.specs.FieldLaws.{went, stopped}
+use Rattle.candidate.specs.CoverLaws.{count-range, period-stops, count-stops, luts-stopped, bytes-over, cover-goes}
+use borrow.Author.Needs.{needs}
+use Rattle.candidate.proofs.read_cover.Statement.{statement}
+use Rattle.candidate.proofs.read_cover.Tie as tie
+
+read-byte-requires : tie.Need-read-byte-requires
+read-byte-requires c κs = search needs
+
+empty-requires : tie.Need-empty-requires
+empty-requires c κs = search needs
+
+returns : tie.Need-returns
+returns c =
+    let a = c .before .before .before .before .before .args in
+    let s = now (a .bytes) in
+    let p = c .before .before .before .read-byte in
+    let n = c .empty in
+    period-stops s (a .inputs) (a .gates) (a .k) (n .result) (n .ensures .isFine) (stopped (p .result .fine) (p .result .value) (drop (p .result .at) s) (p .ensures) (not-true _ (c .before .if1 .taken)))
+
+read-byte-requires-2 : tie.Need-read-byte-requires-2
+read-byte-requires-2 c κs = search needs
+
+empty-requires-2 : tie.Need-empty-requires-2
+empty-requires-2 c κs = search needs
+
+returns-2 : tie.Need-returns-2
+returns-2 c =
+    let a = c .before .before .before .before .before .before .before .before .args in
+    let s = now (a .bytes) in
+    let p = c .before .before .before .before .before .before .read-byte in
+    let q = c .before .before .before .read-byte2 in
+    let n = c .empty2 in
+    count-stops s (a .inputs) (a .gates) (a .k) (p .result .value) (drop (p .result .at) s) (went (p .result .fine) (p .result .value) (drop (p .result .at) s) (p .ensures) (not-false _ (c .before .before .before .before .if1 .left)))
+    (n .result) (n .ensures .isFine) (stopped (q .result .fine) (q .result .value) (drop (q .result .at) s) (q .ensures) (not-true _ (c .before .if2 .taken)))
+
+wide-requires : tie.Need-wide-requires
+wide-requires c κs = search needs
+
+wide-requires-2 : tie.Need-wide-requires-2
+wide-requires-2 c κs = search needs
+
+empty-requires-3 : tie.Need-empty-requires-3
+empty-requires-3 c κs = search needs
+
+add-read-luts : tie.Need-add-read-luts
+add-read-luts c = search needs
+
+read-luts-requires : tie.Need-read-luts-requires
+read-luts-requires c κs =
+    let a = c .before .before .before .before .before .before .before .before .before .before .args in
+    let s = now (a .bytes) in
+    let p = c .before .before .before .before .before .before .before .before .read-byte in
+    let q = c .before .before .before .before .before .read-byte2 in
+    let range = count-range (q .result .value) (drop (p .result .at) s) (drop (q .result .at) s) (went (q .result .fine) (q .result .value) (drop (q .result .at) s) (q .ensures) (not-false _ (c .before .before .before .if2 .left))) in
+    (c .before .before .before .before .before .before .before .before .before .before .pre .2, omega (arith, range .1, c .before .wide2 .ensures, c .empty3 .ensures .isLuts))
+
+empty-requires-4 : tie.Need-empty-requires-4
+empty-requires-4 c κs = search needs
+
+returns-3 : tie.Need-returns-3
+returns-3 c =
+    let a = c .before .before .before .before .before .before .before .before .before .before .before .before .before .before .args in
+    let s = now (a .bytes) in
+    let p = c .before .before .before .before .before .before .before .before .before .before .before .before .read-byte in
+    let q = c .before .before .before .before .before .before .before .before .before .read-byte2 in
+    let w = c .before .before .before .before .empty3 in
+    let y = c .before .before .before .read-luts in
+    let n = c .empty4 in
+    let start : Empty true (p .result .value) (q .result .value) (w .result) =
+    record { isFine = w .ensures .isFine; isPeriod = w .ensures .isPeriod ∙ c .before .before .before .before .before .before .wide .ensures; isLuts = w .ensures .isLuts ∙ c .before .before .before .before .before .wide2 .ensures } in
+    luts-stopped s (a .inputs) (a .gates) (a .k) (p .result .value) (drop (p .result .at) s) (went (p .result .fine) (p .result .value) (drop (p .result .at) s) (p .ensures) (not-false _ (c .before .before .before .before .before .before .before .before .before .before .if1 .left)))
+    (q .result .value) (q .result .at) (went (q .result .fine) (q .result .value) (drop (q .result .at) s) (q .ensures) (not-false _ (c .before .before .before .before .before .before .before .if2 .left))) (w .result) start (y .result) (y .ensures)
+    (n .result) (n .ensures .isFine) (not-true _ (c .before .if3 .taken))
+
+empty-requires-5 : tie.Need-empty-requires-5
+empty-requires-5 c κs = search needs
+
+returns-4 : tie.Need-returns-4
+returns-4 c =
+    let a = c .before .before .before .before .before .before .before .before .before .before .before .before .before .before .before .before .args in
+    let s = now (a .bytes) in
+    let p = c .before .before .before .before .before .before .before .before .before .before .before .before .before .before .read-byte in
+    let q = c .before .before .before .before .before .before .before .before .before .before .before .read-byte2 in
+    let w = c .before .before .before .before .before .before .empty3 in
+    let y = c .before .before .before .before .before .read-luts in
+    let n = c .empty5 in
+    let start : Empty true (p .result .value) (q .result .value) (w .result) =
+    record { isFine = w .ensures .isFine; isPeriod = w .ensures .isPeriod ∙ c .before .before .before .before .before .before .before .before .wide .ensures; isLuts = w .ensures .isLuts ∙ c .before .before .before .before .before .before .before .wide2 .ensures } in
+    bytes-over s (a .inputs) (a .gates) (a .k) (p .result .value) (drop (p .result .at) s) (went (p .result .fine) (p .result .value) (drop (p .result .at) s) (p .ensures) (not-false _ (c .before .before .before .before .before .before .before .before .before .before .before .before .if1 .left)))
+    (q .result .value) (q .result .at) (went (q .result .fine) (q .result .value) (drop (q .result .at) s) (q .ensures) (not-false _ (c .before .before .before .before .before .before .before .before .before .if2 .left))) (w .result) start (y .result) (y .ensures)
+    (not-false _ (c .before .before .before .if3 .left)) (n .result) (n .ensures .isFine) (omega arith)
+
+returns-5 : tie.Need-returns-5
+returns-5 c =
+    let a = c .before .before .before .before .before .before .before .before .before .before .before .before .before .before .before .before .args in
+    let s = now (a .bytes) in
+    let p = c .before .before .before .before .before .before .before .before .before .before .before .before .before .before .read-byte in
+    let q = c .before .before .before .before .before .before .before .before .before .before .before .read-byte2 in
+    let w = c .before .before .before .before .before .before .empty3 in
+    let y = c .before .before .before .before .before .read-luts in
+    let start : Empty true (p .result .value) (q .result .value) (w .result) =
+    record { isFine = w .ensures .isFine; isPeriod = w .ensures .isPeriod ∙ c .before .before .before .before .before .before .before .before .wide .ensures; isLuts = w .ensures .isLuts ∙ c .before .before .before .before .before .before .before .wide2 .ensures } in
+    let held = y .ok .1 .1 .1 .1 .0 in
+    let lr : length (y .result .luts .roots) ≡ 32 = let good = held .1 .1 .1 .1 .1 .0 in search needs in
+    let ls : length (y .result .luts .sizes) ≡ 32 = let good = held .1 .1 .1 .1 .1 .1 .0 in search needs in
+    let ln : length (y .result .luts .nodes) ≡ 192 = let good = held .1 .1 .1 .1 .1 .1 .1 .0 in search needs in
+    let lb : length (y .result .luts .backs) ≡ 192 = let good = held .1 .1 .1 .1 .1 .1 .1 .1 .0 in search needs in
+    let ll : length (y .result .luts .lags) ≡ 32 = let good = held .1 .1 .1 .1 .1 .1 .1 .1 .1 .0 in search needs in
+    let lt : length (y .result .luts .tables) ≡ 32 = let good = held .1 .1 .1 .1 .1 .1 .1 .1 .1 .1 .0 in search needs in
+    cover-goes s (a .inputs) (a .gates) (a .k) (p .result .value) (drop (p .result .at) s) (went (p .result .fine) (p .result .value) (drop (p .result .at) s) (p .ensures) (not-false _ (c .before .before .before .before .before .before .before .before .before .before .before .before .if1 .left)))
+    (q .result .value) (q .result .at) (went (q .result .fine) (q .result .value) (drop (q .result .at) s) (q .ensures) (not-false _ (c .before .before .before .before .before .before .before .before .before .if2 .left))) (w .result) start (y .result) (y .ensures)
+    (not-false _ (c .before .before .before .if3 .left)) (omega arith) (c .before .before .before .before .before .before .before .before .before .before .before .before .before .before .before .before .pre .2) lr ls ln lb ll lt
+
+pub read-cover-spec : {M : Type 1} → statement M
+read-cover-spec =
+    tie.close
+    (tie.spec
+    read-byte-requires
+    empty-requires
+    returns
+    read-byte-requires-2
+    empty-requires-2
+    returns-2
+    wide-requires
+    wide-requires-2
+    empty-requires-3
+    add-read-luts
+    read-luts-requires
+    empty-requires-4
+    returns-3
+    empty-requires-5
+    returns-4
+    returns-5)

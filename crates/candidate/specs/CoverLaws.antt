@@ -1,0 +1,96 @@
+-- Laws of reading a cover record, one for each way out.
+use mathlib.Core.Path.{_≡_, sym, ap, ap₂, _∙_, subst}
+use mathlib.Core.Bool.{true, false, true≢false}
+use mathlib.Core.List.{List, []}
+use Prim.Native.Nat.{ℕ, _+_, _≤_, _<_}
+use native.Mathlib.Omega.{arith}
+use lib.ListN.{length, drop}
+use Rattle.netlist.specs.Net.{Net, size}
+use Rattle.netbytes.specs.Reading.{andThen, between, got, refused}
+use Rattle.netbytes.specs.Readers.{then-goes, then-stops, byte-got}
+use Rattle.netbytes.specs.Sound.{between-true}
+use Rattle.records.specs.CoverBytes.{coverReader, lutsReader}
+use Rattle.records.specs.Held.{lutsIn, WellHeld}
+use Rattle.reader.specs.NetLaws.{end-done, end-over}
+use Rattle.candidate.specs.declared.Candidate.{Candidate}
+use Rattle.candidate.specs.declared.Field.the-variants.{Period, Luts}
+use Rattle.candidate.specs.declared.Part.{Part}
+use Rattle.candidate.specs.Reads.{heldOf, CoverRead}
+use Rattle.candidate.specs.Fields.{fieldByte}
+use Rattle.candidate.specs.Stages.{fromLuts, fromCount, fromPeriod, cover-stages}
+use Rattle.candidate.specs.Contracts.{LutsRead, Empty}
+use Rattle.candidate.specs.FieldLaws.{went, stopped}
+use Rattle.candidate.specs.FactLaws.{luts-facts, well-held}
+
+-- a number of LUTs or a period that was read is in its range
+pub period-range : (p : ℕ) (t u : List ℕ) → fieldByte Period 0 0 t ≡ got p u → (1 ≤ p) × (p ≤ 32)
+period-range p t u e = between-true 1 32 p (byte-got 13 13 (between 1 32) t p u e)
+
+pub count-range : (n : ℕ) (t u : List ℕ) → fieldByte Luts 0 0 t ≡ got n u → (1 ≤ n) × (n ≤ 32)
+count-range n t u e = between-true 1 32 n (byte-got 13 13 (between 1 32) t n u e)
+
+module _ (s : List ℕ) (I G k : ℕ) where
+  -- the record is refused
+  stop-cover : (c : Candidate) → c .fine ≡ false → ((N : Net) → N .inputs ≡ I → size N ≡ I + G → coverReader N k s ≡ refused 13) → CoverRead s I G k c
+  stop-cover c bad e = record {
+    read = λ good. absurd (true≢false (sym good ∙ bad));
+    broken = λ h. e;
+    well = λ good. absurd (true≢false (sym good ∙ bad));
+    lowPeriod = λ good. absurd (true≢false (sym good ∙ bad));
+    highPeriod = λ good. absurd (true≢false (sym good ∙ bad));
+    few = λ good. absurd (true≢false (sym good ∙ bad));
+  }
+
+  pub period-stops : (c : Candidate) → c .fine ≡ false → fieldByte Period 0 0 s ≡ refused 13 → CoverRead s I G k c
+  period-stops c bad e = stop-cover c bad (λ N i z. cover-stages N k s ∙ then-stops (fromPeriod (size N) k (N .inputs)) e)
+
+  module _ (p : ℕ) (t : List ℕ) (e : fieldByte Period 0 0 s ≡ got p t) where
+    pub count-stops : (c : Candidate) → c .fine ≡ false → fieldByte Luts 0 0 t ≡ refused 13 → CoverRead s I G k c
+    count-stops c bad f =
+        stop-cover c bad (λ N i z. cover-stages N k s ∙ then-goes (fromPeriod (size N) k (N .inputs)) e ∙ then-stops (fromCount (size N) k (N .inputs) p) f)
+
+    module _ (n at : ℕ) (f : fieldByte Luts 0 0 t ≡ got n (drop at s)) (w : Candidate) (em : Empty true p n w)
+        (y : Part) (r : LutsRead s at (I + G) k I w y) where
+      luts-at : (N : Net) → N .inputs ≡ I → size N ≡ I + G → coverReader N k s ≡ andThen (lutsReader (I + G) k (w .luts) I (drop at s)) (fromLuts p)
+      luts-at N i z =
+          cover-stages N k s ∙ then-goes (fromPeriod (size N) k (N .inputs)) e ∙ then-goes (fromCount (size N) k (N .inputs) p) f
+          ∙ ap₂ (λ (a b : ℕ). andThen (lutsReader a k n b (drop at s)) (fromLuts p)) z i
+          ∙ ap (λ (a : ℕ). andThen (lutsReader (I + G) k a I (drop at s)) (fromLuts p)) (sym (em .isLuts))
+
+      pub luts-stopped : (c : Candidate) → c .fine ≡ false → y .fine ≡ false → CoverRead s I G k c
+      luts-stopped c bad v =
+          stop-cover c bad (λ N i z. luts-at N i z ∙ then-stops (fromLuts p) (stopped (y .fine) (lutsIn (heldOf (y .luts)) (w .luts)) (drop (y .at) s) (r .result) v))
+
+      module _ (v : y .fine ≡ true) where
+        luts-got : lutsReader (I + G) k (w .luts) I (drop at s) ≡ got (lutsIn (heldOf (y .luts)) (w .luts)) (drop (y .at) s)
+        luts-got = went (y .fine) (lutsIn (heldOf (y .luts)) (w .luts)) (drop (y .at) s) (r .result) v
+
+        pub bytes-over : (c : Candidate) → c .fine ≡ false → y .at < length s → CoverRead s I G k c
+        bytes-over c bad h =
+            stop-cover c bad (λ N i z. luts-at N i z ∙ then-goes (fromLuts p) luts-got
+            ∙ end-over 13 (record { period = p; entries = lutsIn (heldOf (y .luts)) (w .luts) }) s (y .at) h)
+
+        pub cover-goes : length s ≤ y .at → k ≤ 6
+            → length (y .luts .roots) ≡ 32 → length (y .luts .sizes) ≡ 32 → length (y .luts .nodes) ≡ 192 → length (y .luts .backs) ≡ 192
+            → length (y .luts .lags) ≡ 32 → length (y .luts .tables) ≡ 32 → CoverRead s I G k (y .luts)
+        cover-goes h six lr ls ln lb ll lt =
+            let c = y .luts in
+            let number : c .luts ≡ w .luts = r .same .luts in
+            let count = count-range n t (drop at s) f in
+            let high = count .1 in
+            let period : c .period ≡ p = r .same .period ∙ em .isPeriod in
+            let range = period-range p s t e in
+            let isLuts = em .isLuts in
+            let fine : c .fine ≡ true = r .same .fine ∙ em .isFine in
+            record {
+              read = λ good N i z. luts-at N i z ∙ then-goes (fromLuts p) luts-got
+                  ∙ end-done 13 (record { period = p; entries = lutsIn (heldOf c) (w .luts) }) s (y .at) h
+                  ∙ ap₂ (λ (a b : ℕ). got (record { period = a; entries = lutsIn (heldOf c) b }) []) (sym period) (sym number);
+              broken = λ bad. absurd (true≢false (sym fine ∙ bad));
+              well = λ good. subst (λ (m : ℕ). WellHeld I G k m (heldOf c)) (sym number)
+                  (well-held I G k (w .luts) (heldOf c) (luts-facts (I + G) k (w .luts) I (drop at s) (lutsIn (heldOf c) (w .luts)) (drop (y .at) s) luts-got)
+                  (omega arith) (omega arith) (omega arith) (omega arith) (omega arith) (omega arith) six (r .small v));
+              lowPeriod = λ good. omega (arith, period, range .0);
+              highPeriod = λ good. omega (arith, period, range .1);
+              few = λ good. omega (arith, number, isLuts, high);
+            }

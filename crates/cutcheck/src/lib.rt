@@ -1,0 +1,209 @@
+// Checks 14 and 15 of a candidate's LUTs: leaves that are cuts of their roots, tables that are right.
+use cone::Told;
+use cone::table;
+use cone::walk;
+ghost use mathlib.Core.Path.{_≡_};
+ghost use Prim.Native.Nat.{ℕ, _+_, _*_, _≤_, _<_};
+ghost use lib.ListN.{length, getD};
+ghost use Rattle.cone.specs.Lists.{Wires, copiesIn};
+ghost use Rattle.cutcheck.specs.Cuts.{Cutting, LutTried, TriedAt, CutsTried, Compared, CutsTold};
+
+// Whether leaves are no cut, and the table where they are one.
+struct Tried {
+    none: bool,
+    table: u64,
+}
+
+// The n leaves of gate g.
+fn try_lut(
+    inputs: usize,
+    gates: usize,
+    pins: &[usize],
+    sources: &[usize],
+    counts: &[usize],
+    tables: &[u64],
+    leaf_nodes: &[usize],
+    leaf_backs: &[usize],
+    n: usize,
+    g: usize,
+) -> Tried
+    requires { ⌜ Wires inputs gates (now pins) (now sources) (now counts) × (gates ≤ length (now tables)) × (n ≤ 6) × (n ≤ length (now «leaf_nodes»)) × (n ≤ length (now «leaf_backs»)) × (g < gates) ⌝ }
+    ensures { λ r. ⌜ LutTried inputs gates (now (pins .entry)) (now (sources .entry)) (now (counts .entry)) (now (tables .entry)) (copiesIn (now («leaf_nodes» .entry)) (now («leaf_backs» .entry)) n) g r ⌝ }
+{
+    let cone = walk(
+        inputs,
+        gates,
+        pins,
+        sources,
+        counts,
+        leaf_nodes,
+        leaf_backs,
+        n,
+        g,
+    );
+    let verdict = cone.verdict;
+    if let Told::NoCut = verdict {
+        return Tried {
+            none: true,
+            table: 0,
+        };
+    }
+    let t = table(
+        inputs,
+        gates,
+        pins,
+        sources,
+        counts,
+        tables,
+        leaf_nodes,
+        leaf_backs,
+        n,
+        g,
+        cone,
+    );
+    Tried {
+        none: false,
+        table: t,
+    }
+}
+
+// The leaves of LUT i.
+fn try_at(
+    inputs: usize,
+    gates: usize,
+    pins: &[usize],
+    sources: &[usize],
+    counts: &[usize],
+    tables: &[u64],
+    roots: &[usize],
+    sizes: &[usize],
+    nodes: &[usize],
+    backs: &[usize],
+    k: usize,
+    n: usize,
+    i: usize,
+) -> Tried
+    requires { ⌜ Cutting inputs gates (now pins) (now sources) (now counts) (now tables) (now roots) (now sizes) (now nodes) (now backs) k n × (i < n) × (n ≤ 32) ⌝ }
+    ensures { λ r. ⌜ TriedAt inputs gates (now (pins .entry)) (now (sources .entry)) (now (counts .entry)) (now (tables .entry)) (now (roots .entry)) (now (sizes .entry)) (now (nodes .entry)) (now (backs .entry)) i r ⌝ }
+{
+    let at = 6 * i;
+    let size = sizes[i];
+    let g = roots[i] - inputs;
+    try_lut(
+        inputs,
+        gates,
+        pins,
+        sources,
+        counts,
+        tables,
+        &nodes[at..],
+        &backs[at..],
+        size,
+        g,
+    )
+}
+
+// Whether some LUT's leaves are no cut. Where none are, right has the tables.
+fn no_cuts(
+    inputs: usize,
+    gates: usize,
+    pins: &[usize],
+    sources: &[usize],
+    counts: &[usize],
+    tables: &[u64],
+    roots: &[usize],
+    sizes: &[usize],
+    nodes: &[usize],
+    backs: &[usize],
+    k: usize,
+    n: usize,
+    right: &mut [u64],
+) -> bool
+    requires { ⌜ Cutting inputs gates (now pins) (now sources) (now counts) (now tables) (now roots) (now sizes) (now nodes) (now backs) k n × (n ≤ 32) × (n ≤ length (now right)) ⌝ }
+    ensures { λ r. ⌜ CutsTried inputs gates (now (pins .entry)) (now (sources .entry)) (now (counts .entry)) (now (tables .entry)) (now (roots .entry)) (now (sizes .entry)) (now (nodes .entry)) (now (backs .entry)) k n (now (right .exit)) r ⌝ }
+{
+    let mut i = 0;
+    while i < n {
+        let t = try_at(
+            inputs,
+            gates,
+            pins,
+            sources,
+            counts,
+            tables,
+            roots,
+            sizes,
+            nodes,
+            backs,
+            k,
+            n,
+            i,
+        );
+        if t.none {
+            return true;
+        }
+        right[i] = t.table;
+        i += 1;
+    }
+    false
+}
+
+// Whether the first n tables differ.
+fn differ(a: &[u64], b: &[u64], n: usize) -> bool
+    requires { ⌜ (n ≤ length (now a)) × (n ≤ length (now b)) ⌝ }
+    ensures { λ r. ⌜ Compared (now (a .entry)) (now (b .entry)) n r ⌝ }
+{
+    let mut i = 0;
+    while i < n {
+        if a[i] != b[i] {
+            return true;
+        }
+        i += 1;
+    }
+    false
+}
+
+// 0, or the number of the first of 14 and 15 that fails; 14 over all LUTs before 15.
+pub fn check_luts(
+    inputs: usize,
+    gates: usize,
+    pins: &[usize],
+    sources: &[usize],
+    counts: &[usize],
+    tables: &[u64],
+    roots: &[usize],
+    sizes: &[usize],
+    nodes: &[usize],
+    backs: &[usize],
+    luts: &[u64],
+    k: usize,
+    n: usize,
+) -> usize
+    requires { ⌜ Cutting inputs gates (now pins) (now sources) (now counts) (now tables) (now roots) (now sizes) (now nodes) (now backs) k n × (n ≤ 32) × (n ≤ length (now luts)) ⌝ }
+    ensures { λ r. ⌜ CutsTold inputs gates (now (pins .entry)) (now (sources .entry)) (now (counts .entry)) (now (tables .entry)) (now (roots .entry)) (now (sizes .entry)) (now (nodes .entry)) (now (backs .entry)) (now (luts .entry)) k n r ⌝ }
+{
+    let mut right = [0u64; 32];
+    let uncut = no_cuts(
+        inputs,
+        gates,
+        pins,
+        sources,
+        counts,
+        tables,
+        roots,
+        sizes,
+        nodes,
+        backs,
+        k,
+        n,
+        &mut right,
+    );
+    let wrong = differ(luts, &right, n);
+    if uncut {
+        return 14;
+    }
+    if wrong {
+        return 15;
+    }
+    0
+}

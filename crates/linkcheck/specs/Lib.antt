@@ -1,0 +1,4 @@
+pub mod Places
+pub mod Links
+pub mod PlaceLaws
+pub mod LinkLaws

@@ -1,0 +1,55 @@
+-- `marker::mark_bytes` meets its contract: a refusal of the walk, or the answer for the net read.
+use denote.Ref.{now}
+use Rattle.marker.specs.Reading.{walk-refused, walk-marking, walk-marks}
+use borrow.Author.Needs.{needs}
+use Rattle.marker.proofs.mark_bytes.Statement.{statement}
+use Rattle.marker.proofs.mark_bytes.Tie as tie
+use Rattle.marker.proofs.mark_bytes.Reads as reads
+use Rattle.marker.proofs.mark_bytes.Lts as lts
+use Rattle.mapper.proofs.wide.Reads as wide-reads
+use Rattle.marker.proofs.mark_read.Reads as mark-read-reads
+use Rattle.reader.proofs.read_net.Reads as read-net-reads
+
+-- src/lib.rt:176:9
+read-net-requires : tie.Need-read-net-requires
+read-net-requires c κs = search needs
+
+-- src/lib.rt:178:29
+enum-known-v : tie.Need-enum-known-v
+enum-known-v c = search needs
+
+-- src/lib.rt:179:9
+returns : tie.Need-returns
+returns c = walk-refused (c .before .before .before .before .before .before .before .args .k) (now (c .before .before .before .before .before .before .before .args .net)) (c .before .before .before .read-net .result) (c .before .before .before .read-net .ensures) (now (c .before .before .before .before .before .before .before .args .cover)) (search needs) (c .before .v .given .1)
+
+enum-told : tie.Need-enum-told
+enum-told c = search needs
+
+-- src/lib.rt:181:22
+wide-requires : tie.Need-wide-requires
+wide-requires c κs = search needs
+
+-- src/lib.rt:181:5
+mark-read-requires : tie.Need-mark-read-requires
+mark-read-requires c κs = let p = c .before .before .before .before .before .before .before .before .pre in walk-marking (c .before .before .before .before .before .before .before .before .args .k) (now (c .before .before .before .before .before .before .before .before .args .net)) (c .before .before .before .before .read-net .result) (c .before .before .before .before .read-net .ensures) (c .before .before .enum-told .given .1) (c .before .wide .ensures) (p .0) (p .1) (p .2)
+
+-- src/lib.rt:172:1
+same-length : tie.Need-same-length
+same-length c = search needs
+
+-- src/lib.rt:172:1
+returns-2 : tie.Need-returns-2
+returns-2 c = walk-marks (c .before .before .before .before .before .before .before .before .before .before .before .args .k) (now (c .before .before .before .before .before .before .before .before .before .before .before .args .net)) (c .before .before .before .before .before .before .before .read-net .result) (c .before .before .before .before .before .before .before .read-net .ensures) (c .before .before .before .before .before .enum-told .given .1) (c .before .before .before .before .wide .ensures) (c .before .before .mark-read .ensures)
+
+pub mark-bytes-spec : {M : Type 1} → statement M
+mark-bytes-spec =
+    tie.close
+    (tie.spec
+    read-net-requires
+    enum-known-v
+    returns
+    enum-told
+    wide-requires
+    mark-read-requires
+    same-length
+    returns-2)

@@ -1,0 +1,10 @@
+// The marking program: reads k, the net's length in two bytes, the net and a candidate's record from standard input, and prints the excess or the refusal.
+use grader::grade;
+
+fn main() {
+    let mut input = io::large_buffer();
+    let n = io::read_full(0, &mut input);
+    let mut out = [0u8; 32];
+    let m = grade(&input[..n], &mut out);
+    io::write_all(1, &out[..m]);
+}
