@@ -111,9 +111,9 @@ fn judge_read(net: Wiring, c: Candidate, k: usize, least: usize) -> Grade
     if l > 0 {
         return Grade::Refused(narrow(l));
     }
-    let r = judge_links(net, c, k);
-    if r > 0 {
-        return Grade::Refused(narrow(r));
+    let q = judge_links(net, c, k);
+    if q > 0 {
+        return Grade::Refused(narrow(q));
     }
     Grade::Excess(c.period - least)
 }
