@@ -10,7 +10,7 @@ use native.Mathlib.Omega.{arith}
 use lib.ListN.{length, getD, take, drop}
 use lib.Seq.{take-at}
 use Rattle.sequences.specs.Member.{_∈_, getD-in, in-getD}
-use Rattle.netlist.specs.Net.{Net, Pin, IsGate}
+use Rattle.netlist.specs.Net.{Net, Pin, IsGate, size}
 use Rattle.netlist.specs.Checks.{Passed}
 use Rattle.netlist.specs.Copies.{Copy, copy, IsCut}
 use Rattle.netlist.specs.Runs.{Run}
@@ -22,10 +22,11 @@ use Rattle.covers.specs.Joined.{key?, key-met}
 use Rattle.covers.specs.KeyOf.{entries-in, roots-gate, entryOf}
 use Rattle.covers.specs.Period.{leastPeriod, leastPeriod-is, leastKey, leastPeriod-bound}
 use Rattle.covers.specs.Written.{noEntry, lut-asCover, luts-asCover}
-use Rattle.netbytes.specs.Limits.{mostPeriod}
-use Rattle.netbytes.specs.Reading.{got, refused, Result}
-use Rattle.netbytes.specs.Readers.{refused-not-got, got-value}
-use Rattle.records.specs.CoverBytes.{Record, coverBytes, coverReader}
+use Rattle.netbytes.specs.Limits.{mostPeriod, mostLuts}
+use Rattle.netbytes.specs.Reading.{got, refused, Result, Reader, andThen, atEnd, between}
+use Rattle.netbytes.specs.Readers.{refused-not-got, got-value, then-got, byte-got, atEnd-got}
+use Rattle.netbytes.specs.Sound.{between-true}
+use Rattle.records.specs.CoverBytes.{Record, coverBytes, coverReader, coverByte, lutsReader}
 use Rattle.records.specs.Decided.{cutsRight?, tablesRight?, allFed?, enough?, shortChains?}
 use Rattle.records.specs.KeyRecord.{WithinLimits, key-back}
 use Rattle.records.specs.Marking.{CutsRight, TableRight, TablesRight, AllFed, EnoughRegisters, ShortChains}
@@ -144,6 +145,21 @@ module _ (net bytes scratch : List ℕ) (k : ℕ) (N : Net) (P : Passed N k) (si
 pub right-runs : {N : Net} {k : ℕ} (P : Passed N k) (r : Record) → RightRecord N k r → {value : ℕ → ℕ → Bool} → Run N value → (i : ℕ) → i < length (r .entries)
     → Satisfied N (asCover N (r .entries)) value i ((getD (r .entries) i noEntry) .table)
 right-runs P r g run i h = accepted-runs P {es = r .entries} (g .tables) run i h
+
+-- a record that the layout reads states a period of 1 or more
+pub period-stated : (N : Net) (k : ℕ) (bytes : List ℕ) (r : Record) (rest : List ℕ) → coverReader N k bytes ≡ got r rest → 1 ≤ r .period
+period-stated N k bytes r rest e =
+    let a = then-got (coverByte (between 1 mostPeriod) bytes) (λ period. behind N k period) r rest (unfold coverReader in e) in
+    let b = then-got (coverByte (between 1 mostLuts) (a .1)) (λ n. luts N k (a .0) n) r rest (a .3) in
+    let c = then-got (lutsReader (size N) k (b .0) (N .inputs) (b .1)) (λ es. atEnd 13 (record { period = a .0; entries = es })) r rest (b .3) in
+    let d = atEnd-got 13 (record { period = a .0; entries = c .0 }) (c .1) r rest (c .3) in
+    subst (λ (x : Record). 1 ≤ x .period) (d .0) (between-true 1 mostPeriod (a .0) (byte-got 13 13 (between 1 mostPeriod) bytes (a .0) (a .1) (a .2)) .0)
+  where
+    luts : Net → ℕ → ℕ → ℕ → Reader Record
+    luts N k period n s = andThen (lutsReader (size N) k n (N .inputs) s) (λ es. atEnd 13 (record { period = period; entries = es }))
+
+    behind : Net → ℕ → ℕ → Reader Record
+    behind N k period s = andThen (coverByte (between 1 mostLuts) s) (λ n. luts N k period n)
 
 -- the excess of an accepted record is not cut off at 0
 pub right-excess : {N : Net} {k : ℕ} (P : Passed N k) (r : Record) → 1 ≤ r .period → RightRecord N k r → leastPeriod P ≤ r .period
