@@ -1,14 +1,16 @@
 # make run: the main job on an example net. make test: the whole gate.
-.PHONY: run test programs second library bench depth
+.PHONY: run test programs second library bench depth soak batch
 
 # The listing of a net: NET is a file with k, the target and the net record.
 NET ?= examples/net-a.bin
+run: PROGRAMS = listing
 run: programs
 	@target/bin/listing < $(NET)
 
 # The proved programs, in target/bin.
+PROGRAMS = listing marking reading
 programs:
-	@test -x target/bin/listing || rt check listing > .rt-programs.log 2>&1 || { tail -n 60 .rt-programs.log; exit 1; }
+	@(for name in $(PROGRAMS); do test -x target/bin/$$name || exit 1; done) || rt check $(PROGRAMS) > .rt-programs.log 2>&1 || { tail -n 60 .rt-programs.log; exit 1; }
 
 # The second mapper, for comparison.
 second:
@@ -18,13 +20,22 @@ second:
 library:
 	rt staticlib kamfelu > .rt-library.log 2>&1 || { tail -n 60 .rt-library.log; exit 1; }
 
-# Times of the library and of the second mapper on the same nets.
+# Times of map, mark and the second mapper on the same nets, and ABC's periods where it is installed.
 bench: library
 	cd tests && cargo run --profile timing --offline --quiet -p library --bin bench
 
 # The deepest stack use seen.
 depth: library
 	cd tests && cargo run --release --offline --quiet -p library --bin depth
+
+# Map and mark against the second mapper for MINUTES minutes, with fresh nets.
+MINUTES ?= 20
+soak: library
+	cd tests && cargo run --release --offline --quiet -p library --bin soak -- $(MINUTES) $(SEED)
+
+# The stored batch of the reader's gate, crates/reading/stdin, and the second mapper's answers, stdout.
+batch: library
+	cd tests && cargo run --release --offline --quiet -p library --bin batch
 
 # The proofs, the layout and the comparisons; rt ci's verdict is printed last, and only if all else passed.
 # rt ci empties target/ first and leaves the proofs there, so that the library is then built from them.

@@ -1,5 +1,6 @@
 // The marking: from the bytes read (k, the net's length, the net, the record) to the text printed.
 use lister::byte_at;
+use lister::number;
 use mapper::wide;
 use marker::Grade;
 use marker::mark;
@@ -12,12 +13,6 @@ ghost use Rattle.records.specs.Program.{marking, markingProgram};
 ghost use Rattle.writer.specs.Writing.{Wrote};
 ghost use Rattle.text.specs.Text.{refusalRoom};
 ghost use Rattle.grader.specs.Parts.{Behind};
-
-fn number(x: u8) -> usize
-    ensures { λ r. ⌜ r ≡ x ⌝ }
-{
-    x as usize
-}
 
 // The record's mark as text.
 fn grade_parts(k: u32, net: &[u8], cover: &[u8], out: &mut [u8]) -> usize
@@ -33,7 +28,7 @@ fn grade_parts(k: u32, net: &[u8], cover: &[u8], out: &mut [u8]) -> usize
 }
 
 // The place n bytes behind another, or the end.
-fn place_behind(input: &[u8], at: usize, n: usize) -> usize
+pub fn place_behind(input: &[u8], at: usize, n: usize) -> usize
     requires { ⌜ at ≤ length (now input) ⌝ }
     ensures { λ r. ⌜ Behind (now (input .entry)) at n r ⌝ }
 {
@@ -44,7 +39,7 @@ fn place_behind(input: &[u8], at: usize, n: usize) -> usize
 }
 
 // The net's length, two bytes, low first.
-fn net_length(input: &[u8]) -> usize
+pub fn net_length(input: &[u8]) -> usize
     ensures { λ r. ⌜ r ≡ getD (now (input .entry)) 1 0 + 256 * getD (now (input .entry)) 2 0 ⌝ }
 {
     let low = byte_at(input, 1);

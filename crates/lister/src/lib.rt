@@ -16,7 +16,7 @@ ghost use Rattle.writer.specs.Writing.{Wrote};
 ghost use Rattle.text.specs.Text.{textRoom};
 ghost use Rattle.lister.specs.Asked.{Listing, ListsNet};
 
-fn number(x: u8) -> usize
+pub fn number(x: u8) -> usize
     ensures { λ r. ⌜ r ≡ x ⌝ }
 {
     x as usize

@@ -17,7 +17,7 @@ use writer::count_luts;
 // ---- bytes and numbers
 
 // One byte.
-fn put_byte(b: u8, at: usize, out: &mut [u8]) -> usize
+pub fn put_byte(b: u8, at: usize, out: &mut [u8]) -> usize
     requires { ⌜ at + 1 ≤ length (now out) ⌝ }
     ensures { λ r. ⌜ Put 1 at (b ∷ []) (now (out .entry)) (now (out .exit)) r ⌝ }
 {
@@ -109,7 +109,7 @@ fn put_table(n: usize, w: u64, at: usize, out: &mut [u8]) -> usize
 }
 
 // A word and a number.
-fn put_field(word: &[u8], n: usize, at: usize, out: &mut [u8]) -> usize
+pub fn put_field(word: &[u8], n: usize, at: usize, out: &mut [u8]) -> usize
     requires { ⌜ at + (length (now word) + 20) ≤ length (now out) ⌝ }
     ensures { λ r. ⌜ Put (length (now (word .entry)) + 20) at (now (word .entry) ++ decimal n) (now (out .entry)) (now (out .exit)) r ⌝ }
 {

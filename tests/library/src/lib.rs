@@ -1,6 +1,11 @@
 //! The proved mapper, called through its static library.
 
+pub mod abc;
+pub mod batch;
+pub mod compare;
 pub mod nets;
+pub mod pieces;
+pub mod programs;
 
 extern "C" {
     fn kamfelu_map(
@@ -14,7 +19,6 @@ extern "C" {
         scratch_len: usize,
     ) -> i64;
 
-    #[cfg(feature = "mark")]
     fn kamfelu_mark(
         net: *const u8,
         net_len: usize,
@@ -50,7 +54,6 @@ pub fn map(
 }
 
 /// The excess, or the refusal's number.
-#[cfg(feature = "mark")]
 pub fn mark(net: &[u8], k: u32, record: &[u8], scratch: &mut [u8]) -> Result<usize, u8> {
     // SAFETY: each pointer goes with its slice's length, and the slices are apart.
     told(unsafe {

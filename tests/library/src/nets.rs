@@ -63,6 +63,23 @@ pub fn and_line(gates: usize, count: u32, at_output: u32) -> Net {
     net(inputs, &gates, &[(inputs + gates.len() - 1, at_output)])
 }
 
+/// A line of 30 gates, seen through none to five registers by a gate of six pins: its
+/// largest cone has 183 copies.
+pub fn wide_cone() -> Net {
+    let mut pins: Vec<Vec<Read>> = (0..30).map(|i| vec![(i, 0)]).collect();
+    pins.push(vec![(30, 3)]);
+    pins.push(vec![(30, 0), (30, 1), (30, 2), (30, 3), (31, 1), (31, 2)]);
+    let table = |pins: &Vec<Read>| {
+        if pins.len() == 1 {
+            1
+        } else {
+            0x6996_9669_9669_6996
+        }
+    };
+    let gates: Vec<(&[Read], u64)> = pins.iter().map(|own| (&own[..], table(own))).collect();
+    net(1, &gates, &[(32, 0)])
+}
+
 /// Six leaves with registers for each of 32 roots: the largest record, 962 bytes at k 6.
 pub fn largest_record() -> Net {
     let mut pins: Vec<Vec<Read>> = Vec::new();

@@ -157,7 +157,6 @@ fn areas_of_962_and_961_bytes() {
     }
 }
 
-#[cfg(feature = "mark")]
 #[test]
 fn mark_of_a_and_b() {
     let mark = |net: &[u8], k: u32, record: &[u8]| {

@@ -1,26 +1,15 @@
 //! The program `listing` over standard input and output, against the second mapper's text.
 
 use library::nets::{largest_record, net_a, net_b, net_c};
+use library::programs;
 use second::damage::damaged_net;
 use second::encode::encode;
 use second::generate::{random_net, Shape};
 use second::listing::listing;
 use second::Random;
-use std::io::Write;
-use std::process::{Command, Stdio};
-
-const PROGRAM: &str = concat!(env!("CARGO_MANIFEST_DIR"), "/../../target/bin/listing");
 
 fn printed(given: &[u8]) -> String {
-    let mut child = Command::new(PROGRAM)
-        .stdin(Stdio::piped())
-        .stdout(Stdio::piped())
-        .spawn()
-        .expect("the program starts; `make programs` builds it");
-    let _ = child.stdin.take().unwrap().write_all(given);
-    let output = child.wait_with_output().unwrap();
-    assert!(output.status.success());
-    String::from_utf8(output.stdout).unwrap()
+    programs::printed("listing", given)
 }
 
 fn same(k: u8, target: u8, net: &[u8]) -> String {

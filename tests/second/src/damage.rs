@@ -152,7 +152,7 @@ fn change(random: &mut Random, net: &Net, cover: &mut Cover) {
     }
 }
 
-fn random_leaf(random: &mut Random, net: &Net) -> NodeCopy {
+pub fn random_leaf(random: &mut Random, net: &Net) -> NodeCopy {
     let d = random.pick(&[0, 0, 0, 1, 1, 2, 3, 573, 577, 65_535]);
     NodeCopy {
         node: random.below(net.nodes()),

@@ -18,6 +18,7 @@ pub mod labels;
 pub mod listing;
 pub mod mark;
 pub mod net;
+pub mod programs;
 pub mod random;
 pub mod run;
 pub mod solve;

@@ -66,6 +66,15 @@ fn mark() {
 }
 
 #[test]
+fn reading() {
+    let case = |k: u8| [&[k, net_a().len() as u8, 0][..], &net_a()].concat();
+    let given = [case(2), case(1), vec![2, 1, 0, 17], vec![2]].concat();
+    let printed = "read 2 3 1\nrefused 7\nrefused 5\nrefused 4\n";
+    assert_eq!(text("reading", &given), printed);
+    assert_eq!(text("reading", &[]), "");
+}
+
+#[test]
 fn another_verb() {
     let (out, code) = second("other", &[]);
     assert_eq!((out, code), (Vec::new(), 2));

@@ -10,7 +10,7 @@ use Rattle.grader.proofs.grade_parts.Statement.{statement}
 use Rattle.grader.proofs.grade_parts.Tie as tie
 use Rattle.grader.proofs.grade_parts.Reads as reads
 use Rattle.grader.proofs.grade_parts.Lts as lts
-use Rattle.grader.proofs.number.Reads as number-reads
+use Rattle.lister.proofs.number.Reads as number-reads
 use Rattle.marker.proofs.mark.Reads as mark-reads
 use Rattle.text.proofs.write_excess.Reads as write-excess-reads
 use Rattle.text.proofs.write_refusal.Reads as write-refusal-reads

@@ -1,14 +1,18 @@
-//! Times of the library and of the second mapper on the same nets, in microseconds.
+//! Times of the library's map and mark and of the second mapper on the same nets, in
+//! microseconds, and the periods of ABC's `&sif` where it is installed.
 //!
 //! `bench [nets] [seed]`. Each call is timed three times and the least time counts.
 //! The areas are full of old bytes before a call; a call clears its scratch, and that is
 //! in the time. Build with the profile `timing`.
 
+use library::abc;
 use library::nets::{of_family, FAMILIES};
 use second::encode::encode;
 use second::generate::{random_net, Shape};
 use second::jobs::{COVER_BYTES, SCRATCH_BYTES};
-use second::{Answer, Limits, Random};
+use second::{Answer, Gate, Limits, Net, Random};
+use std::cmp::Ordering;
+use std::collections::BTreeSet;
 use std::time::{Duration, Instant};
 
 const STACK_BYTES: usize = 64 << 20;
@@ -30,6 +34,10 @@ struct Times {
     most: Duration,
 }
 
+fn micros(time: Duration) -> f64 {
+    time.as_secs_f64() * 1e6
+}
+
 impl Times {
     fn add(&mut self, time: Duration) {
         self.sum += time;
@@ -39,18 +47,16 @@ impl Times {
 
     /// Number, average and largest, in columns.
     fn text(&self) -> String {
-        let micros = |time: Duration| time.as_secs_f64() * 1e6;
         let average = micros(self.sum) / f64::from(self.number.max(1));
         format!(
-            "{:6} {:12.1} {:12.1}",
+            "{:6} {average:10.1} {:10.1}",
             self.number,
-            average,
             micros(self.most)
         )
     }
 }
 
-const COLUMNS: &str = " calls      average      largest";
+const COLUMNS: &str = " calls    average    largest";
 
 struct Areas {
     cover: Vec<u8>,
@@ -58,93 +64,147 @@ struct Areas {
 }
 
 impl Areas {
-    /// The library's answer and time.
-    fn library(&mut self, net: &[u8], k: u32, target: u32) -> (Result<usize, u8>, Duration) {
-        let mut best = Duration::MAX;
-        let mut answer = Err(0);
-        for _ in 0..3 {
+    /// A call's answer and its least time of three.
+    fn best<T>(&mut self, call: impl Fn(&mut Areas) -> T) -> (T, Duration) {
+        let mut timed = || {
             self.scratch.fill(0xa5);
             let start = Instant::now();
-            answer = library::map(net, k, target, &mut self.cover, &mut self.scratch);
-            best = best.min(start.elapsed());
-        }
-        (answer, best)
+            let answer = call(self);
+            (answer, start.elapsed())
+        };
+        let tries = [timed(), timed(), timed()];
+        let least = tries.into_iter().min_by_key(|(_, time)| *time);
+        least.expect("three tries")
     }
 
-    /// The second mapper's answer and time; none if it gives up.
-    fn second(&mut self, net: &[u8], k: u32, target: u32) -> Option<(Result<usize, u8>, Duration)> {
-        let mut best = Duration::MAX;
-        let mut answer = Answer::GaveUp;
-        for _ in 0..3 {
-            self.scratch.fill(0xa5);
-            let start = Instant::now();
-            answer = second::map_within(LIMITS, net, k, target, &mut self.cover, &mut self.scratch);
-            best = best.min(start.elapsed());
-            if answer == Answer::GaveUp {
-                return None;
-            }
-        }
-        match answer {
-            Answer::Done(length) => Some((Ok(length as usize), best)),
-            Answer::Refused(number) => Some((Err(number), best)),
-            Answer::GaveUp => None,
-        }
+    /// The library's answer and time; the record is in the cover area.
+    fn map(&mut self, net: &[u8], k: u32, target: u32) -> (Result<usize, u8>, Duration) {
+        self.best(|areas| library::map(net, k, target, &mut areas.cover, &mut areas.scratch))
+    }
+
+    /// The excess of a record, and the time.
+    fn mark(&mut self, net: &[u8], k: u32, record: &[u8]) -> (Result<usize, u8>, Duration) {
+        self.best(|areas| library::mark(net, k, record, &mut areas.scratch))
+    }
+
+    /// The second mapper's answer and time.
+    fn second(&mut self, net: &[u8], k: u32) -> (Answer, Duration) {
+        self.best(|Areas { cover, scratch }| second::map_within(LIMITS, net, k, 0, cover, scratch))
     }
 }
 
-/// One call: the net's bytes, k, target.
-type Call = (Vec<u8>, u32, u32);
+/// A net's bytes and k.
+type Case = (Vec<u8>, u32);
 
-/// Times over some calls, given in an order that mixes sizes.
+/// The columns of a row.
+const NAMES: [&str; 6] = [
+    "map, target 0",
+    "map, the least period as target",
+    "map, one below (answer 12)",
+    "mark of map's record",
+    "map, target 0, where second finished",
+    "second mapper, target 0",
+];
+
+/// Times over some nets, and the nets on which the second mapper gave up, those it was
+/// not asked for time, and other answers than those expected.
 #[derive(Default)]
-struct Both {
-    library: Times,
-    /// The library where the second mapper finished too.
-    shared: Times,
-    second: Times,
+struct Row {
+    times: [Times; 6],
     gave_up: u32,
     not_asked: u32,
-    other_answers: u32,
+    others: u32,
 }
 
-fn both(areas: &mut Areas, calls: &[Call]) -> Both {
-    let mut times = Both::default();
+/// The nets come in an order that mixes sizes.
+fn measure(areas: &mut Areas, cases: &[Case]) -> Row {
+    let mut row = Row::default();
     let start = Instant::now();
-    for (net, k, target) in calls {
-        let (answer, time) = areas.library(net, *k, *target);
-        times.library.add(time);
+    for (net, k) in cases {
+        let (answer, time) = areas.map(net, *k, 0);
+        row.times[0].add(time);
+        let Ok(length) = answer else {
+            row.others += 1;
+            continue;
+        };
+        let record = areas.cover[..length].to_vec();
+        let least = u32::from(record[0]);
+        let (again, target) = areas.map(net, *k, least);
+        row.times[1].add(target);
+        row.others += u32::from(again != answer);
+        if least > 1 {
+            let (below, time) = areas.map(net, *k, least - 1);
+            row.times[2].add(time);
+            row.others += u32::from(below != Err(12));
+        }
+        let (excess, marked) = areas.mark(net, *k, &record);
+        row.times[3].add(marked);
+        row.others += u32::from(excess != Ok(0));
         if start.elapsed() > PATIENCE {
-            times.not_asked += 1;
+            row.not_asked += 1;
             continue;
         }
-        match areas.second(net, *k, *target) {
-            Some((other, second)) => {
-                times.shared.add(time);
-                times.second.add(second);
-                times.other_answers += u32::from(other != answer);
+        match areas.second(net, *k) {
+            (Answer::GaveUp, _) => row.gave_up += 1,
+            (other, second) => {
+                row.times[4].add(time);
+                row.times[5].add(second);
+                let same = other == Answer::Done(length as u32);
+                row.others += u32::from(!same || areas.cover[..length] != record);
             }
-            None => times.gave_up += 1,
         }
     }
-    times
+    row
 }
 
-impl Both {
+impl Row {
+    fn add(&mut self, other: &Row) {
+        for (times, more) in self.times.iter_mut().zip(&other.times) {
+            times.sum += more.sum;
+            times.number += more.number;
+            times.most = times.most.max(more.most);
+        }
+        self.gave_up += other.gave_up;
+        self.not_asked += other.not_asked;
+        self.others += other.others;
+    }
+
+    /// One line a column.
     fn print(&self) {
-        println!("                               {COLUMNS}");
-        println!("library, all calls             {}", self.library.text());
-        println!("library, where second finished {}", self.shared.text());
-        println!("second mapper                  {}", self.second.text());
+        println!("{:36} {COLUMNS}", "");
+        for (name, times) in NAMES.iter().zip(&self.times) {
+            println!("{name:36} {}", times.text());
+        }
         println!(
             "second mapper: gave up {}, not asked for time {}; other answers {}\n",
-            self.gave_up, self.not_asked, self.other_answers
+            self.gave_up, self.not_asked, self.others
         );
     }
+
+    /// Averages and largest times in one line.
+    fn line(&self, head: &str) {
+        let shown = [0, 1, 3, 5].map(|i| self.times[i].text()).join("  ");
+        println!("{head}  {shown}  {:8}", self.others);
+    }
+}
+
+/// The heads of lines.
+fn heads(head: &str) {
+    let gap = " ".repeat(head.len());
+    let names = [
+        "map, target 0",
+        "map, least period",
+        "mark",
+        "second mapper",
+    ];
+    let names = names.map(|name| format!("{name:>28}")).join("  ");
+    println!("{gap}  {names}");
+    println!("{head}  {}   others", [COLUMNS; 4].join("  "));
 }
 
 /// Nets of 8 to 32 gates, each with every k from its most pins to 6.
-fn random_calls(random: &mut Random, nets: usize) -> Vec<Call> {
-    let mut calls = Vec::new();
+fn random_cases(random: &mut Random, nets: usize) -> Vec<Case> {
+    let mut cases = Vec::new();
     for _ in 0..nets {
         let gates = random.within(8, 32);
         let pins = random.within(2, 6);
@@ -160,23 +220,9 @@ fn random_calls(random: &mut Random, nets: usize) -> Vec<Call> {
             input: 20,
         };
         let net = encode(&random_net(random, &shape));
-        calls.extend((pins as u32..=6).map(|k| (net.clone(), k, 0)));
+        cases.extend((pins as u32..=6).map(|k| (net.clone(), k)));
     }
-    calls
-}
-
-/// The least period of each call's net at its k, and calls with targets made from it.
-fn with_targets(areas: &mut Areas, calls: &[Call], target: impl Fn(u32) -> u32) -> Vec<Call> {
-    let mut aimed = Vec::new();
-    for (net, k, _) in calls {
-        if areas.library(net, *k, 0).0.is_ok() {
-            let target = target(u32::from(areas.cover[0]));
-            if target > 0 {
-                aimed.push((net.clone(), *k, target));
-            }
-        }
-    }
-    aimed
+    cases
 }
 
 /// The slowest call of a family at 32 gates, over k, the least period and the targets near it.
@@ -187,7 +233,7 @@ fn slow_family(areas: &mut Areas, random: &mut Random, family: usize, nets: usiz
         let pins = random.within(2, 6);
         let net = encode(&of_family(family, random, 32, pins));
         for k in pins as u32..=6 {
-            let (answer, time) = areas.library(&net, k, 0);
+            let (answer, time) = areas.map(&net, k, 0);
             let least = match answer {
                 Ok(_) => u32::from(areas.cover[0]),
                 Err(_) => 1,
@@ -195,7 +241,7 @@ fn slow_family(areas: &mut Areas, random: &mut Random, family: usize, nets: usiz
             let mut tried = vec![(0, time)];
             for target in [1, least - 1, least, 32] {
                 if target > 0 {
-                    tried.push((target, areas.library(&net, k, target).1));
+                    tried.push((target, areas.map(&net, k, target).1));
                 }
             }
             for (target, time) in tried {
@@ -219,14 +265,9 @@ fn hex(bytes: &[u8]) -> String {
     bytes.iter().map(|byte| format!("{byte:02x}")).collect()
 }
 
-fn row(head: &str, times: &Both) {
-    let [library, second] = [times.library.text(), times.second.text()];
-    println!("{head} {library}   {second}");
-}
-
-/// Average and largest times with the number of gates and with registers.
+/// Times with the number of gates and with registers.
 fn growth(areas: &mut Areas, random: &mut Random, nets: usize) {
-    let calls = |random: &mut Random, gates: usize, registers: u32, count: u32, back: u32| {
+    let cases = |random: &mut Random, gates: usize, registers: u32, count: u32, back: u32| {
         let shape = Shape {
             inputs: (4, 8),
             gates: (gates, gates),
@@ -238,18 +279,18 @@ fn growth(areas: &mut Areas, random: &mut Random, nets: usize) {
             twin: 0,
             input: 20,
         };
-        let call = |_| (encode(&random_net(random, &shape)), 4, 0);
-        (0..nets).map(call).collect::<Vec<Call>>()
+        let case = |_| (encode(&random_net(random, &shape)), 4);
+        (0..nets).map(case).collect::<Vec<Case>>()
     };
-    println!("growth with gates, k 4, target 0 (library, second mapper)");
-    println!("gates  {COLUMNS}   {COLUMNS}");
-    for gates in [4, 8, 16, 24, 32] {
-        let times = both(areas, &calls(random, gates, 20, 2, 15));
-        row(&format!("{gates:5}  "), &times);
+    println!("growth with gates, k 4");
+    heads("gates");
+    for gates in [4, 8, 12, 16, 20, 24, 28, 32] {
+        let row = measure(areas, &cases(random, gates, 20, 2, 15));
+        row.line(&format!("{gates:5}"));
     }
-    println!("\ngrowth with registers, 16 gates, k 4, target 0 (library, second mapper)");
-    println!("percent of pins, most registers a pin, percent of pins that read back");
-    println!("           {COLUMNS}   {COLUMNS}");
+    println!("\ngrowth with registers, 16 gates, k 4: percent of pins with registers, most");
+    println!("registers a pin, percent of pins that read back");
+    heads(" % most back");
     for (registers, count, back) in [
         (0, 1, 0),
         (10, 1, 10),
@@ -260,21 +301,100 @@ fn growth(areas: &mut Areas, random: &mut Random, nets: usize) {
         (100, 3, 20),
         (100, 3, 60),
     ] {
-        let times = both(areas, &calls(random, 16, registers, count, back));
-        row(&format!("{registers:3} {count:2} {back:3} "), &times);
+        let row = measure(areas, &cases(random, 16, registers, count, back));
+        row.line(&format!("{registers:3} {count:3} {back:4}"));
     }
 }
 
-/// A place for a comparison with another mapper, where it is installed.
-fn berkeley_abc() {
-    let path = std::env::var_os("PATH").unwrap_or_default();
-    let found = std::env::split_paths(&path).any(|folder| folder.join("berkeley-abc").is_file());
-    println!("\nberkeley-abc");
-    if found {
-        // HERE: write the nets as BLIF, run its mapper with retiming, and print its times.
-        println!("installed; no comparison is written yet");
-    } else {
-        println!("not installed; no comparison");
+/// A random net for ABC, and its k. Two-pin gates are AND gates up to inversions, no two of
+/// them and no two pins of one alike, so that ABC keeps them as they are.
+fn abc_net(random: &mut Random, pins: usize) -> (Net, u32) {
+    let gates = random.within(2, 32);
+    let shape = Shape {
+        inputs: (4, 8),
+        gates: (gates, gates),
+        outputs: (1, 4),
+        pins: (2, pins),
+        count: 2,
+        registers: random.pick(&[5, 20, 50]),
+        back: random.pick(&[5, 20]),
+        twin: 0,
+        input: 20,
+    };
+    loop {
+        let mut net = random_net(random, &shape);
+        let k = random.within(pins, 6) as u32;
+        if pins > 2 {
+            return (net, k);
+        }
+        let mut pairs = BTreeSet::new();
+        let mut alone = |gate: &Gate| {
+            let mut pair = [0, 1].map(|j| (gate.pins[j].source, gate.pins[j].count));
+            pair.sort_unstable();
+            pair[0] != pair[1] && pairs.insert(pair)
+        };
+        if net.gates.iter().all(&mut alone) {
+            let tables = [1, 2, 4, 8, 7, 11, 13, 14];
+            for gate in &mut net.gates {
+                gate.table = random.pick(&tables);
+            }
+            return (net, k);
+        }
+    }
+}
+
+/// ABC's periods against the least ones.
+fn compare_abc(areas: &mut Areas, random: &mut Random, nets: usize) {
+    println!("\nABC, &sif");
+    let Some(program) = abc::installed() else {
+        println!("skipped: neither berkeley-abc nor abc is on the path");
+        return;
+    };
+    for (pins, name) in [(2, "two-pin gates"), (4, "gates of up to 4 pins")] {
+        let nets: Vec<(Net, u32)> = (0..nets).map(|_| abc_net(random, pins)).collect();
+        let (periods, each) = match abc::periods(&program, &nets) {
+            Ok(told) => told,
+            Err(error) => {
+                println!("skipped: {error}");
+                return;
+            }
+        };
+        let mut times = Times::default();
+        // Below, at and above the least period, and no period.
+        let mut counts = [0; 4];
+        let mut smallest: Option<(usize, String)> = None;
+        for ((net, k), period) in nets.iter().zip(periods) {
+            let bytes = encode(net);
+            let (answer, time) = areas.map(&bytes, *k, 0);
+            answer.expect("a record");
+            times.add(time);
+            let least = u32::from(areas.cover[0]);
+            let Some(period) = period else {
+                counts[3] += 1;
+                continue;
+            };
+            counts[match period.cmp(&least) {
+                Ordering::Less => 0,
+                Ordering::Equal => 1,
+                Ordering::Greater => 2,
+            }] += 1;
+            let gates = net.gates.len();
+            if period < least && smallest.as_ref().is_none_or(|(size, _)| gates < *size) {
+                let hex = hex(&bytes);
+                let told = format!("period {period}, least {least}, k {k}, net {hex}");
+                smallest = Some((gates, told));
+            }
+        }
+        let [below, at, above, none] = counts;
+        println!(
+            "{name}: below the least period {below}, at it {at}, above it {above}, none {none}"
+        );
+        if let Some((_, told)) = smallest {
+            println!("  the smallest net with a period below: {told}");
+        }
+        println!("{:9} {COLUMNS}", "");
+        println!("  &sif    {:6} {:10.1}", times.number, micros(each));
+        println!("  map     {}", times.text());
     }
 }
 
@@ -285,34 +405,26 @@ fn run(nets: usize, seed: u64) {
         scratch: vec![0; SCRATCH_BYTES],
     };
     println!("times in microseconds, {nets} nets, seed {seed}\n");
-    let calls = random_calls(&mut random, nets);
-    println!("random nets of 8 to 32 gates, k 2 to 6, target 0");
-    both(&mut areas, &calls).print();
-    println!("of these, by k, library alone");
-    println!("k  {COLUMNS}");
+    let cases = random_cases(&mut random, nets);
+    println!("random nets of 8 to 32 gates, by k");
+    heads("k");
+    let mut all = Row::default();
     for k in 2..=6 {
-        let mut times = Times::default();
-        for (net, own, target) in &calls {
-            if *own == k {
-                times.add(areas.library(net, k, *target).1);
-            }
-        }
-        println!("{k}   {}", times.text());
+        let own: Vec<Case> = cases.iter().filter(|case| case.1 == k).cloned().collect();
+        let row = measure(&mut areas, &own);
+        row.line(&k.to_string());
+        all.add(&row);
     }
-    println!("\nthe same nets, the least period as target");
-    let aimed = with_targets(&mut areas, &calls, |least| least);
-    both(&mut areas, &aimed).print();
-    println!("the same nets, one below the least period as target (answer 12)");
-    let aimed = with_targets(&mut areas, &calls, |least| least - 1);
-    both(&mut areas, &aimed).print();
-    println!("slow families, 32 gates, library alone");
+    println!("\nall of these");
+    all.print();
+    println!("slow families, 32 gates, map alone");
     println!("             {COLUMNS}");
     for family in 0..FAMILIES.len() {
         slow_family(&mut areas, &mut random, family, nets / 10);
     }
     println!();
     growth(&mut areas, &mut random, nets / 10);
-    berkeley_abc();
+    compare_abc(&mut areas, &mut random, nets);
 }
 
 fn main() {

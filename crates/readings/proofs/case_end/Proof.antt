@@ -1,0 +1,51 @@
+-- `readings::case_end` gives a later place within the input.
+use denote.Ref.{now}
+use native.Mathlib.Omega.{arith}
+use Rattle.readings.specs.ReadingLaws.{behind-further}
+use borrow.Author.Needs.{needs}
+use Rattle.readings.proofs.case_end.Statement.{statement}
+use Rattle.readings.proofs.case_end.Tie as tie
+use Rattle.readings.proofs.case_end.Reads as reads
+use Rattle.readings.proofs.case_end.Lts as lts
+use Rattle.grader.proofs.net_length.Reads as net-length-reads
+use Rattle.grader.proofs.place_behind.Reads as place-behind-reads
+
+-- src/lib.rt:58:24
+sub-net-length : tie.Need-sub-net-length
+sub-net-length c = search needs
+
+-- src/lib.rt:58:24
+part-net-length-start : tie.Need-part-net-length-start
+part-net-length-start c = search needs
+
+-- src/lib.rt:58:24
+part-net-length-end : tie.Need-part-net-length-end
+part-net-length-end c = search needs
+
+-- src/lib.rt:58:9
+net-length-requires : tie.Need-net-length-requires
+net-length-requires c κs = search needs
+
+-- src/lib.rt:59:9
+place-behind-requires : tie.Need-place-behind-requires
+place-behind-requires c κs = search needs
+
+-- src/lib.rt:60:5
+place-behind-requires-2 : tie.Need-place-behind-requires-2
+place-behind-requires-2 c κs = search needs
+
+-- src/lib.rt:54:1
+returns : tie.Need-returns
+returns c = let h = behind-further (now (c .before .before .before .before .before .args .input)) (c .before .before .before .before .before .args .at) (c .before .place-behind .result) (c .before .before .before .before .before .pre) (c .before .place-behind .ensures) in let l = c .place-behind2 .ensures .low in (omega arith, c .place-behind2 .ensures .high)
+
+pub case-end-spec : {M : Type 1} → statement M
+case-end-spec =
+    tie.close
+    (tie.spec
+    sub-net-length
+    part-net-length-start
+    part-net-length-end
+    net-length-requires
+    place-behind-requires
+    place-behind-requires-2
+    returns)

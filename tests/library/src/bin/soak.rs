@@ -1,0 +1,87 @@
+//! Map and mark against the second mapper for some minutes, on nets and candidates of
+//! every kind.
+//!
+//! `soak [minutes] [seed]`: 20 minutes, and a seed from the clock. The exit code is 1 if
+//! there is a difference.
+
+use library::compare::{each_thread, Sides, Tally};
+use second::Random;
+use std::collections::BTreeMap;
+use std::process::ExitCode;
+use std::time::{Duration, Instant, SystemTime};
+
+/// Counts by refusal, then by length or excess in steps of so many.
+fn print(job: &str, tally: &Tally, refusals: &[usize], done: &str, step: u32) {
+    let Tally {
+        pairs,
+        skipped,
+        differences,
+        ..
+    } = tally;
+    println!("{job}: {pairs} pairs, {skipped} skipped, {differences} differences");
+    for &number in refusals {
+        println!("  refused {number:<11} {:9}", tally.seen[number]);
+    }
+    let mut steps: BTreeMap<u32, u64> = BTreeMap::new();
+    for (number, count) in &tally.done {
+        *steps.entry(number / step).or_default() += count;
+    }
+    for (at, count) in steps {
+        let (low, high) = (at * step, (at + 1) * step - 1);
+        let numbers = if step == 1 {
+            format!("{low}")
+        } else {
+            format!("{low} to {high}")
+        };
+        println!("  {done} {numbers:12} {count:9}");
+    }
+    for told in &tally.first {
+        println!("  {told}");
+    }
+}
+
+fn main() -> ExitCode {
+    let mut given = std::env::args().skip(1);
+    let minutes = given
+        .next()
+        .map_or(20.0, |text| text.parse().expect("minutes"));
+    let clock = || {
+        SystemTime::UNIX_EPOCH
+            .elapsed()
+            .map_or(0, |time| time.as_nanos() as u64)
+    };
+    let seed = given
+        .next()
+        .map_or_else(clock, |text| text.parse().expect("a seed"));
+    println!("seed {seed}, {minutes} minutes");
+    let end = Instant::now() + Duration::from_secs_f64(60.0 * minutes);
+    let told = each_thread(|thread, _| {
+        let mut random = Random::new(seed.wrapping_mul(1_000_151).wrapping_add(thread));
+        let mut maps = Sides::new(&mut random);
+        let mut marks = Sides::new(&mut random);
+        while Instant::now() < end {
+            maps.random_maps(&mut random);
+            marks.random_mark(&mut random);
+            match random.below(8) {
+                0 => marks.reader_piece(&mut random),
+                1 => marks.checks_piece(&mut random),
+                2 => marks.luts_piece(&mut random, true),
+                3 => marks.luts_piece(&mut random, false),
+                _ => marks.random_mark(&mut random),
+            }
+        }
+        [maps.tally, marks.tally]
+    });
+    let mut maps = Tally::default();
+    let mut marks = Tally::default();
+    for [map, mark] in told {
+        maps.add(map);
+        marks.add(mark);
+    }
+    let of_map: Vec<usize> = (1..=12).collect();
+    let of_mark: Vec<usize> = [1].into_iter().chain(3..=11).chain(13..=18).collect();
+    print("map", &maps, &of_map, "length", 100);
+    print("mark", &marks, &of_mark, "excess", 1);
+    println!("seed {seed}");
+    ExitCode::from(u8::from(maps.differences + marks.differences > 0))
+}

@@ -1,0 +1,407 @@
+//! The library against the second mapper on random nets and candidates: answers, cover
+//! areas and scratch, whole.
+
+use crate::nets::{net_a, net_b, net_c, of_family, FAMILIES};
+use second::damage::{candidate, damaged, damaged_net};
+use second::encode::{encode, encode_with_holes};
+use second::generate::{random_net, wild_net, Shape};
+use second::jobs::{COVER_BYTES, SCRATCH_BYTES};
+use second::mark::check_cover;
+use second::{read_net, read_record, Answer, Limits, Random};
+use std::collections::BTreeMap;
+use std::thread::Builder;
+
+const STACK_BYTES: usize = 8 << 20;
+const THREADS: u64 = 2;
+
+/// Here the second mapper gives up.
+pub const LIMITS: Limits = Limits {
+    cuts: 10_000,
+    steps: 200_000,
+};
+
+/// Targets and k that are right only in their low bits.
+pub const HUGE: [u32; 8] = [
+    256,
+    256 + 2,
+    65_536,
+    65_536 + 2,
+    1 << 31,
+    (1 << 31) + 2,
+    u32::MAX - 1,
+    u32::MAX,
+];
+
+fn setting(name: &str, default: u64) -> u64 {
+    match std::env::var(name) {
+        Ok(text) => text.parse().expect("a number"),
+        Err(_) => default,
+    }
+}
+
+pub fn seed() -> u64 {
+    setting("KAMFELU_SEED", 1)
+}
+
+/// The number of random pairs.
+pub fn cases() -> u64 {
+    setting("KAMFELU_CASES", 120_000)
+}
+
+/// What was compared.
+#[derive(Default)]
+pub struct Tally {
+    pub pairs: u64,
+    /// The second mapper gave up.
+    pub skipped: u64,
+    /// Answers by refusal, 0 where there was none.
+    pub seen: [u64; 19],
+    /// Answers without refusal by length or excess.
+    pub done: BTreeMap<u32, u64>,
+    /// Pairs whose least period is above 1.
+    pub deep: u64,
+    pub differences: u64,
+    pub first: Vec<String>,
+}
+
+impl Tally {
+    /// Count an expected answer.
+    pub fn count(&mut self, expected: Answer) {
+        match expected {
+            Answer::Done(number) => {
+                self.seen[0] += 1;
+                *self.done.entry(number).or_default() += 1;
+            }
+            Answer::Refused(number) => self.seen[usize::from(number)] += 1,
+            Answer::GaveUp => {
+                self.skipped += 1;
+                return;
+            }
+        }
+        self.pairs += 1;
+    }
+
+    pub fn check(&mut self, same: bool, told: impl Fn() -> String) {
+        if !same {
+            self.differences += 1;
+            if self.first.len() < 5 {
+                self.first.push(told());
+            }
+        }
+    }
+
+    pub fn add(&mut self, other: Tally) {
+        self.pairs += other.pairs;
+        self.skipped += other.skipped;
+        for (sum, n) in self.seen.iter_mut().zip(other.seen) {
+            *sum += n;
+        }
+        for (number, n) in other.done {
+            *self.done.entry(number).or_default() += n;
+        }
+        self.deep += other.deep;
+        self.differences += other.differences;
+        self.first.extend(other.first);
+    }
+
+    pub fn print(&self) {
+        println!(
+            "{} pairs, {} skipped, {} least periods above 1, answers by refusal {:?}, {} differences",
+            self.pairs, self.skipped, self.deep, self.seen, self.differences
+        );
+    }
+
+    pub fn fail_on_differences(&self) {
+        let first = self.first.join("\n");
+        assert!(
+            self.differences == 0,
+            "{} differences:\n{first}",
+            self.differences
+        );
+    }
+}
+
+/// Two threads with a stack of 8 MiB each; the work gets its number and how many there
+/// are. What they give, in order.
+pub fn each_thread<T: Send>(work: impl Fn(u64, u64) -> T + Sync) -> Vec<T> {
+    std::thread::scope(|scope| {
+        let work = &work;
+        let start = |number| {
+            let builder = Builder::new().stack_size(STACK_BYTES);
+            builder
+                .spawn_scoped(scope, move || work(number, THREADS))
+                .expect("a thread")
+        };
+        let threads: Vec<_> = (0..THREADS).map(start).collect();
+        let end = |thread: std::thread::ScopedJoinHandle<T>| thread.join();
+        let ended = threads.into_iter().map(end);
+        ended.map(|told| told.expect("the thread ends")).collect()
+    })
+}
+
+/// The same with one tally for all.
+pub fn on_threads(work: impl Fn(u64, u64) -> Tally + Sync) -> Tally {
+    let mut all = Tally::default();
+    for tally in each_thread(work) {
+        all.add(tally);
+    }
+    all
+}
+
+/// The areas of both mappers, filled with the same bytes before each call.
+pub struct Sides {
+    noise: Vec<u8>,
+    /// Of the library and of the second mapper.
+    pub cover: [Vec<u8>; 2],
+    pub scratch: [Vec<u8>; 2],
+    pub tally: Tally,
+}
+
+impl Sides {
+    pub fn new(random: &mut Random) -> Sides {
+        Sides {
+            noise: (0..200_000).map(|_| random.byte()).collect(),
+            cover: [Vec::new(), Vec::new()],
+            scratch: [Vec::new(), Vec::new()],
+            tally: Tally::default(),
+        }
+    }
+
+    fn fill(area: &mut [Vec<u8>; 2], noise: &[u8]) {
+        for side in area {
+            side.clear();
+            side.extend_from_slice(noise);
+        }
+    }
+
+    fn fill_scratch(&mut self, random: &mut Random, length: usize) {
+        let at = random.below(100_000);
+        Sides::fill(&mut self.scratch, &self.noise[at..at + length]);
+    }
+
+    /// Map of one pair of net and target; lengths are those of cover area and scratch.
+    pub fn map(
+        &mut self,
+        random: &mut Random,
+        net: &[u8],
+        k: u32,
+        target: u32,
+        lengths: (usize, usize),
+    ) {
+        let at = random.below(100_000);
+        Sides::fill(&mut self.cover, &self.noise[at..at + lengths.0]);
+        self.fill_scratch(random, lengths.1);
+        let [cover, other_cover] = &mut self.cover;
+        let [scratch, other_scratch] = &mut self.scratch;
+        let expected = second::map_within(LIMITS, net, k, target, other_cover, other_scratch);
+        let found = crate::map(net, k, target, cover, scratch);
+        self.tally.count(expected);
+        if expected == Answer::GaveUp {
+            // What can be said without listing cuts.
+            let fits = match found {
+                Ok(length) => {
+                    let checked = read_net(net, k).expect("a good net");
+                    let read = read_record(&checked, k, &cover[..length]);
+                    other_cover[..length].copy_from_slice(&cover[..length]);
+                    read.and_then(|read| check_cover(&checked, &read)).is_ok()
+                        && (target == 0 || u32::from(cover[0]) == target)
+                }
+                Err(number) => number == 12 && target != 0,
+            };
+            other_scratch[..SCRATCH_BYTES].fill(0);
+            let same = fits && cover == other_cover && scratch == other_scratch;
+            let told = || format!("net {net:?} k {k} target {target}: found {found:?}");
+            self.tally.check(same, told);
+            return;
+        }
+        let done = matches!(expected, Answer::Done(_));
+        self.tally.deep += u64::from(done && target == 0 && other_cover[0] > 1);
+        let answered = answer(found);
+        let same = answered == expected && cover == other_cover && scratch == other_scratch;
+        let told = || {
+            let differs = |a: &[u8], b: &[u8]| a.iter().zip(b).position(|(a, b)| a != b);
+            format!(
+                "net {net:?} k {k} target {target} lengths {lengths:?}: expected {expected:?}, \
+                 found {answered:?}, first other byte of cover {:?}, of scratch {:?}",
+                differs(cover, other_cover),
+                differs(scratch, other_scratch)
+            )
+        };
+        self.tally.check(same, told);
+    }
+
+    /// Mark of one record. The answer expected is given, for a scratch that is long enough,
+    /// or asked of the second mapper.
+    pub fn mark(
+        &mut self,
+        random: &mut Random,
+        net: &[u8],
+        k: u32,
+        record: &[u8],
+        length: usize,
+        expected: Option<Answer>,
+    ) {
+        self.fill_scratch(random, length);
+        let [scratch, other] = &mut self.scratch;
+        let expected = match expected {
+            Some(expected) => {
+                if !matches!(expected, Answer::Refused(1..=3)) {
+                    other[..SCRATCH_BYTES].fill(0);
+                }
+                expected
+            }
+            None => second::mark_within(LIMITS, net, k, record, other),
+        };
+        self.tally.count(expected);
+        if expected == Answer::GaveUp {
+            return;
+        }
+        let found = answer(crate::mark(net, k, record, scratch));
+        let told = || {
+            format!(
+                "net {net:?} k {k} record {record:?} scratch {length}: \
+                 expected {expected:?}, found {found:?}"
+            )
+        };
+        self.tally
+            .check(found == expected && scratch == other, told);
+    }
+
+    /// Map of a random net at its least period and at some targets.
+    pub fn random_maps(&mut self, random: &mut Random) {
+        let (net, pins) = some_net(random);
+        let k = some_k(random, pins);
+        self.map(random, &net, k, 0, (COVER_BYTES, SCRATCH_BYTES));
+        // The record's first byte, the least period where there was one.
+        let least = u32::from(self.cover[1][0] % 33);
+        for _ in 0..random.within(1, 4) {
+            let target = some_target(random, least);
+            let lengths = some_lengths(random);
+            self.map(random, &net, k, target, lengths);
+        }
+    }
+
+    /// Mark of a random candidate, good or bad.
+    pub fn random_mark(&mut self, random: &mut Random) {
+        let pins = random.within(1, 6);
+        let gates = random.pick(&[3, 6, 8, 12, 24]);
+        let net = match random.below(10) {
+            0 => of_family(random.below(FAMILIES.len()), random, gates, pins.max(2)),
+            1 | 2 => {
+                let shape = deep(random, gates, pins);
+                random_net(random, &shape)
+            }
+            _ => {
+                let shape = Shape::any(random, gates, pins);
+                random_net(random, &shape)
+            }
+        };
+        let mut k = random.within(pins.max(2), 6) as u32;
+        let Some(mut record) = candidate(random, &net, k, LIMITS) else {
+            self.tally.skipped += 1;
+            return;
+        };
+        let mut bytes = encode_with_holes(&net, random);
+        match random.below(20) {
+            0 => bytes = damaged_net(random, &bytes),
+            1 => record = damaged(random, &record),
+            2 => k = some_k(random, pins),
+            3 => bytes = some_net(random).0,
+            4 => {
+                let shape = Shape::any(random, gates, pins);
+                bytes = encode_with_holes(&wild_net(random, &shape), random);
+            }
+            _ => {}
+        }
+        let length = match random.below(20) {
+            0 => random.pick(&[0, SCRATCH_BYTES - 1]),
+            _ => random.within(SCRATCH_BYTES, SCRATCH_BYTES + 1),
+        };
+        self.mark(random, &bytes, k, &record, length, None);
+    }
+}
+
+/// The library's answer.
+fn answer(found: Result<usize, u8>) -> Answer {
+    match found {
+        Ok(number) => Answer::Done(number as u32),
+        Err(number) => Answer::Refused(number),
+    }
+}
+
+/// Most areas are large enough; the others are at the limits.
+fn some_lengths(random: &mut Random) -> (usize, usize) {
+    let covers = [961, COVER_BYTES, 963, 0, 1, 1000];
+    let works = [65_535, SCRATCH_BYTES, 65_537, 0, 65_000, 70_000];
+    match random.below(20) {
+        0 => (random.pick(&covers), random.pick(&works)),
+        1 => (random.pick(&covers), SCRATCH_BYTES),
+        2 => (COVER_BYTES, random.pick(&works)),
+        _ => (random.within(962, 963), random.within(65_536, 65_537)),
+    }
+}
+
+/// Nets that seldom reach period 1: many inputs, few registers, few pins of one source.
+pub fn deep(random: &mut Random, gates: usize, pins: usize) -> Shape {
+    Shape {
+        inputs: (random.within(2, 16), 16),
+        gates: (gates / 2, gates),
+        outputs: (1, 2),
+        pins: (pins.min(2), pins),
+        count: random.within(1, 3) as u32,
+        registers: random.pick(&[0, 5, 15]),
+        back: random.pick(&[5, 15, 30]),
+        twin: 0,
+        input: random.pick(&[10, 30]),
+    }
+}
+
+/// Net bytes of all kinds, and the most pins of a gate.
+pub fn some_net(random: &mut Random) -> (Vec<u8>, usize) {
+    let pins = random.within(1, 6);
+    let gates = random.pick(&[3, 6, 6, 10, 10, 16, 32]);
+    let shape = match random.below(2) {
+        0 => Shape::any(random, gates, pins),
+        _ => deep(random, gates, pins),
+    };
+    let bytes = match random.below(20) {
+        0 | 1 => encode_with_holes(&wild_net(random, &shape), random),
+        2 => (0..random.below(60)).map(|_| random.byte()).collect(),
+        3 => {
+            let family = random.below(FAMILIES.len());
+            let gates = random.within(2, 12);
+            encode(&of_family(family, random, gates, pins.max(2)))
+        }
+        4 => random.pick(&[net_a as fn() -> Vec<u8>, net_c, || net_b(0), || net_b(1)])(),
+        _ => encode_with_holes(&random_net(random, &shape), random),
+    };
+    let bytes = match random.below(10) {
+        0..=2 => damaged_net(random, &bytes),
+        _ => bytes,
+    };
+    (bytes, pins)
+}
+
+fn some_target(random: &mut Random, least: u32) -> u32 {
+    match random.below(20) {
+        0..=3 => 0,
+        4..=8 => least,
+        9..=11 => least.saturating_sub(1),
+        12 => least + 1,
+        13 => random.pick(&[31, 32, 33]),
+        14 => random.pick(&HUGE),
+        15 => random.below(41) as u32,
+        _ => random.within(1, 5) as u32,
+    }
+}
+
+/// Mostly a k that suits gates with so many pins.
+pub fn some_k(random: &mut Random, pins: usize) -> u32 {
+    match random.below(40) {
+        0 => random.below(9) as u32,
+        1 => random.pick(&HUGE),
+        2..=5 => random.within(2, 6) as u32,
+        6..=20 => pins.max(2) as u32,
+        _ => random.within(pins.max(2), 6) as u32,
+    }
+}
