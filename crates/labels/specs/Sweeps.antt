@@ -122,16 +122,44 @@ pub record Visited (C : Circuit) (k φ : ℕ) (tops : List ℕ) (ls ls′ : List
   pub falls : r ≡ 1 → left C φ tops ls′ (C .gates) < left C φ tops ls (C .gates)
   pub refuted : r ≡ 2 → Bounds C k φ tops ls → Refuted C k φ tops
 
--- Visits of the first n gates of an order.
-pub record Swept (C : Circuit) (k φ : ℕ) (tops order : List ℕ) (ls ls′ : List ℤ) (n r : ℕ) : Type 0 where
-  pub most : r ≤ 2
+-- a where a visit raised a label, else b
+abbrev pub IfRose : ℕ → ℕ → ℕ → ℕ → Type 0
+IfRose e a b r = (e ≡ 1 → r ≡ a) × (¬ (e ≡ 1) → r ≡ b)
+
+-- from place n of the order on nothing can change
+abbrev pub QuietFrom : Circuit → ℕ → ℕ → List ℕ → List ℕ → List ℤ → ℕ → Type 0
+QuietFrom C k φ tops order ls n = (i : ℕ) → n ≤ i → i < C .gates → Quiet C k φ tops ls (getD order i 0)
+
+-- A sweep with n gates of the order visited. It ends at place `end`; `last` is the place behind the last rise so far, 0 where no label rose.
+pub record Sweep (C : Circuit) (k φ : ℕ) (tops order : List ℕ) (ls ls′ : List ℤ) (n end last : ℕ) : Type 0 where
+  pub ends : end ≤ C .gates
+  pub place : n ≤ end
+  pub behind : last ≤ n
+  pub fine : Fine C ls′
+  pub bounds : Bounds C k φ tops ls → Bounds C k φ tops ls′
+  pub same : last ≡ 0 → ls′ ≡ ls
+  pub quiet : (i : ℕ) → last ≤ i → i < n → Quiet C k φ tops ls′ (getD order i 0)
+  pub rest : QuietFrom C k φ tops order ls′ end
+  pub less : left C φ tops ls′ (C .gates) ≤ left C φ tops ls (C .gates)
+  pub falls : 1 ≤ last → left C φ tops ls′ (C .gates) < left C φ tops ls (C .gates)
+
+-- One sweep. 0: nothing can change. From 1 to the number of gates: the place behind the last rise. One more: a label would pass its ceiling.
+pub record Swept (C : Circuit) (k φ : ℕ) (tops order : List ℕ) (ls ls′ : List ℤ) (r : ℕ) : Type 0 where
+  pub most : r ≤ C .gates + 1
   pub fine : Fine C ls′
   pub bounds : Bounds C k φ tops ls → Bounds C k φ tops ls′
   pub same : r ≡ 0 → ls′ ≡ ls
-  pub quiet : r ≡ 0 → (i : ℕ) → i < n → Quiet C k φ tops ls (getD order i 0)
+  pub quiet : r ≤ C .gates → QuietFrom C k φ tops order ls′ r
   pub less : left C φ tops ls′ (C .gates) ≤ left C φ tops ls (C .gates)
-  pub falls : r ≡ 1 → left C φ tops ls′ (C .gates) < left C φ tops ls (C .gates)
-  pub refuted : r ≡ 2 → Bounds C k φ tops ls → Refuted C k φ tops
+  pub falls : 1 ≤ r → r ≤ C .gates → left C φ tops ls′ (C .gates) < left C φ tops ls (C .gates)
+  pub refuted : C .gates < r → Bounds C k φ tops ls → Refuted C k φ tops
+
+-- What a sweep's result r says. 0: nothing can change. 1: a label rose. 2: it would pass its ceiling.
+pub record Outcome (gates r o : ℕ) : Type 0 where
+  pub most : o ≤ 2
+  pub none : o ≡ 0 → r ≡ 0
+  pub rose : o ≡ 1 → (1 ≤ r) × (r ≤ gates)
+  pub past : o ≡ 2 → gates < r
 
 -- z from one place up to another, all else kept
 pub record Filled (ls ls′ : List ℤ) (from to : ℕ) (z : ℤ) : Type 0 where

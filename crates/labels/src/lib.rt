@@ -7,7 +7,7 @@ use signed::plus_one;
 use signed::whole;
 ghost use mathlib.Core.Path.{_≡_};
 ghost use mathlib.Core.Bool.{true, false};
-ghost use Prim.Native.Nat.{ℕ, max, _+_, _*_, _≤_, _<_};
+ghost use Prim.Native.Nat.{ℕ, _+_, _*_, _≤_, _<_};
 ghost use lib.IntN.{ℤ, pos, _+ℤ_, _-ℤ_};
 ghost use lib.ListN.{length, getD, set};
 ghost use lib.Signed.{_≤ℤ_, _<ℤ_};
@@ -15,7 +15,7 @@ ghost use Rattle.signed.specs.Range.{Small, room};
 ghost use Rattle.mincut.specs.Circuit.{circuit};
 ghost use Rattle.query.specs.Question.{AtRest, labelIn};
 ghost use Rattle.labels.specs.Visits.{PinMax};
-ghost use Rattle.labels.specs.Sweeps.{wiring, heightAt, PinFits, Best, Raised, Ready, Ceilings, Ordered, Visited, Swept, Settled, Filled, OutFits, Sized, Labelled};
+ghost use Rattle.labels.specs.Sweeps.{wiring, heightAt, PinFits, Best, Raised, Ready, Ceilings, Ordered, IfRose, QuietFrom, Visited, Swept, Outcome, Settled, Filled, OutFits, Sized, Labelled};
 ghost use Rattle.labels.specs.Starting.{Started, OutsMet};
 
 // Whether the pin at place a is lower than the pin at place b.
@@ -241,7 +241,8 @@ fn higher(labels: &[i64], v: usize, p: i64) -> bool
     p < labels[v]
 }
 
-// One sweep over the gates in an order: 0 where nothing can change, 1 where a label rose, 2 where one would pass its ceiling.
+// One sweep over the gates in an order, up to place stop, or over all of them once a label rose: from stop on nothing can change unless one rises.
+// 0 where nothing can change, the place behind the last rise, or gates + 1 where a label would pass its ceiling.
 fn sweep(
     s: Sizes,
     pins: &[usize],
@@ -259,15 +260,18 @@ fn sweep(
     order: &[usize],
     phi: usize,
     k: usize,
+    stop: usize,
 ) -> usize
     requires { ⌜ AtRest (circuit (s .inputs) (s .gates) (s .width) (s .border) (now pins) (now first) (now sources) (now counts) (now heads) (now nexts) (now inside)) (now table) (now list) (now members) ⌝ }
     requires { ⌜ Ready (s .inputs) (s .gates) (s .width) (now labels) phi k × Ordered (wiring (s .inputs) (s .gates) (s .border) (now pins) (now sources) (now counts)) (now order) × Ceilings (wiring (s .inputs) (s .gates) (s .border) (now pins) (now sources) (now counts)) phi (now tops) ⌝ }
+    requires { ⌜ (stop ≤ s .gates) × QuietFrom (wiring (s .inputs) (s .gates) (s .border) (now pins) (now sources) (now counts)) k phi (now tops) (now order) (now labels) stop ⌝ }
     ensures { λ _. ⌜ AtRest (circuit (s .inputs) (s .gates) (s .width) (s .border) (now (pins .entry)) (now (first .entry)) (now (sources .entry)) (now (counts .entry)) (now (heads .entry)) (now (nexts .entry)) (now (inside .exit))) (now (table .exit)) (now (list .exit)) (now (members .exit)) ⌝ }
-    ensures { λ r. ⌜ Swept (wiring (s .inputs) (s .gates) (s .border) (now (pins .entry)) (now (sources .entry)) (now (counts .entry))) k phi (now (tops .entry)) (now (order .entry)) (now (labels .entry)) (now (labels .exit)) (s .gates) r ⌝ }
+    ensures { λ r. ⌜ Swept (wiring (s .inputs) (s .gates) (s .border) (now (pins .entry)) (now (sources .entry)) (now (counts .entry))) k phi (now (tops .entry)) (now (order .entry)) (now (labels .entry)) (now (labels .exit)) r ⌝ }
 {
-    let mut r = 0;
+    let mut last = 0;
+    let mut end = stop;
     let mut i = 0;
-    while i < s.gates {
+    while i < end {
         let e = visit(
             s,
             pins,
@@ -286,20 +290,34 @@ fn sweep(
             k,
             order[i],
         );
-        r = worse(r, e);
-        if r == 2 {
-            return 2;
+        if e == 2 {
+            return s.gates + 1;
         }
         i += 1;
+        last = if_rose(e, i, last);
+        end = if_rose(e, s.gates, end);
     }
-    r
+    last
 }
 
-// The greater of two.
-fn worse(a: usize, b: usize) -> usize
-    ensures { λ r. ⌜ r ≡ max a b ⌝ }
+// a where a visit raised a label, else b.
+fn if_rose(e: usize, a: usize, b: usize) -> usize
+    ensures { λ r. ⌜ IfRose e a b r ⌝ }
 {
-    if a < b { b } else { a }
+    if e == 1 { a } else { b }
+}
+
+// What a sweep's result says: 0 where nothing can change, 1 where a label rose, 2 where one would pass its ceiling.
+fn outcome(gates: usize, r: usize) -> usize
+    ensures { λ o. ⌜ Outcome gates r o ⌝ }
+{
+    if r == 0 {
+        0
+    } else if r <= gates {
+        1
+    } else {
+        2
+    }
 }
 
 // Sweeps until nothing can change, or a label would pass its ceiling.
@@ -326,9 +344,10 @@ fn settle(
     ensures { λ _. ⌜ AtRest (circuit (s .inputs) (s .gates) (s .width) (s .border) (now (pins .entry)) (now (first .entry)) (now (sources .entry)) (now (counts .entry)) (now (heads .entry)) (now (nexts .entry)) (now (inside .exit))) (now (table .exit)) (now (list .exit)) (now (members .exit)) ⌝ }
     ensures { λ r. ⌜ Settled (wiring (s .inputs) (s .gates) (s .border) (now (pins .entry)) (now (sources .entry)) (now (counts .entry))) k phi (now (tops .entry)) (now (labels .entry)) (now (labels .exit)) r ⌝ }
 {
+    let mut stop = s.gates;
     let mut r = 1;
     while r == 1 {
-        r = sweep(
+        stop = sweep(
             s,
             pins,
             first,
@@ -345,7 +364,9 @@ fn settle(
             order,
             phi,
             k,
+            stop,
         );
+        r = outcome(s.gates, stop);
     }
     r
 }
