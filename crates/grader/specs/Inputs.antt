@@ -12,24 +12,7 @@ use Rattle.records.specs.Listing.{refusalText, excessText}
 use Rattle.records.specs.Outcomes.{Answer, accepted, turnedBack, MarkOutcome, markOutcome}
 use Rattle.records.specs.Program.{answerText, marking, markingProgram}
 use Rattle.lister.specs.Inputs.{place-k, place-target}
-use Rattle.grader.specs.Parts.{Behind}
-
--- a part that ends inside
-pub behind-some : (s : List ℕ) (at n : ℕ) → at ≤ length s → n < length s - at → Behind s at n (at + n)
-behind-some s at n h l =
-    let e : at + n - at ≡ n = omega arith in
-    record { low = omega arith; high = omega arith; before = ap (λ (m : ℕ). take m (drop at s)) e; behind = sym (drop-drop n at s) }
-
--- a part up to the end
-pub behind-all : (s : List ℕ) (at n : ℕ) → at ≤ length s → length s - at ≤ n → Behind s at n (length s)
-behind-all s at n h l =
-    let d = length-drop at s in
-    record {
-      low = h;
-      high = omega arith;
-      before = take-all (length s - at) (drop at s) (omega arith) ∙ sym (take-all n (drop at s) (omega arith));
-      behind = drop-length s ∙ sym (drop-of-length-le (drop at s) {i = n} (omega arith));
-    }
+use Rattle.inputs.specs.Parts.{Behind}
 
 pub place-high : (l : List ℕ) → getD l 2 0 ≡ first (rest (rest l))
 place-high [] = refl

@@ -1,7 +1,8 @@
 // The marking: from the bytes read (k, the net's length, the net, the record) to the text printed.
-use lister::byte_at;
-use lister::number;
-use mapper::wide;
+use inputs::byte_at;
+use inputs::net_length;
+use inputs::number;
+use inputs::place_behind;
 use marker::Grade;
 use marker::mark;
 use text::write_excess;
@@ -12,7 +13,6 @@ ghost use lib.ListN.{length, getD, drop};
 ghost use Rattle.records.specs.Program.{marking, markingProgram};
 ghost use Rattle.writer.specs.Writing.{Wrote};
 ghost use Rattle.text.specs.Text.{refusalRoom};
-ghost use Rattle.grader.specs.Parts.{Behind};
 
 // The record's mark as text.
 fn grade_parts(k: u32, net: &[u8], cover: &[u8], out: &mut [u8]) -> usize
@@ -25,26 +25,6 @@ fn grade_parts(k: u32, net: &[u8], cover: &[u8], out: &mut [u8]) -> usize
         Grade::Excess(n) => write_excess(n, out),
         Grade::Refused(n) => write_refusal(number(n), out),
     }
-}
-
-// The place n bytes behind another, or the end.
-pub fn place_behind(input: &[u8], at: usize, n: usize) -> usize
-    requires { ⌜ at ≤ length (now input) ⌝ }
-    ensures { λ r. ⌜ Behind (now (input .entry)) at n r ⌝ }
-{
-    if n < input.len() - at {
-        return at + n;
-    }
-    input.len()
-}
-
-// The net's length, two bytes, low first.
-pub fn net_length(input: &[u8]) -> usize
-    ensures { λ r. ⌜ r ≡ getD (now (input .entry)) 1 0 + 256 * getD (now (input .entry)) 2 0 ⌝ }
-{
-    let low = byte_at(input, 1);
-    let high = byte_at(input, 2);
-    wide(low + 256 * high)
 }
 
 // The text for every input, in front of out; the bytes behind it are kept.

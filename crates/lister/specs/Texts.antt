@@ -28,20 +28,12 @@ use Rattle.solver.specs.Checking.{check-refused, check-loop, check-unreached, c
 use Rattle.solver.specs.Planned.{Lengths}
 use Rattle.solver.specs.Settling.{Settling, SettledAs}
 use Rattle.solver.specs.Settling as settling
-use Rattle.text.specs.PutLaws.{wrote-same}
+use Rattle.text.specs.PutLaws.{wrote-as}
 use Rattle.text.specs.Text.{textRoom, Listable, Lists}
 use Rattle.mapper.specs.Outcome.{Sure}
 use Rattle.mapper.specs.Recording.{Long, cover-writable}
 use Rattle.lister.specs.Asked.{Listing, ListsNet}
 use Rattle.lister.specs.Lines.{listed-cover, listed-none}
-
--- text written, under an equal name
-pub wrote-as : {text text′ before after : List ℕ} {r : ℕ} → text ≡ text′ → Wrote text′ before after r → Wrote text before after r
-wrote-as e t = wrote-same (sym e) t
-
--- the text lies within the area
-pub wrote-within : {text before after : List ℕ} {r : ℕ} → Wrote text before after r → r ≤ length after
-wrote-within {text} {before} w = let e = ap length (w .area) ∙ length-append text (drop (length text) before) in let n = w .count in omega arith
 
 -- a check failed
 pub list-fails : (k target n : ℕ) (net : List ℕ) → checkNet k net ≡ fails n → listChecked k target (checkNet k net) ≡ refusalText n

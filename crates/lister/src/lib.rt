@@ -1,5 +1,7 @@
 // The listing: from the bytes read (k, the target, the net) to the text printed.
-use mapper::wide;
+use inputs::byte_at;
+use inputs::number;
+use inputs::wide;
 use reader::Verdict;
 use reader::Wiring;
 use reader::read_net;
@@ -15,18 +17,6 @@ ghost use Rattle.records.specs.Program.{listChecked, listing, listingProgram};
 ghost use Rattle.writer.specs.Writing.{Wrote};
 ghost use Rattle.text.specs.Text.{textRoom};
 ghost use Rattle.lister.specs.Asked.{Listing, ListsNet};
-
-pub fn number(x: u8) -> usize
-    ensures { λ r. ⌜ r ≡ x ⌝ }
-{
-    x as usize
-}
-
-fn byte(x: u8) -> u32
-    ensures { λ r. ⌜ (r ≡ x) × (r < 256) ⌝ }
-{
-    x as u32
-}
 
 // Checks 9 to 12 and the cover of a net read.
 fn list_read(net: Wiring, k: usize, target: usize, out: &mut [u8]) -> usize
@@ -103,17 +93,6 @@ fn list_parts(k: u32, target: u32, net: &[u8], out: &mut [u8]) -> usize
         return write_refusal(2, out);
     }
     list_net(net, k, target, out)
-}
-
-// The byte at a place, 0 where it is missing.
-pub fn byte_at(bytes: &[u8], i: usize) -> u32
-    ensures value { λ r. ⌜ r ≡ getD (now (bytes .entry)) i 0 ⌝ }
-    ensures small { λ r. ⌜ r < 256 ⌝ }
-{
-    if i < bytes.len() {
-        return byte(bytes[i]);
-    }
-    0
 }
 
 // The place behind k and the target.

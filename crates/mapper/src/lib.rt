@@ -1,4 +1,6 @@
 // Map: the key of the examination. A net, k and a target; a cover in the cover area, or a refusal.
+use inputs::narrow;
+use inputs::wide;
 use reader::Verdict;
 use reader::Wiring;
 use reader::read_net;
@@ -17,12 +19,6 @@ ghost use Rattle.mapper.specs.Mapping.{Mapping, MapsTo, MapsNet};
 pub enum Answer {
     Length(usize),
     Refused(u8),
-}
-
-pub fn wide(x: u32) -> usize
-    ensures { λ r. ⌜ r ≡ x ⌝ }
-{
-    x as usize
 }
 
 // Checks 1, 2 and 3: 0, or the number of the first that fails.
@@ -45,13 +41,6 @@ fn check_sizes(k: u32, target: u32, area: &[u8], scratch: &[u8]) -> u8
         return 3;
     }
     0
-}
-
-pub fn narrow(x: usize) -> u8
-    requires { ⌜ x < 256 ⌝ }
-    ensures { λ r. ⌜ r ≡ x ⌝ }
-{
-    x as u8
 }
 
 // Checks 9 to 12 and the cover of a net read, with the engine's table in work.

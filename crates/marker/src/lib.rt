@@ -2,9 +2,9 @@
 use candidate::Candidate;
 use candidate::read_cover;
 use cutcheck::check_luts;
+use inputs::narrow;
+use inputs::wide;
 use linkcheck::check_links;
-use mapper::narrow;
-use mapper::wide;
 use reader::Verdict;
 use reader::Wiring;
 use reader::read_net;

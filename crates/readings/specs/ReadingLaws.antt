@@ -16,8 +16,8 @@ use Rattle.reader.specs.declared.Verdict.{Verdict}
 use Rattle.reader.specs.declared.Verdict.the-variants.{Read, Refused}
 use Rattle.reader.specs.declared.Walk.{Walk}
 use Rattle.writer.specs.Writing.{Wrote}
-use Rattle.text.specs.PutLaws.{wrote-same}
-use Rattle.grader.specs.Parts.{Behind}
+use Rattle.text.specs.PutLaws.{wrote-as}
+use Rattle.inputs.specs.Parts.{Behind}
 use Rattle.readings.specs.Reading.{readWord, gap, sizesText, readingText}
 
 pairs : (a b c d e f n : List ℕ) → (((a ++ b) ++ (c ++ d)) ++ (e ++ f)) ++ n ≡ a ++ b ++ c ++ d ++ e ++ f ++ n
@@ -31,7 +31,7 @@ module _ (k : ℕ) (net : List ℕ) (r : Walk) (e : netReader k net ≡ resultOf
   pub reading-refused : {n m c : ℕ} {before after : List ℕ} → r .verdict ≡ Refused n → m ≡ n → Wrote (refusalText m) before after c → Wrote (readingText (netReader k net)) before after c
   unfolding readingText
   reading-refused v d t =
-      wrote-same (sym (ap readingText (e ∙ ap (λ (x : Verdict). outcome x (netIn (arraysOf (r .net))) []) v) ∙ ap refusalText (sym d))) t
+      wrote-as (ap readingText (e ∙ ap (λ (x : Verdict). outcome x (netIn (arraysOf (r .net))) []) v) ∙ ap refusalText (sym d)) t
 
   pub reading-read : {c : ℕ} {before after : List ℕ} → r .verdict ≡ Read → Wrote (sizesText (r .net .inputs) (r .net .gates) (r .net .outputs)) before after c
       → Wrote (readingText (netReader k net)) before after c
@@ -39,9 +39,9 @@ module _ (k : ℕ) (net : List ℕ) (r : Walk) (e : netReader k net ≡ resultOf
   reading-read v t =
       let a = arraysOf (r .net) in
       let o : length (netIn a .outputs) ≡ a .outputs = ap length (outputs-netIn a) ∙ length-pinsIn (a .outSources) (a .outCounts) 0 (a .outputs) in
-      wrote-same (sym (ap readingText (e ∙ ap (λ (x : Verdict). outcome x (netIn a) []) v)
+      wrote-as (ap readingText (e ∙ ap (λ (x : Verdict). outcome x (netIn a) []) v)
       ∙ ap (λ (x : ℕ). sizesText x (length (netIn a .gates)) (length (netIn a .outputs))) (inputs-netIn a)
-      ∙ ap₂ (sizesText (a .inputs)) (gates-netIn a) o)) t
+      ∙ ap₂ (sizesText (a .inputs)) (gates-netIn a) o) t
 
 -- the case's own bytes behind k and the length
 pub case-net : (s : List ℕ) (at : ℕ) → Behind s 0 3 at → take (length s - at) (drop at s) ≡ drop 3 s

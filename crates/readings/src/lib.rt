@@ -1,8 +1,8 @@
 // The reader's answers as lines: a batch of cases, each k, the net's length in two bytes and the net.
-use grader::net_length;
-use grader::place_behind;
-use lister::byte_at;
-use lister::number;
+use inputs::byte_at;
+use inputs::net_length;
+use inputs::number;
+use inputs::place_behind;
 use reader::Verdict;
 use reader::read_net;
 use text::put_byte;

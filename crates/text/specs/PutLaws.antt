@@ -4,7 +4,7 @@ use mathlib.Core.List.{List, [], _∷_, _++_}
 use Prim.Native.Nat.{ℕ, suc, _+_, _≤_}
 use native.Mathlib.Nat.{add-zero, add-suc, suc-add}
 use native.Mathlib.Omega.{arith}
-use lib.ListN.{length, set, length-append}
+use lib.ListN.{length, set, drop, length-append}
 use lib.Seq.{sets, length-sets, sets-eq, take-length, paste}
 use Rattle.writer.specs.Writing.{Wrote}
 use Rattle.text.specs.Text.{Put}
@@ -49,8 +49,12 @@ pub put-same : {m at r : ℕ} {a b before after : List ℕ} → a ≡ b → Put 
 put-same e w = rw e at w
 
 -- other words for the same bytes
-pub wrote-same : {r : ℕ} {a b before after : List ℕ} → a ≡ b → Wrote a before after r → Wrote b before after r
-wrote-same e w = rw e at w
+pub wrote-as : {text text′ before after : List ℕ} {r : ℕ} → text ≡ text′ → Wrote text′ before after r → Wrote text before after r
+wrote-as e t = rw (sym e) at t
+
+-- the text lies within the area
+pub wrote-within : {text before after : List ℕ} {r : ℕ} → Wrote text before after r → r ≤ length after
+wrote-within {text} {before} w = let e = ap length (w .area) ∙ length-append text (drop (length text) before) in let n = w .count in omega arith
 
 -- from the front
 pub put-wrote : {m r : ℕ} {bytes before after : List ℕ} → m ≤ length before → Put m 0 bytes before after r → Wrote bytes before after r

@@ -1,7 +1,7 @@
 -- `grader::grade` meets its contract.
 use denote.Ref.{now}
 use mathlib.Core.Path.{_≡_, refl, _∙_}
-use Rattle.lister.specs.Texts.{wrote-as}
+use Rattle.text.specs.PutLaws.{wrote-as}
 use Rattle.luts.specs.LutLaws.{behind}
 use Rattle.grader.specs.Inputs.{graded-parts}
 use borrow.Author.Needs.{needs}
@@ -10,9 +10,9 @@ use Rattle.grader.proofs.grade.Tie as tie
 use Rattle.grader.proofs.grade.Reads as reads
 use Rattle.grader.proofs.grade.Lts as lts
 use Rattle.grader.proofs.grade_parts.Reads as grade-parts-reads
-use Rattle.grader.proofs.net_length.Reads as net-length-reads
-use Rattle.grader.proofs.place_behind.Reads as place-behind-reads
-use Rattle.lister.proofs.byte_at.Reads as byte-at-reads
+use Rattle.inputs.proofs.net_length.Reads as net-length-reads
+use Rattle.inputs.proofs.place_behind.Reads as place-behind-reads
+use Rattle.inputs.proofs.byte_at.Reads as byte-at-reads
 
 -- src/lib.rt:60:9
 byte-at-requires : tie.Need-byte-at-requires

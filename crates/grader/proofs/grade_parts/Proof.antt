@@ -3,14 +3,14 @@ use denote.Ref.{now}
 use mathlib.Core.Path.{_≡_, sym, ap, _∙_}
 use Rattle.records.specs.Outcomes.{turnedBack}
 use Rattle.marker.specs.Answers.{answerOf}
-use Rattle.lister.specs.Texts.{wrote-as}
+use Rattle.text.specs.PutLaws.{wrote-as}
 use Rattle.grader.specs.Inputs.{marking-excess, marking-refused}
 use borrow.Author.Needs.{needs}
 use Rattle.grader.proofs.grade_parts.Statement.{statement}
 use Rattle.grader.proofs.grade_parts.Tie as tie
 use Rattle.grader.proofs.grade_parts.Reads as reads
 use Rattle.grader.proofs.grade_parts.Lts as lts
-use Rattle.lister.proofs.number.Reads as number-reads
+use Rattle.inputs.proofs.number.Reads as number-reads
 use Rattle.marker.proofs.mark.Reads as mark-reads
 use Rattle.text.proofs.write_excess.Reads as write-excess-reads
 use Rattle.text.proofs.write_refusal.Reads as write-refusal-reads

@@ -2,14 +2,14 @@
 use denote.Ref.{now}
 use mathlib.Core.Path.{_∙_}
 use Rattle.luts.specs.LutLaws.{behind}
-use Rattle.lister.specs.Texts.{wrote-as}
+use Rattle.text.specs.PutLaws.{wrote-as}
 use Rattle.lister.specs.Inputs.{listed-parts}
 use borrow.Author.Needs.{needs}
 use Rattle.lister.proofs.list.Statement.{statement}
 use Rattle.lister.proofs.list.Tie as tie
 use Rattle.lister.proofs.list.Reads as reads
 use Rattle.lister.proofs.list.Lts as lts
-use Rattle.lister.proofs.byte_at.Reads as byte-at-reads
+use Rattle.inputs.proofs.byte_at.Reads as byte-at-reads
 use Rattle.lister.proofs.list_parts.Reads as list-parts-reads
 use Rattle.lister.proofs.net_place.Reads as net-place-reads
 

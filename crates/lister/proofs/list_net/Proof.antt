@@ -7,8 +7,8 @@ use Rattle.lister.proofs.list_net.Tie as tie
 use Rattle.lister.proofs.list_net.Reads as reads
 use Rattle.lister.proofs.list_net.Lts as lts
 use Rattle.lister.proofs.list_read.Reads as list-read-reads
-use Rattle.lister.proofs.number.Reads as number-reads
-use Rattle.mapper.proofs.wide.Reads as wide-reads
+use Rattle.inputs.proofs.number.Reads as number-reads
+use Rattle.inputs.proofs.wide.Reads as wide-reads
 use Rattle.reader.proofs.read_net.Reads as read-net-reads
 use Rattle.text.proofs.write_refusal.Reads as write-refusal-reads
 

@@ -1,7 +1,7 @@
 -- `lister::list_parts` meets its contract: one law for each way out.
 use denote.Ref.{now}
 use native.Mathlib.Omega.{arith}
-use Rattle.lister.specs.Texts.{wrote-as}
+use Rattle.text.specs.PutLaws.{wrote-as}
 use Rattle.lister.specs.Inputs.{list-low, list-high, list-far, list-near}
 use borrow.Author.Needs.{needs}
 use Rattle.lister.proofs.list_parts.Statement.{statement}

@@ -7,7 +7,7 @@ use Rattle.mapper.proofs.map_bytes.Tie as tie
 use Rattle.mapper.proofs.map_bytes.Reads as reads
 use Rattle.mapper.proofs.map_bytes.Lts as lts
 use Rattle.mapper.proofs.map_read.Reads as map-read-reads
-use Rattle.mapper.proofs.wide.Reads as wide-reads
+use Rattle.inputs.proofs.wide.Reads as wide-reads
 use Rattle.reader.proofs.read_net.Reads as read-net-reads
 
 -- src/lib.rt:104:9

@@ -8,7 +8,7 @@ use Rattle.mapper.proofs.map_read.Statement.{statement}
 use Rattle.mapper.proofs.map_read.Tie as tie
 use Rattle.mapper.proofs.map_read.Reads as reads
 use Rattle.mapper.proofs.map_read.Lts as lts
-use Rattle.mapper.proofs.narrow.Reads as narrow-reads
+use Rattle.inputs.proofs.narrow.Reads as narrow-reads
 use Rattle.solver.proofs.settle.Reads as settle-reads
 use Rattle.writer.proofs.write_cover.Reads as write-cover-reads
 

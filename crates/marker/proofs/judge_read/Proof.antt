@@ -8,7 +8,7 @@ use Rattle.marker.proofs.judge_read.Statement.{statement}
 use Rattle.marker.proofs.judge_read.Tie as tie
 use Rattle.marker.proofs.judge_read.Reads as reads
 use Rattle.marker.proofs.judge_read.Lts as lts
-use Rattle.mapper.proofs.narrow.Reads as narrow-reads
+use Rattle.inputs.proofs.narrow.Reads as narrow-reads
 use Rattle.marker.proofs.judge_links.Reads as judge-links-reads
 use Rattle.marker.proofs.judge_luts.Reads as judge-luts-reads
 

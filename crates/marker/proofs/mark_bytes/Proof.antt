@@ -6,7 +6,7 @@ use Rattle.marker.proofs.mark_bytes.Statement.{statement}
 use Rattle.marker.proofs.mark_bytes.Tie as tie
 use Rattle.marker.proofs.mark_bytes.Reads as reads
 use Rattle.marker.proofs.mark_bytes.Lts as lts
-use Rattle.mapper.proofs.wide.Reads as wide-reads
+use Rattle.inputs.proofs.wide.Reads as wide-reads
 use Rattle.marker.proofs.mark_read.Reads as mark-read-reads
 use Rattle.reader.proofs.read_net.Reads as read-net-reads
 

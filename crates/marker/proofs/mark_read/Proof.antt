@@ -8,7 +8,7 @@ use Rattle.marker.proofs.mark_read.Statement.{statement}
 use Rattle.marker.proofs.mark_read.Tie as tie
 use Rattle.marker.proofs.mark_read.Reads as reads
 use Rattle.marker.proofs.mark_read.Lts as lts
-use Rattle.mapper.proofs.narrow.Reads as narrow-reads
+use Rattle.inputs.proofs.narrow.Reads as narrow-reads
 use Rattle.marker.proofs.judge.Reads as judge-reads
 use Rattle.marker.proofs.least_of.Reads as least-of-reads
 

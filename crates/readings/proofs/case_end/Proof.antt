@@ -7,8 +7,8 @@ use Rattle.readings.proofs.case_end.Statement.{statement}
 use Rattle.readings.proofs.case_end.Tie as tie
 use Rattle.readings.proofs.case_end.Reads as reads
 use Rattle.readings.proofs.case_end.Lts as lts
-use Rattle.grader.proofs.net_length.Reads as net-length-reads
-use Rattle.grader.proofs.place_behind.Reads as place-behind-reads
+use Rattle.inputs.proofs.net_length.Reads as net-length-reads
+use Rattle.inputs.proofs.place_behind.Reads as place-behind-reads
 
 -- src/lib.rt:58:24
 sub-net-length : tie.Need-sub-net-length

@@ -1,14 +1,15 @@
 -- `readings::write_case` meets its contract: k and the net are the case's parts.
 use denote.Ref.{now}
-use Rattle.text.specs.PutLaws.{wrote-same}
+use mathlib.Core.Path.{sym}
+use Rattle.text.specs.PutLaws.{wrote-as}
 use Rattle.readings.specs.ReadingLaws.{case-net, case-text}
 use borrow.Author.Needs.{needs}
 use Rattle.readings.proofs.write_case.Statement.{statement}
 use Rattle.readings.proofs.write_case.Tie as tie
 use Rattle.readings.proofs.write_case.Reads as reads
 use Rattle.readings.proofs.write_case.Lts as lts
-use Rattle.grader.proofs.place_behind.Reads as place-behind-reads
-use Rattle.lister.proofs.byte_at.Reads as byte-at-reads
+use Rattle.inputs.proofs.place_behind.Reads as place-behind-reads
+use Rattle.inputs.proofs.byte_at.Reads as byte-at-reads
 use Rattle.readings.proofs.write_reading.Reads as write-reading-reads
 
 -- src/lib.rt:48:9
@@ -41,7 +42,7 @@ same-length c = search needs
 
 -- src/lib.rt:44:1
 returns : tie.Need-returns
-returns c = wrote-same (case-text (c .before .before .before .before .before .before .byte-at .ensures .0) (case-net (now (c .before .before .before .before .before .before .before .before .before .args .case)) (c .before .before .before .before .before .place-behind .result) (c .before .before .before .before .before .place-behind .ensures))) (c .before .before .write-reading .ensures)
+returns c = wrote-as (sym (case-text (c .before .before .before .before .before .before .byte-at .ensures .0) (case-net (now (c .before .before .before .before .before .before .before .before .before .args .case)) (c .before .before .before .before .before .place-behind .result) (c .before .before .before .before .before .place-behind .ensures)))) (c .before .before .write-reading .ensures)
 
 pub write-case-spec : {M : Type 1} → statement M
 write-case-spec =

@@ -6,7 +6,7 @@ use Rattle.readings.proofs.write_reading.Statement.{statement}
 use Rattle.readings.proofs.write_reading.Tie as tie
 use Rattle.readings.proofs.write_reading.Reads as reads
 use Rattle.readings.proofs.write_reading.Lts as lts
-use Rattle.lister.proofs.number.Reads as number-reads
+use Rattle.inputs.proofs.number.Reads as number-reads
 use Rattle.reader.proofs.read_net.Reads as read-net-reads
 use Rattle.readings.proofs.write_sizes.Reads as write-sizes-reads
 use Rattle.text.proofs.write_refusal.Reads as write-refusal-reads

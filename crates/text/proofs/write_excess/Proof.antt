@@ -1,6 +1,7 @@
 -- `text::write_excess` meets its contract.
 use borrow.Author.Needs.{needs}
-use Rattle.text.specs.PutLaws.{wrote-same}
+use mathlib.Core.Path.{sym}
+use Rattle.text.specs.PutLaws.{wrote-as}
 use Rattle.text.specs.LineLaws.{excess-text}
 use Rattle.text.proofs.write_excess.Statement.{statement}
 use Rattle.text.proofs.write_excess.Tie as tie
@@ -15,7 +16,7 @@ same-length : tie.Need-same-length
 same-length c = search needs
 
 returns : tie.Need-returns
-returns c = wrote-same (excess-text (c .before .before .before .before .before .before .args .n)) (c .before .before .write-said .ensures)
+returns c = wrote-as (sym (excess-text (c .before .before .before .before .before .before .args .n))) (c .before .before .write-said .ensures)
 
 pub write-excess-spec : {M : Type 1} → statement M
 write-excess-spec = tie.close (tie.spec slice-aggregate-write-said write-said-requires same-length returns)

@@ -1,14 +1,14 @@
--- `lister::byte_at` meets its contract.
+-- `inputs::byte_at` meets its contract.
 use denote.Ref.{now}
 use mathlib.Core.Path.{sym}
 use native.Mathlib.Omega.{arith}
 use lib.ListN.{List·getD-eq-default}
 use borrow.Author.Needs.{needs}
-use Rattle.lister.proofs.byte_at.Statement.{statement}
-use Rattle.lister.proofs.byte_at.Tie as tie
-use Rattle.lister.proofs.byte_at.Reads as reads
-use Rattle.lister.proofs.byte_at.Lts as lts
-use Rattle.lister.proofs.byte.Reads as byte-reads
+use Rattle.inputs.proofs.byte_at.Statement.{statement}
+use Rattle.inputs.proofs.byte_at.Tie as tie
+use Rattle.inputs.proofs.byte_at.Reads as reads
+use Rattle.inputs.proofs.byte_at.Lts as lts
+use Rattle.inputs.proofs.byte.Reads as byte-reads
 
 -- src/lib.rt:118:21
 shared-slice-read-byte : tie.Need-shared-slice-read-byte

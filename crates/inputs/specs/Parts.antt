@@ -1,4 +1,4 @@
--- Definitions: the parts of the marking program's input.
+-- Definitions: the parts of a program's input.
 use mathlib.Core.Path.{_≡_}
 use mathlib.Core.List.{List}
 use Prim.Native.Nat.{ℕ, _-_, _≤_}

@@ -1,12 +1,12 @@
--- `grader::place_behind` meets its contract.
+-- `inputs::place_behind` meets its contract.
 use denote.Ref.{now}
 use native.Mathlib.Omega.{arith}
-use Rattle.grader.specs.Inputs.{behind-some, behind-all}
+use Rattle.inputs.specs.PartLaws.{behind-some, behind-all}
 use borrow.Author.Needs.{needs}
-use Rattle.grader.proofs.place_behind.Statement.{statement}
-use Rattle.grader.proofs.place_behind.Tie as tie
-use Rattle.grader.proofs.place_behind.Reads as reads
-use Rattle.grader.proofs.place_behind.Lts as lts
+use Rattle.inputs.proofs.place_behind.Statement.{statement}
+use Rattle.inputs.proofs.place_behind.Tie as tie
+use Rattle.inputs.proofs.place_behind.Reads as reads
+use Rattle.inputs.proofs.place_behind.Lts as lts
 
 -- src/lib.rt:40:12
 sub-if1 : tie.Need-sub-if1
