@@ -4,3 +4,4 @@ pub mod ByHand
 pub mod Statements
 pub mod Plan
 pub mod Marked
+pub mod Inhabited
