@@ -22,7 +22,7 @@ narrow-requires c κs = let j = c .before .before .pre .0 in let x = c .before .
 
 -- src/lib.rt:107:9
 returns : tie.Need-returns
-returns c = let j = c .before .before .before .pre .0 in let x = c .before .before .before .args .c in judged-cuts j x (cut-as j x (c .before .before .judge-luts .ensures)) (c .before .if1 .taken) (c .narrow .ensures)
+returns c = let j = c .before .before .before .pre .0 in let x = c .before .before .before .args .c in judged-cuts j x (cut-as j x (c .before .before .judge-luts .ensures)) (omega (arith, c .before .if1 .taken)) (c .narrow .ensures)
 
 -- src/lib.rt:109:9
 judge-links-requires : tie.Need-judge-links-requires
@@ -34,7 +34,7 @@ narrow-requires-2 c κs = let j = c .before .before .before .before .pre .0 in l
 
 -- src/lib.rt:111:9
 returns-2 : tie.Need-returns-2
-returns-2 c = let j = c .before .before .before .before .before .pre .0 in let x = c .before .before .before .before .before .args .c in judged-links j x (cut-as j x (c .before .before .before .before .judge-luts .ensures)) (omega (arith, c .before .before .before .if1 .left)) (linked-as j x (c .before .before .judge-links .ensures)) (c .before .if2 .taken) (c .narrow2 .ensures)
+returns-2 c = let j = c .before .before .before .before .before .pre .0 in let x = c .before .before .before .before .before .args .c in judged-links j x (cut-as j x (c .before .before .before .before .judge-luts .ensures)) (omega (arith, c .before .before .before .if1 .left)) (linked-as j x (c .before .before .judge-links .ensures)) (omega (arith, c .before .if2 .taken)) (c .narrow2 .ensures)
 
 -- src/lib.rt:113:18
 sub-t10 : tie.Need-sub-t10
