@@ -4,6 +4,7 @@ use mathlib.Core.Bool.{true, false}
 use mathlib.Core.List.{List, []}
 use Prim.Native.Nat.{ℕ, _+_, _≤_}
 use Rattle.netlist.specs.Net.{Net, size}
+use Rattle.netbytes.specs.Limits.{mostPeriod, mostLuts}
 use Rattle.netbytes.specs.Reading.{got, refused}
 use Rattle.records.specs.CoverBytes.{Record, coverReader}
 use Rattle.records.specs.Held.{Held, held, lutsIn, WellHeld}
@@ -23,5 +24,5 @@ pub record CoverRead (bytes : List ℕ) (I G k : ℕ) (c : Candidate) : Type 0 w
   pub broken : c .fine ≡ false → (N : Net) → N .inputs ≡ I → size N ≡ I + G → coverReader N k bytes ≡ refused 13
   pub well : c .fine ≡ true → WellHeld I G k (c .luts) (heldOf c)
   pub lowPeriod : c .fine ≡ true → 1 ≤ c .period
-  pub highPeriod : c .fine ≡ true → c .period ≤ 32
-  pub few : c .fine ≡ true → c .luts ≤ 32
+  pub highPeriod : c .fine ≡ true → c .period ≤ mostPeriod
+  pub few : c .fine ≡ true → c .luts ≤ mostLuts

@@ -6,6 +6,7 @@ use lib.IntN.{ℤ}
 use lib.ListN.{length, getD}
 use Rattle.netlist.specs.Net.{Net, size}
 use Rattle.netlist.specs.Arrays.{pinsIn}
+use Rattle.netbytes.specs.Limits.{mostPeriod}
 use Rattle.covers.specs.Key.{Entry}
 use Rattle.records.specs.Marking.{AllFed, EnoughRegisters, ShortChains}
 use Rattle.records.specs.Held.{held, lutsIn}
@@ -14,7 +15,7 @@ use Rattle.linkcheck.specs.Places.{Wired}
 -- n LUTs and O outputs of a net with I inputs and G gates, and the period
 pub record Linking (I G : ℕ) (outs delays : List ℕ) (O : ℕ) (roots sizes nodes backs : List ℕ) (lags : List ℤ) (n period : ℕ) : Type 0 where
   pub luts : Wired I G roots sizes nodes backs lags n
-  pub limit : period ≤ 32
+  pub limit : period ≤ mostPeriod
   pub atOuts : O ≤ length outs
   pub atDelays : O ≤ length delays
   pub out : (o : ℕ) → o < O → getD outs o 0 < I + G

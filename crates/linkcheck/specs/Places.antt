@@ -9,6 +9,7 @@ use lib.ListN.{length, getD}
 use lib.Signed.{mag}
 use Rattle.integers.specs.Parts.{up, dn}
 use Rattle.netlist.specs.Arrays.{stride}
+use Rattle.netbytes.specs.Limits.{mostInputs, mostGates, mostLuts}
 
 -- the place, counted from i, of the first of n roots from place i on that is u; n if there is none
 unfoldable pub placeFrom : List ℕ → ℕ → ℕ → ℕ → ℕ
@@ -94,7 +95,7 @@ pub record Marks (x : ℕ) (P : Type 0) : Type 0 where
 
 -- room for the LUTs' marks
 abbrev pub most : ℕ
-most = 32
+most = mostLuts
 
 -- ---- what the arrays are asked
 
@@ -119,8 +120,8 @@ pub record LeafAsked (I : ℕ) (roots nodes backs : List ℕ) (n i j : ℕ) : Ty
 
 -- n LUTs of a net with I inputs and G gates
 pub record Wired (I G : ℕ) (roots sizes nodes backs : List ℕ) (lags : List ℤ) (n : ℕ) : Type 0 where
-  pub inputs : I ≤ 16
-  pub gates : G ≤ 32
+  pub inputs : I ≤ mostInputs
+  pub gates : G ≤ mostGates
   pub leafRoom : LeafRoom roots sizes nodes n
   pub lagRoom : LagRoom roots lags n
   pub atBacks : stride * n ≤ length backs
