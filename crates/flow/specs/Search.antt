@@ -118,6 +118,15 @@ pub record PinsTried (G : Graph) (v v′ : View) (x i n r : ℕ) : Type 0 where
   pub idle : 0 < r → v .flow x ≡ 0 → Waits G v v′ x
   pub fed : 0 < r → (j : ℕ) → Fed G (v .flow) x j → Waits G v v′ (G .source x j)
 
+-- The same out of x itself alone.
+pub record SelfTried (G : Graph) (v v′ : View) (x r : ℕ) : Type 0 where
+  pub grew : Grew v v′
+  pub lost : r ≡ 0 → Lost G v v′
+  pub passed : r ≡ 0 → 0 < v′ .flow x → 0 < v′ .out x
+  pub kept : 0 < r → FrameBut x v v′
+  pub idle : 0 < r → v .flow x ≡ 0 → Waits G v v′ x
+  pub fed : 0 < r → (j : ℕ) → Fed G (v .flow) x j → Waits G v v′ (G .source x j)
+
 -- One entry more, which feeds the forced set.
 abbrev pub Gains : Graph → View → View → Type 0
 Gains G v v′ = (E : List ℕ) → State G (v .flow) E → (y : ℕ) × State G (v′ .flow) (y ∷ E) × ((x : ℕ) × (0 < G .forced x) × Feeding G y x)

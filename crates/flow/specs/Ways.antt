@@ -7,7 +7,7 @@ use native.Mathlib.Decide.{ℕ-discrete}
 use Rattle.flow.specs.Graph.{Graph, Lawful}
 use Rattle.flow.specs.State.{Fed, Next, State, next-one}
 use Rattle.flow.specs.Steps.{opens, joins, turns, returns}
-use Rattle.flow.specs.Search.{View, Reached, inward, outward, Ready, Grew, PinPassed, PassedIn, PassedOut, Lost, Waits, Frame, FrameBut, OutVisited, OutLeft, InVisited, Entered, PinsTried, Gains, RootTried, MarkedIn, MarkedOut, FlowSet, positive-or-zero, grew-refl, grew-trans, marked-in-grew, marked-out-grew, flow-set-grew, reached-apart, reached-inner}
+use Rattle.flow.specs.Search.{View, Reached, inward, outward, Ready, Grew, PinPassed, PassedIn, PassedOut, Lost, Waits, Frame, FrameBut, OutVisited, OutLeft, InVisited, Entered, PinsTried, SelfTried, Gains, RootTried, MarkedIn, MarkedOut, FlowSet, positive-or-zero, grew-refl, grew-trans, marked-in-grew, marked-out-grew, flow-set-grew, reached-apart, reached-inner}
 
 -- two functions at one argument
 at : {f g : ℕ → ℕ} → f ≡ g → (z : ℕ) → f z ≡ g z
@@ -242,44 +242,53 @@ module _ {G : Graph} where
     fed = o .fed;
   }
 
-  -- no pin brought one, and x carries nothing or is marked out
-  pub entered-lost : {v v′ : View} {x : ℕ} → PinsTried G v v′ x 0 (G .pins x) 0 → (0 < v′ .flow x → 0 < v′ .out x) → Entered G v v′ x 0
-  entered-lost o f = record {
-    grew = o .grew;
-    lost = o .lost;
-    passed = λ e. record { pins = λ j h. o .passed refl j (omega arith) h; self = f };
-    kept = λ p. absurd (omega (arith, p));
-    idle = λ p. absurd (omega (arith, p));
-    fed = λ p. absurd (omega (arith, p));
-  }
-
-  -- then a search out of x found nothing
-  pub entered-out-lost : {v v₁ v′ : View} {x : ℕ} → PinsTried G v v₁ x 0 (G .pins x) 0 → OutVisited G v₁ v′ x 0 → Entered G v v′ x 0
-  entered-out-lost {x} o u = record {
+  -- no pin brought one, and x itself was tried
+  pub entered-self : {v v₁ v′ : View} {x r : ℕ} → PinsTried G v v₁ x 0 (G .pins x) 0 → SelfTried G v₁ v′ x r → Entered G v v′ x r
+  entered-self {v} {v₁} {v′} {x} o u = record {
     grew = grew-trans (o .grew) (u .grew);
-    lost = λ e. lost-trans (o .lost refl) (u .lost refl);
-    passed = λ e. record { pins = λ j h. pin-passed-grew G (u .grew) x j (o .passed refl j (omega arith) h); self = λ p. u .marked };
-    kept = λ p. absurd (omega (arith, p));
-    idle = λ p. absurd (omega (arith, p));
-    fed = λ p. absurd (omega (arith, p));
-  }
-
-  -- or it found a unit, and x gives its own back
-  pub entered-out-won : {v v₁ v₂ v′ : View} {x r : ℕ} → PinsTried G v v₁ x 0 (G .pins x) 0 → 0 < v .inn x → 0 < v₁ .flow x → 0 < r → OutVisited G v₁ v₂ x r → FlowSet v₂ v′ x 0 → Entered G v v′ x 1
-  entered-out-won {v} {v₁} {v₂} {v′} {x} o i c p u m = record {
-    grew = grew-trans (o .grew) (grew-trans (u .grew) (flow-set-grew m));
-    lost = λ e. absurd (omega (arith, e));
-    passed = λ e. absurd (omega (arith, e));
-    kept = λ h z q n. m .flow .other z n ∙ frame-after l v₂ (u .kept p) z q;
-    idle = λ h e. never (at (l .same) x ∙ e) c;
-    fed = λ h j f E s. returns (waits-after l v₂ (u .won p) E s) (m .flow) (fed f);
+    lost = λ e. lost-trans l (u .lost e);
+    passed = λ e. record { pins = λ j h. pin-passed-grew G (u .grew) x j (o .passed refl j (omega arith) h); self = u .passed e };
+    kept = λ h. frame-but-after l v′ (u .kept h);
+    idle = λ h e. waits-after l v′ (u .idle h (at (l .same) x ∙ e));
+    fed = λ h j f. waits-after l v′ (u .fed h j (fed-after l f));
   }
     where
       l : Lost G v v₁
       l = o .lost refl
 
-      fed : {j : ℕ} → Fed G (v .flow) x j → Fed G (v₂ .flow) x j
-      fed f = record { pin = u .kept p x (l .grew .inn x i) ∙ (at (l .same) x ∙ f .pin); below = f .below }
+  -- ---- x itself
+  -- x carries nothing or is marked out
+  pub self-skipped : {v : View} {x : ℕ} → Ready G v → (0 < v .flow x → 0 < v .out x) → SelfTried G v v x 0
+  self-skipped {v} r f = record {
+    grew = grew-refl v;
+    lost = λ e. lost-none r;
+    passed = λ e. f;
+    kept = λ p. absurd (omega (arith, p));
+    idle = λ p. absurd (omega (arith, p));
+    fed = λ p. absurd (omega (arith, p));
+  }
+
+  -- a search out of x found nothing
+  pub self-lost : {v v′ : View} {x : ℕ} → OutVisited G v v′ x 0 → SelfTried G v v′ x 0
+  self-lost o = record {
+    grew = o .grew;
+    lost = o .lost;
+    passed = λ e h. o .marked;
+    kept = λ p. absurd (omega (arith, p));
+    idle = λ p. absurd (omega (arith, p));
+    fed = λ p. absurd (omega (arith, p));
+  }
+
+  -- it found a unit, and x gives its own back
+  pub self-won : {v v₁ v′ : View} {x r : ℕ} → 0 < v .inn x → 0 < v .flow x → 0 < r → OutVisited G v v₁ x r → FlowSet v₁ v′ x 0 → SelfTried G v v′ x 1
+  self-won {v} {v₁} {v′} {x} i c p o m = record {
+    grew = grew-trans (o .grew) (flow-set-grew m);
+    lost = λ e. absurd (omega (arith, e));
+    passed = λ e. absurd (omega (arith, e));
+    kept = λ h z q n. m .flow .other z n ∙ o .kept p z q;
+    idle = λ h e. never e c;
+    fed = λ h j f E s. returns (o .won p E s) (m .flow) (record { pin = o .kept p x i ∙ f .pin; below = f .below });
+  }
 
   -- ---- the pins of x
   -- the source of pin i is forced or marked out
@@ -346,19 +355,9 @@ module _ {G : Graph} where
   pub pins-won : {v v′ : View} {x i j k n r : ℕ} → 0 < r → PinsTried G v v′ x i j r → PinsTried G v v′ x k n r
   pins-won p o = record { grew = o .grew; lost = o .lost; passed = λ e. never e p; kept = o .kept; idle = o .idle; fed = o .fed }
 
-  -- some of the pins first, and then all of them
-  pub pins-again : {v v₁ v′ : View} {x i j n r : ℕ} → PinsTried G v v₁ x i j 0 → PinsTried G v₁ v′ x 0 n r → PinsTried G v v′ x 0 n r
-  pins-again {v} {v₁} {v′} {x} o u = record {
-    grew = grew-trans (o .grew) (u .grew);
-    lost = λ e. lost-trans l (u .lost e);
-    passed = u .passed;
-    kept = λ h. frame-but-after l v′ (u .kept h);
-    idle = λ h e. waits-after l v′ (u .idle h (at (l .same) x ∙ e));
-    fed = λ h k f. waits-after l v′ (u .fed h k (fed-after l f));
-  }
-    where
-      l : Lost G v v₁
-      l = o .lost refl
+  -- none of some pins, which need not be told
+  pub pins-fewer : {v v′ : View} {x i n j : ℕ} → PinsTried G v v′ x i n 0 → PinsTried G v v′ x j j 0
+  pins-fewer o = record { grew = o .grew; lost = o .lost; passed = λ e k p q. absurd (omega (arith, p, q)); kept = o .kept; idle = o .idle; fed = o .fed }
 
   -- ---- from the forced set
   pub root-skipped : {v : View} {x i : ℕ} → Ready G v → PinPassed G v x i → RootTried G v v x i (i + 1) 0
