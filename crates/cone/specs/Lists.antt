@@ -5,9 +5,10 @@ use mathlib.Core.List.{List, [], _∷_, _++_}
 use mathlib.Core.Logic.{_⊎_}
 use Prim.Native.Nat.{ℕ, zero, suc, _+_, _-_, _*_, _≤_, _<_}
 use lib.ListN.{length, getD}
-use Rattle.sequences.specs.Member.{_∈_}
+use Rattle.sequences.specs.Member.{_∈_, Within}
+use Rattle.netlist.specs.Net.{Net}
 use Rattle.netlist.specs.Arrays.{stride, copyAt, copiesFrom}
-use Rattle.netlist.specs.Copies.{Copy, copy}
+use Rattle.netlist.specs.Copies.{Copy, copy, Feeds}
 
 -- a test tells whether P holds
 pub record Tells (r : Bool) (P : Type 0) : Type 0 where
@@ -99,3 +100,31 @@ pub data Visit (I limit : ℕ) (L C : List Copy) (y : Copy) (r : ℕ) (C′ : Li
   full : r ≡ 0 → ¬ (y ∈ L) → ¬ (y ∈ C) → I ≤ y .node → limit ≤ length C → Visit I limit L C y r C′
   kept : r ≡ length C → C′ ≡ C → (y ∈ C) ⊎ (y ∈ L) → Visit I limit L C y r C′
   added : r ≡ length C + 1 → length C < limit → C′ ≡ C ++ (y ∷ []) → ¬ (y ∈ L) → ¬ (y ∈ C) → I ≤ y .node → Visit I limit L C y r C′
+
+-- sources come first: each copy of C that feeds the copy at place p stands at a place before p
+abbrev pub SourcesFirst : Net → List Copy → Type 0
+SourcesFirst N C = (p : ℕ) → p < length C → (y : Copy) → y ∈ C → Feeds N y (getD C p (copy 0 0)) → (q : ℕ) × (q < p) × (getD C q (copy 0 0) ≡ y)
+
+-- the same copies in another order
+pub record Mixed (C C′ : List Copy) : Type 0 where
+  pub long : length C′ ≡ length C
+  pub stay : Within C C′
+  pub come : Within C′ C
+
+-- the copies at places i and j have changed places
+pub record Swapped (us ds us′ ds′ : List ℕ) (i j : ℕ) : Type 0 where
+  pub first : copyAt us′ ds′ i ≡ copyAt us ds j
+  pub second : copyAt us′ ds′ j ≡ copyAt us ds i
+  pub others : (k : ℕ) → ¬ (k ≡ i) → ¬ (k ≡ j) → copyAt us′ ds′ k ≡ copyAt us ds k
+
+-- y, if it is one of the first len copies, is one of the first m
+abbrev pub Early : List ℕ → List ℕ → ℕ → ℕ → Copy → Type 0
+Early us ds len m y = y ∈ copiesIn us ds len → y ∈ copiesIn us ds m
+
+-- so is each copy that feeds the copy of gate g, b registers back, at one of n pins
+abbrev pub Ready : List ℕ → List ℕ → List ℕ → List ℕ → ℕ → ℕ → ℕ → ℕ → ℕ → Type 0
+Ready sources counts us ds len m g n b = (j : ℕ) → j < n → Early us ds len m (sourceAt sources counts g b j)
+
+-- so is each copy that feeds x
+abbrev pub ReadyCopy : ℕ → List ℕ → List ℕ → List ℕ → List ℕ → List ℕ → ℕ → ℕ → Copy → Type 0
+ReadyCopy I ps sources counts us ds len m x = Ready sources counts us ds len m (x .node - I) (getD ps (x .node - I) 0) (x .back)

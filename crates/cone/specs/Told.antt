@@ -7,14 +7,16 @@ use native.Mathlib.Omega.{arith}
 use lib.ListN.{length, getD}
 use Rattle.sequences.specs.Member.{_∈_, here, there, not-in-nil, in-equal}
 use Rattle.netlist.specs.Net.{Net}
+use Rattle.netlist.specs.Checks.{Loopless}
 use Rattle.netlist.specs.Wired.{Wired, wired-gate}
 use Rattle.netlist.specs.Copies.{Copy, copy, Feeds, IsCone, IsLeaves, IsCut, Rising}
 use Rattle.cones.specs.Ranks.{Ranked}
 use Rattle.netlist.specs.Arrays.{copyAt, copiesFrom}
-use Rattle.cone.specs.Lists.{First, copiesIn, Wires, Touched, Bounded, Room, Leaves, Given, members, most}
+use Rattle.cone.specs.Lists.{First, copiesIn, Wires, Touched, Bounded, Room, Leaves, Given, members, most, SourcesFirst}
 use Rattle.cone.specs.ListLaws.{length-copiesIn, in-copiesIn, copiesIn-in, found-in, missing}
 use Rattle.cone.specs.Walking.{Walked, Closed, Refuted, walked-root, walked-cone, walked-leaves, refuted-root, closed-all, refuted-cut, pin-feeds, feeds-pin}
 use Rattle.cone.specs.Growing.{Sweep, Grown, member, sweep-closed}
+use Rattle.cone.specs.Ordering.{Arranged, mixed-bounded, mixed-cone, mixed-leaves}
 use Rattle.cone.specs.declared.Told.the-variants.{Cut, NoCut}
 use Rattle.cone.specs.declared.Cone.{Cone}
 
@@ -24,6 +26,7 @@ pub record Walk (I G : ℕ) (ps sources counts ln lb : List ℕ) (n g : ℕ) (r 
   pub bounded : r .verdict ≡ Cut → Bounded I G (copiesIn (r .nodes) (r .backs) (r .len))
   pub cone : r .verdict ≡ Cut → (N : Net) → Wired N I G ps sources counts → IsCone N (I + g) (copiesIn (r .nodes) (r .backs) (r .len))
   pub leaves : r .verdict ≡ Cut → (N : Net) → Wired N I G ps sources counts → Rising (copiesIn ln lb n) → IsLeaves N (copiesIn (r .nodes) (r .backs) (r .len)) (copiesIn ln lb n)
+  pub order : r .verdict ≡ Cut → (N : Net) → Wired N I G ps sources counts → Loopless N → SourcesFirst N (copiesIn (r .nodes) (r .backs) (r .len))
   pub none : r .verdict ≡ NoCut → (N : Net) → Wired N I G ps sources counts → Ranked N → (k : ℕ) → ¬ IsCut N k (I + g) (copiesIn ln lb n)
 
 cut-or-not : Cut ≡ NoCut → ⊥
@@ -38,20 +41,22 @@ module _ {I G : ℕ} {ps sources counts ln lb : List ℕ} {n g : ℕ} where
     bounded = λ q. absurd (cut-or-not (sym q ∙ e));
     cone = λ q. absurd (cut-or-not (sym q ∙ e));
     leaves = λ q. absurd (cut-or-not (sym q ∙ e));
+    order = λ q. absurd (cut-or-not (sym q ∙ e));
     none = λ q N w R. refuted-cut (f N w R);
   }
 
-  -- a cut
-  pub told-cut : (r : Cone) → r .verdict ≡ Cut → Room (r .nodes) (r .backs) (r .len) → Bounded I G (copiesIn (r .nodes) (r .backs) (r .len))
-      → ((N : Net) → Wired N I G ps sources counts → Walked N (I + g) (copiesIn ln lb n) (copiesIn (r .nodes) (r .backs) (r .len)))
-      → ((N : Net) → Wired N I G ps sources counts → (x : Copy) → x ∈ copiesIn (r .nodes) (r .backs) (r .len) → Closed N (copiesIn ln lb n) (copiesIn (r .nodes) (r .backs) (r .len)) x)
-      → ((N : Net) → Wired N I G ps sources counts → (y : Copy) → y ∈ copiesIn ln lb n → (x : Copy) × (x ∈ copiesIn (r .nodes) (r .backs) (r .len)) × Feeds N y x)
-      → Walk I G ps sources counts ln lb n g r
-  told-cut r e room bounded walked closed touched = record {
+  -- a cut: the copies met, arranged
+  pub told-cut : (r : Cone) (C : List Copy) → r .verdict ≡ Cut → Room (r .nodes) (r .backs) (r .len) → Bounded I G C
+      → ((N : Net) → Wired N I G ps sources counts → Walked N (I + g) (copiesIn ln lb n) C)
+      → ((N : Net) → Wired N I G ps sources counts → (x : Copy) → x ∈ C → Closed N (copiesIn ln lb n) C x)
+      → ((N : Net) → Wired N I G ps sources counts → (y : Copy) → y ∈ copiesIn ln lb n → (x : Copy) × (x ∈ C) × Feeds N y x)
+      → Arranged I G ps sources counts C (copiesIn (r .nodes) (r .backs) (r .len)) → Walk I G ps sources counts ln lb n g r
+  told-cut r C e room bounded walked closed touched a = record {
     room = λ q. room;
-    bounded = λ q. bounded;
-    cone = λ q N w. walked-cone (walked N w);
-    leaves = λ q N w rising. walked-leaves rising (walked N w) (closed N w) (touched N w);
+    bounded = λ q. mixed-bounded (a .mixed) bounded;
+    cone = λ q N w. mixed-cone (a .mixed) (walked-cone (walked N w));
+    leaves = λ q N w rising. mixed-leaves (a .mixed) (walked-leaves rising (walked N w) (closed N w) (touched N w));
+    order = λ q. a .order;
     none = λ q. absurd (cut-or-not (sym e ∙ q));
   }
 
@@ -120,13 +125,14 @@ module _ {I G : ℕ} {ps sources counts ln lb : List ℕ} {n g : ℕ} where
       bad p z = omega arith
 
   -- each leaf is touched
-  pub told-all : (r : Cone) (i : ℕ) {C : List Copy} → r .verdict ≡ Cut → C ≡ copy (I + g) 0 ∷ [] → g < G → First (λ j. copyAt ln lb j ≡ copy (I + g) 0) n i → n ≤ i
-      → Room (r .nodes) (r .backs) (r .len) → Sweep I G ps sources counts (copiesIn ln lb n) C (copiesIn (r .nodes) (r .backs) (r .len)) (r .len)
-      → ((j : ℕ) → j < n → Touched I ps sources counts (r .nodes) (r .backs) (r .len) (copyAt ln lb j)) → Walk I G ps sources counts ln lb n g r
-  told-all r i e q h f k room s touched = told-cut r e room (s .bounded)
+  pub told-all : (r : Cone) (i : ℕ) {C : List Copy} (nodes backs : List ℕ) → r .verdict ≡ Cut → C ≡ copy (I + g) 0 ∷ [] → g < G → First (λ j. copyAt ln lb j ≡ copy (I + g) 0) n i → n ≤ i
+      → Room (r .nodes) (r .backs) (r .len) → Sweep I G ps sources counts (copiesIn ln lb n) C (copiesIn nodes backs (r .len)) (r .len)
+      → ((j : ℕ) → j < n → Touched I ps sources counts nodes backs (r .len) (copyAt ln lb j))
+      → Arranged I G ps sources counts (copiesIn nodes backs (r .len)) (copiesIn (r .nodes) (r .backs) (r .len)) → Walk I G ps sources counts ln lb n g r
+  told-all r i nodes backs e q h f k room s touched = told-cut r (copiesIn nodes backs (r .len)) e room (s .bounded)
       (λ N w. s .walked N (I + g) w (starts ln lb n i q h f k N w))
-      (sweep-closed s (length-copiesIn (r .nodes) (r .backs) (r .len)))
-      (λ N w y m. let p = copiesIn-in ln lb n m in touched-feeds w (r .nodes) (r .backs) (r .len) (s .bounded) y (subst (Touched I ps sources counts (r .nodes) (r .backs) (r .len)) (p .2) (touched (p .0) (p .1))))
+      (sweep-closed s (length-copiesIn nodes backs (r .len)))
+      (λ N w y m. let p = copiesIn-in ln lb n m in touched-feeds w nodes backs (r .len) (s .bounded) y (subst (Touched I ps sources counts nodes backs (r .len)) (p .2) (touched (p .0) (p .1))))
 
   -- some leaf is untouched
   pub told-some : (r : Cone) (i : ℕ) {C : List Copy} (nodes backs : List ℕ) (len : ℕ) → r .verdict ≡ NoCut → C ≡ copy (I + g) 0 ∷ [] → g < G → First (λ j. copyAt ln lb j ≡ copy (I + g) 0) n i → n ≤ i

@@ -6,10 +6,11 @@ ghost use Prim.Native.Nat.{ℕ, _+_, _*_, _^_, _≤_, _<_};
 ghost use lib.ListN.{length, getD};
 ghost use Rattle.netlist.specs.Copies.{copy};
 ghost use Rattle.netlist.specs.Arrays.{copyAt};
-ghost use Rattle.cone.specs.Lists.{Tells, First, copiesIn, Wires, members, most, Leaves, Room, Bounded, Given, Visit, Place, Fed, Touched, sourceAt};
+ghost use Rattle.cone.specs.Lists.{Tells, First, copiesIn, Wires, members, most, Leaves, Room, Bounded, Given, Visit, Place, Fed, Touched, sourceAt, Mixed, Swapped, Early, Ready, ReadyCopy};
 ghost use Rattle.cone.specs.Growing.{Expanded, Grown};
+ghost use Rattle.cone.specs.Ordering.{Arranged};
 ghost use Rattle.cone.specs.Told.{Walk};
-ghost use Rattle.cone.specs.Words.{Carries, WordAt, Rounds, TableOver};
+ghost use Rattle.cone.specs.Words.{Carries, WordAt, Settled, TableOver};
 
 // How the walk ended.
 pub enum Told {
@@ -17,7 +18,7 @@ pub enum Told {
     NoCut,
 }
 
-// The verdict and, where it is Cut, the members of the cone: the first len places.
+// The verdict and, where it is Cut, the members of the cone in the first len places, sources first if the net has no loop of register-free pins.
 pub struct Cone {
     pub verdict: Told,
     pub nodes: [usize; 192],
@@ -286,7 +287,150 @@ fn all_touched(
     true
 }
 
-// The walk from gate g back to the n leaves: the cone, or no cut.
+// The copies at places i and j change places.
+fn swap(nodes: &mut [usize], backs: &mut [usize], i: usize, j: usize)
+    requires { ⌜ (i < length (now nodes)) × (j < length (now nodes)) × (i < length (now backs)) × (j < length (now backs)) ⌝ }
+    ensures { λ _. ⌜ Swapped (now (nodes .entry)) (now (backs .entry)) (now (nodes .exit)) (now (backs .exit)) i j ⌝ }
+{
+    let node = nodes[i];
+    let back = backs[i];
+    nodes[i] = nodes[j];
+    backs[i] = backs[j];
+    nodes[j] = node;
+    backs[j] = back;
+}
+
+// The list turned round: it grew from the root, so most sources then come first.
+fn reverse(nodes: &mut [usize], backs: &mut [usize], len: usize)
+    requires { ⌜ Room (now nodes) (now backs) len ⌝ }
+    ensures { λ _. ⌜ Mixed (copiesIn (now (nodes .entry)) (now (backs .entry)) len) (copiesIn (now (nodes .exit)) (now (backs .exit)) len) ⌝ }
+{
+    let half = len / 2;
+    let mut i = 0;
+    while i < half {
+        swap(nodes, backs, i, len - 1 - i);
+        i += 1;
+    }
+}
+
+// Whether this copy, where it is listed, is one of the first m.
+fn is_early(
+    nodes: &[usize],
+    backs: &[usize],
+    len: usize,
+    m: usize,
+    node: usize,
+    back: usize,
+) -> bool
+    requires { ⌜ (len ≤ length (now nodes)) × (len ≤ length (now backs)) × (m ≤ len) ⌝ }
+    ensures { λ r. ⌜ Tells r (Early (now (nodes .entry)) (now (backs .entry)) len m (copy node back)) ⌝ }
+{
+    let at = find(nodes, backs, len, node, back);
+    if at < m {
+        return true;
+    }
+    if at < len {
+        return false;
+    }
+    true
+}
+
+// Whether the listed copies that feed the copy of gate g, `base` registers back, at n pins are all among the first m.
+fn ready(
+    sources: &[usize],
+    counts: &[usize],
+    nodes: &[usize],
+    backs: &[usize],
+    len: usize,
+    m: usize,
+    g: usize,
+    n: usize,
+    base: usize,
+) -> bool
+    requires { ⌜ ((len ≤ length (now nodes)) × (len ≤ length (now backs)) × (m ≤ len)) × ((j : ℕ) → j < n → Place (now sources) (now counts) g j) × (g ≤ members) × (base ≤ most * members) ⌝ }
+    ensures { λ r. ⌜ Tells r (Ready (now (sources .entry)) (now (counts .entry)) (now (nodes .entry)) (now (backs .entry)) len m g n base) ⌝ }
+{
+    let mut j = 0;
+    while j < n {
+        let at = 6 * g + j;
+        if !is_early(nodes, backs, len, m, sources[at], base + counts[at]) {
+            return false;
+        }
+        j += 1;
+    }
+    true
+}
+
+// The first place from m on whose copy is ready, or len.
+fn next_ready(
+    inputs: usize,
+    gates: usize,
+    pins: &[usize],
+    sources: &[usize],
+    counts: &[usize],
+    nodes: &[usize],
+    backs: &[usize],
+    len: usize,
+    m: usize,
+) -> usize
+    requires { ⌜ Wires inputs gates (now pins) (now sources) (now counts) × Room (now nodes) (now backs) len × Bounded inputs gates (copiesIn (now nodes) (now backs) len) × (m ≤ len) ⌝ }
+    ensures { λ r. ⌜ First (λ q. (m ≤ q) × ReadyCopy inputs (now (pins .entry)) (now (sources .entry)) (now (counts .entry)) (now (nodes .entry)) (now (backs .entry)) len m (copyAt (now (nodes .entry)) (now (backs .entry)) q)) len r ⌝ }
+{
+    let mut q = m;
+    while q < len {
+        let g = nodes[q] - inputs;
+        if ready(sources, counts, nodes, backs, len, m, g, pins[g], backs[q]) {
+            return q;
+        }
+        q += 1;
+    }
+    len
+}
+
+// Place after place, a copy that is ready. Without a loop of register-free pins there is always one.
+fn select(
+    inputs: usize,
+    gates: usize,
+    pins: &[usize],
+    sources: &[usize],
+    counts: &[usize],
+    nodes: &mut [usize],
+    backs: &mut [usize],
+    len: usize,
+)
+    requires { ⌜ Wires inputs gates (now pins) (now sources) (now counts) × Room (now nodes) (now backs) len × Bounded inputs gates (copiesIn (now nodes) (now backs) len) ⌝ }
+    ensures { λ _. ⌜ Arranged inputs gates (now (pins .entry)) (now (sources .entry)) (now (counts .entry)) (copiesIn (now (nodes .entry)) (now (backs .entry)) len) (copiesIn (now (nodes .exit)) (now (backs .exit)) len) ⌝ }
+{
+    let mut m = 0;
+    while m < len {
+        let q = next_ready(inputs, gates, pins, sources, counts, nodes, backs, len, m);
+        if len <= q {
+            return;
+        }
+        swap(nodes, backs, m, q);
+        m += 1;
+    }
+}
+
+// The list in an order in which sources come first, if the net has no loop of register-free pins.
+fn arrange(
+    inputs: usize,
+    gates: usize,
+    pins: &[usize],
+    sources: &[usize],
+    counts: &[usize],
+    nodes: &mut [usize],
+    backs: &mut [usize],
+    len: usize,
+)
+    requires { ⌜ Wires inputs gates (now pins) (now sources) (now counts) × Room (now nodes) (now backs) len × Bounded inputs gates (copiesIn (now nodes) (now backs) len) ⌝ }
+    ensures { λ _. ⌜ Arranged inputs gates (now (pins .entry)) (now (sources .entry)) (now (counts .entry)) (copiesIn (now (nodes .entry)) (now (backs .entry)) len) (copiesIn (now (nodes .exit)) (now (backs .exit)) len) ⌝ }
+{
+    reverse(nodes, backs, len);
+    select(inputs, gates, pins, sources, counts, nodes, backs, len);
+}
+
+// The walk from gate g back to the n leaves: the cone in an order in which sources come first, or no cut.
 pub fn walk(
     inputs: usize,
     gates: usize,
@@ -348,6 +492,16 @@ pub fn walk(
         &backs,
         len,
     ) {
+        arrange(
+            inputs,
+            gates,
+            pins,
+            sources,
+            counts,
+            &mut nodes,
+            &mut backs,
+            len,
+        );
         return Cone {
             verdict: Told::Cut,
             nodes: nodes,
@@ -375,7 +529,7 @@ fn source_word(
     node: usize,
     back: usize,
 ) -> u64
-    requires { ⌜ (n ≤ 6) × (n ≤ length (now «leaf_nodes»)) × (n ≤ length (now «leaf_backs»)) × Room (now nodes) (now backs) len × (len ≤ length (now words)) ⌝ }
+    requires { ⌜ (n ≤ 6) × (n ≤ length (now «leaf_nodes»)) × (n ≤ length (now «leaf_backs»)) × (len ≤ length (now nodes)) × (len ≤ length (now backs)) × (len ≤ length (now words)) ⌝ }
     ensures { λ r. ⌜ Carries (copiesIn (now («leaf_nodes» .entry)) (now («leaf_backs» .entry)) n) (copiesIn (now (nodes .entry)) (now (backs .entry)) len) (now (words .entry)) (copy node back) r ⌝ }
 {
     let leaf = find(leaf_nodes, leaf_backs, n, node, back);
@@ -401,7 +555,7 @@ fn gather(
     m: usize,
     base: usize,
 ) -> [u64; 6]
-    requires { ⌜ ((n ≤ 6) × (n ≤ length (now «leaf_nodes»)) × (n ≤ length (now «leaf_backs»)) × Room (now nodes) (now backs) len × (len ≤ length (now words))) × ((j : ℕ) → j < m → Place (now sources) (now counts) g j) × (g ≤ members) × (m ≤ 6) × (base ≤ most * members) ⌝ }
+    requires { ⌜ ((n ≤ 6) × (n ≤ length (now «leaf_nodes»)) × (n ≤ length (now «leaf_backs»)) × (len ≤ length (now nodes)) × (len ≤ length (now backs)) × (len ≤ length (now words))) × ((j : ℕ) → j < m → Place (now sources) (now counts) g j) × (g ≤ members) × (m ≤ 6) × (base ≤ most * members) ⌝ }
     ensures { λ r. ⌜ (m ≤ length r) × ((j : ℕ) → j < m → Carries (copiesIn (now («leaf_nodes» .entry)) (now («leaf_backs» .entry)) n) (copiesIn (now (nodes .entry)) (now (backs .entry)) len) (now (words .entry)) (sourceAt (now (sources .entry)) (now (counts .entry)) g base j) (getD r j 0)) ⌝ }
 {
     let mut fed = [0u64; 6];
@@ -424,7 +578,7 @@ fn gather(
     fed
 }
 
-// The word of the listed copy at place p, from the words of the copies that feed it.
+// The word of the listed copy at place p, from the words of the copies before it.
 fn copy_word(
     inputs: usize,
     gates: usize,
@@ -442,7 +596,7 @@ fn copy_word(
     p: usize,
 ) -> u64
     requires { ⌜ Given inputs gates (now pins) (now sources) (now counts) (now tables) (now «leaf_nodes») (now «leaf_backs») n (now nodes) (now backs) len × (len ≤ length (now words)) × (p < len) ⌝ }
-    ensures { λ r. ⌜ WordAt inputs (now (pins .entry)) (now (sources .entry)) (now (counts .entry)) (now (tables .entry)) (copiesIn (now («leaf_nodes» .entry)) (now («leaf_backs» .entry)) n) (now (nodes .entry)) (now (backs .entry)) len (now (words .entry)) (2 ^ n) p r ⌝ }
+    ensures { λ r. ⌜ WordAt inputs (now (pins .entry)) (now (sources .entry)) (now (counts .entry)) (now (tables .entry)) (copiesIn (now («leaf_nodes» .entry)) (now («leaf_backs» .entry)) n) (now (nodes .entry)) (now (backs .entry)) p (now (words .entry)) (2 ^ n) r ⌝ }
 {
     let g = nodes[p] - inputs;
     let m = pins[g];
@@ -454,7 +608,7 @@ fn copy_word(
         n,
         nodes,
         backs,
-        len,
+        p,
         words,
         g,
         m,
@@ -463,65 +617,7 @@ fn copy_word(
     truth::compose(tables[g], fed, m, 1 << n)
 }
 
-// One round: the word of each listed copy from the words so far.
-fn round(
-    inputs: usize,
-    gates: usize,
-    pins: &[usize],
-    sources: &[usize],
-    counts: &[usize],
-    tables: &[u64],
-    leaf_nodes: &[usize],
-    leaf_backs: &[usize],
-    n: usize,
-    nodes: &[usize],
-    backs: &[usize],
-    len: usize,
-    words: &[u64],
-) -> [u64; 192]
-    requires { ⌜ Given inputs gates (now pins) (now sources) (now counts) (now tables) (now «leaf_nodes») (now «leaf_backs») n (now nodes) (now backs) len × (len ≤ length (now words)) ⌝ }
-    ensures { λ r. ⌜ (length r ≡ members) × ((p : ℕ) → p < len → WordAt inputs (now (pins .entry)) (now (sources .entry)) (now (counts .entry)) (now (tables .entry)) (copiesIn (now («leaf_nodes» .entry)) (now («leaf_backs» .entry)) n) (now (nodes .entry)) (now (backs .entry)) len (now (words .entry)) (2 ^ n) p (getD r p 0)) ⌝ }
-{
-    let mut next = [0u64; 192];
-    let mut p = 0;
-    while p < len {
-        next[p] = copy_word(
-            inputs,
-            gates,
-            pins,
-            sources,
-            counts,
-            tables,
-            leaf_nodes,
-            leaf_backs,
-            n,
-            nodes,
-            backs,
-            len,
-            words,
-            p,
-        );
-        p += 1;
-    }
-    next
-}
-
-// Whether the first n words are the same.
-fn same_words(a: &[u64], b: &[u64], n: usize) -> bool
-    requires { ⌜ (n ≤ length (now a)) × (n ≤ length (now b)) ⌝ }
-    ensures { λ r. ⌜ Tells r ((i : ℕ) → i < n → getD (now (a .entry)) i 0 ≡ getD (now (b .entry)) i 0) ⌝ }
-{
-    let mut i = 0;
-    while i < n {
-        if a[i] != b[i] {
-            return false;
-        }
-        i += 1;
-    }
-    true
-}
-
-// Rounds until the words stay: at most as many as there are copies.
+// The words of the listed copies, one after the other.
 fn settle(
     inputs: usize,
     gates: usize,
@@ -537,12 +633,12 @@ fn settle(
     len: usize,
 ) -> [u64; 192]
     requires { ⌜ Given inputs gates (now pins) (now sources) (now counts) (now tables) (now «leaf_nodes») (now «leaf_backs») n (now nodes) (now backs) len ⌝ }
-    ensures { λ r. ⌜ (length r ≡ members) × Rounds inputs gates (now (pins .entry)) (now (sources .entry)) (now (counts .entry)) (now (tables .entry)) (copiesIn (now («leaf_nodes» .entry)) (now («leaf_backs» .entry)) n) (copiesIn (now (nodes .entry)) (now (backs .entry)) len) r (2 ^ n) len ⌝ }
+    ensures { λ r. ⌜ (length r ≡ members) × Settled inputs gates (now (pins .entry)) (now (sources .entry)) (now (counts .entry)) (now (tables .entry)) (copiesIn (now («leaf_nodes» .entry)) (now («leaf_backs» .entry)) n) (now (nodes .entry)) (now (backs .entry)) len r (2 ^ n) len ⌝ }
 {
     let mut words = [0u64; 192];
-    let mut t = 0;
-    while t < len {
-        let next = round(
+    let mut p = 0;
+    while p < len {
+        let word = copy_word(
             inputs,
             gates,
             pins,
@@ -556,17 +652,15 @@ fn settle(
             backs,
             len,
             &words,
+            p,
         );
-        if same_words(&words, &next, len) {
-            return words;
-        }
-        words = next;
-        t += 1;
+        words[p] = word;
+        p += 1;
     }
     words
 }
 
-// The table of the LUT over the cone of gate g with these leaves.
+// The table of the LUT over the cone of gate g with these leaves, in one pass over the cone.
 pub fn table(
     inputs: usize,
     gates: usize,

@@ -30,7 +30,7 @@ module _ {I G : ℕ} {ps so co ts ln lb : List ℕ} {n g : ℕ} {c : Cone} (w : 
     table = λ N d b R A k J.
         let i = w .cone e N d in
         let l = w .leaves e N d (J .isLeaves .rising) in
-        t N d b i l
+        t N d b i l (w .order e N d A)
         ∙ table-same (levels A) i l (length (copiesIn ln lb n) * reachOf N) (λ x m. let a = reach R i l x m in omega arith) (J .cone) (cone-determined i (J .isCone) l (J .isLeaves));
   }
 

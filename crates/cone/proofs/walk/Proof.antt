@@ -1,7 +1,7 @@
 -- `cone::walk` meets its contract: one law for each way out.
 use borrow.Author.Needs.{needs}
 use denote.Ref.{now}
-use mathlib.Core.Path.{refl}
+use mathlib.Core.Path.{refl, _∙_}
 use Prim.Native.Nat.{_+_}
 use native.Mathlib.Omega.{arith}
 use Rattle.cone.specs.Growing.{grown-sweep}
@@ -59,12 +59,25 @@ all-touched-requires c κs =
     let k = c .before .before .before .before .before .grow .kept in
     (p .0, p .2, p .3, record { nodes = k .1 .1 .1 .1 .1 .1 .1 .1 .1 .0; backs = k .1 .1 .1 .1 .1 .1 .1 .1 .1 .1 .0; some = s .0; fits = s .1 }, s .2 .bounded)
 
+slice-aggregate-arrange : tie.Need-slice-aggregate-arrange
+slice-aggregate-arrange c = search needs
+
+slice-aggregate-arrange-2 : tie.Need-slice-aggregate-arrange-2
+slice-aggregate-arrange-2 c = search needs
+
+arrange-requires : tie.Need-arrange-requires
+arrange-requires c κs =
+    let s = grown-sweep (c .before .before .before .before .before .before .before .before .before .grow .ensures) (c .before .before .before .before .before .before .if2 .left) in
+    let k = c .before .before .before .before .before .before .before .before .before .grow .kept in
+    (c .before .before .before .before .before .before .before .before .before .before .before .before .before .before .before .before .before .before .before .pre .0, record { nodes = k .1 .1 .1 .1 .1 .1 .1 .1 .1 .0; backs = k .1 .1 .1 .1 .1 .1 .1 .1 .1 .1 .0; some = s .0; fits = s .1 }, s .2 .bounded)
+
 returns-3 : tie.Need-returns-3
 returns-3 c =
-    let start = c .before .before .before .before .before .before .before .before .before .before .before .before .before .before .before .before .before in
-    let s = grown-sweep (c .before .before .before .before .before .before .before .grow .ensures) (c .before .before .before .before .if2 .left) in
-    let k = c .before .before .before .before .before .before .before .grow .kept in
-    told-all _ (c .before .before .before .before .before .before .before .before .before .before .before .find .result) refl (start-list _ _ (start .args .inputs + start .args .g)) (start .pre .4) (c .before .before .before .before .before .before .before .before .before .before .before .find .ensures) (omega arith) (record { nodes = k .1 .1 .1 .1 .1 .1 .1 .1 .1 .0; backs = k .1 .1 .1 .1 .1 .1 .1 .1 .1 .1 .0; some = s .0; fits = s .1 }) (s .2) (c .before .all-touched .ensures .holds (c .if3 .taken))
+    let start = c .before .before .before .before .before .before .before .before .before .before .before .before .before .before .before .before .before .before .before .before .before .before in
+    let s = grown-sweep (c .before .before .before .before .before .before .before .before .before .before .before .before .grow .ensures) (c .before .before .before .before .before .before .before .before .before .if2 .left) in
+    let k = c .before .before .before .before .before .before .before .before .before .before .before .before .grow .kept in
+    let l = c .before .before .arrange .kept in
+    told-all _ (c .before .before .before .before .before .before .before .before .before .before .before .before .before .before .before .before .find .result) _ _ refl (start-list _ _ (start .args .inputs + start .args .g)) (start .pre .4) (c .before .before .before .before .before .before .before .before .before .before .before .before .before .before .before .before .find .ensures) (omega (arith, c .before .before .before .before .before .before .before .before .before .before .before .before .before .before .before .if1 .left)) (record { nodes = l .1 .1 .1 .1 .1 .0 ∙ k .1 .1 .1 .1 .1 .1 .1 .1 .1 .0; backs = l .1 .1 .1 .1 .1 .1 .0 ∙ k .1 .1 .1 .1 .1 .1 .1 .1 .1 .1 .0; some = s .0; fits = s .1 }) (s .2) (c .before .before .before .before .before .before .all-touched .ensures .holds (c .before .before .before .before .before .if3 .taken)) (c .before .before .arrange .ensures)
 
 returns-4 : tie.Need-returns-4
 returns-4 c =
@@ -88,5 +101,8 @@ walk-spec =
     slice-aggregate-all-touched
     slice-aggregate-all-touched-2
     all-touched-requires
+    slice-aggregate-arrange
+    slice-aggregate-arrange-2
+    arrange-requires
     returns-3
     returns-4)
