@@ -1,0 +1,140 @@
+//! The stack of the compiled library, by counting: each function's frame is read off its code, and a
+//! function that calls itself is counted once for each round that document 01's limits allow.
+//! All of it together fits a stack of 8 MiB.
+
+use std::collections::BTreeMap;
+use std::path::Path;
+use std::process::Command;
+
+/// Gate copies within the border, 32 · (576 + 1): each round of the search marks one more of them,
+/// and the last call marks none.
+const ROUNDS: usize = 32 * 577 + 1;
+const STACK: usize = 8 << 20;
+/// For the functions of the C library that clear and copy, and the caller.
+const ROOM: usize = 64 << 10;
+
+#[derive(Default)]
+struct Function {
+    /// The most that a call of it takes: its return address, what it saves and reserves, and the
+    /// arguments that it passes on the stack, all of them counted at once.
+    frame: usize,
+    calls: Vec<String>,
+}
+
+/// The number behind `sub $0x.. ,%rsp`.
+fn reserved(line: &str) -> Option<usize> {
+    let rest = line.trim().strip_prefix("sub ")?.trim();
+    let number = rest.strip_suffix(",%rsp")?.strip_prefix("$0x")?;
+    usize::from_str_radix(number, 16).ok()
+}
+
+fn functions(code: &str) -> BTreeMap<String, Function> {
+    let mut all = BTreeMap::new();
+    let mut name = String::new();
+    for line in code.lines() {
+        if let Some(head) = line.strip_suffix(">:") {
+            let start = head.find('<').expect("a name") + 1;
+            name = head[start..].to_string();
+            let fresh = Function {
+                frame: 8,
+                calls: Vec::new(),
+            };
+            assert!(
+                all.insert(name.clone(), fresh).is_none(),
+                "{name} stands twice"
+            );
+            continue;
+        }
+        let Some((_, text)) = line.split_once(":\t") else {
+            continue;
+        };
+        let function: &mut Function = match all.get_mut(&name) {
+            Some(function) => function,
+            None => continue,
+        };
+        if text.trim_start().starts_with("push ") {
+            function.frame += 8;
+        } else if let Some(bytes) = reserved(text) {
+            function.frame += bytes;
+        } else if text.contains("%rsp,%rsp") || text.contains("and ") && text.ends_with(",%rsp") {
+            panic!("{name}: {text} is not counted");
+        }
+        let leaves = text.trim_start();
+        if leaves.starts_with("call") || leaves.starts_with("jmp") {
+            if let Some(start) = leaves.find('<') {
+                let target = leaves[start + 1..].trim_end().trim_end_matches('>');
+                if !target.contains('+') {
+                    function.calls.push(target.to_string());
+                }
+            }
+        }
+    }
+    all
+}
+
+/// Whether a chain of calls leads from one function to another without the first calling itself.
+fn leads(all: &BTreeMap<String, Function>, from: &str, to: &str) -> bool {
+    let mut seen = vec![from];
+    let mut at = 0;
+    while at < seen.len() {
+        for next in &all[seen[at]].calls {
+            if next == to && seen[at] != to {
+                return true;
+            }
+            if let Some((known, _)) = all.get_key_value(next) {
+                if !seen.contains(&known.as_str()) {
+                    seen.push(known);
+                }
+            }
+        }
+        at += 1;
+    }
+    false
+}
+
+#[test]
+fn the_stack_fits_8_mib() {
+    let archive = Path::new(env!("CARGO_MANIFEST_DIR")).join("../../target/staticlib/libkamfelu.a");
+    let printed = Command::new("objdump")
+        .args(["-d", "-r", "--no-show-raw-insn"])
+        .arg(&archive)
+        .output()
+        .expect("objdump, of binutils");
+    assert!(printed.status.success());
+    let code = String::from_utf8(printed.stdout).expect("text");
+    // Calls are named by their relocations, which stand on the line behind them.
+    let mut lines: Vec<String> = Vec::new();
+    for line in code.lines() {
+        match (line.split_once("R_X86_64_PLT32\t"), lines.last_mut()) {
+            (Some((_, target)), Some(last)) => {
+                let target = target.trim_end_matches("-0x4").trim_start_matches(".text.");
+                let cut = last.find('<').unwrap_or(last.len());
+                last.truncate(cut);
+                last.push_str(&format!("<{target}>"));
+            }
+            _ => lines.push(line.to_string()),
+        }
+    }
+    let all = functions(&lines.join("\n"));
+    assert!(all.contains_key("kamfelu_map") && all.contains_key("kamfelu_mark"));
+
+    let mut total = ROOM;
+    let mut rounds = 0;
+    for (name, function) in &all {
+        assert!(
+            !leads(&all, name, name),
+            "{name} is in a longer cycle of calls"
+        );
+        if function.calls.contains(name) {
+            println!("{name} calls itself: {} bytes a round", function.frame);
+            assert!(leads(&all, "kamfelu_map", name) && leads(&all, "kamfelu_mark", name));
+            rounds += 1;
+            total += ROUNDS * function.frame;
+        } else {
+            total += function.frame;
+        }
+    }
+    println!("at most {total} bytes of stack");
+    assert_eq!(rounds, 1, "the search alone calls itself");
+    assert!(total <= STACK, "{total} bytes");
+}
