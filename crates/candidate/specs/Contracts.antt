@@ -4,6 +4,7 @@ use mathlib.Core.Bool.{Bool, true, false}
 use mathlib.Core.List.{List, [], _∷_, _++_}
 use Prim.Native.Nat.{ℕ, _+_, _*_, _/_, _^_, _≤_, _<_}
 use lib.ListN.{length, getD, take, drop, set}
+use Rattle.limits.specs.Limits.{mostLeaves, depthRoom}
 use Rattle.netlist.specs.Arrays.{stride, copyAt, copiesFrom}
 use Rattle.netlist.specs.Copies.{Copy}
 use Rattle.covers.specs.Key.{Entry}
@@ -44,11 +45,11 @@ pub record ItemsRead (s : List ℕ) (at n : ℕ) (f : Field) (limit : ℕ) (r : 
 -- a stored d is read
 pub record DepthRead (s : List ℕ) (at : ℕ) (r : Depth) : Type 0 where
   pub result : depthReader (drop at s) ≡ outcome (r .fine) (r .value) (drop (r .at) s)
-  pub small : r .value < 65536
+  pub small : r .value < depthRoom
 
 -- d's of two bytes
 abbrev pub Shallow : List ℕ → Type 0
-Shallow l = (i : ℕ) → getD l i 0 < 65536
+Shallow l = (i : ℕ) → getD l i 0 < depthRoom
 
 -- n stored d's from place `at` on are read, and the values behind them are 0
 pub record DepthsRead (s : List ℕ) (at n : ℕ) (r : Depths) : Type 0 where
@@ -127,8 +128,8 @@ pub record LeavesStored (w : Candidate) (i : ℕ) (nodes backs : List ℕ) (j : 
   pub tables : z .tables ≡ w .tables
   pub here : (m : ℕ) → m < j → copyAt (z .nodes) (z .backs) (stride * i + m) ≡ copyAt nodes backs m
   pub below : (m : ℕ) → m < stride * i → copyAt (z .nodes) (z .backs) m ≡ copyAt (w .nodes) (w .backs) m
-  pub nodes-long : length (z .nodes) ≡ 192
-  pub backs-long : length (z .backs) ≡ 192
+  pub nodes-long : length (z .nodes) ≡ mostLeaves
+  pub backs-long : length (z .backs) ≡ mostLeaves
 
 -- none of the first i LUTs has more leaves than there are places
 abbrev pub narrow : Candidate → ℕ → Type 0
@@ -136,7 +137,7 @@ narrow w i = (j : ℕ) → j < i → getD (w .sizes) j 0 ≤ stride
 
 -- the d's of the first i LUTs are of two bytes
 abbrev pub shallow : Candidate → ℕ → Type 0
-shallow w i = (m : ℕ) → m < stride * i → getD (w .backs) m 0 < 65536
+shallow w i = (m : ℕ) → m < stride * i → getD (w .backs) m 0 < depthRoom
 
 -- LUT i is stored behind the LUTs below it, which stay
 pub record LutStored (w : Candidate) (i : ℕ) (row : Row) (z : Candidate) : Type 0 where

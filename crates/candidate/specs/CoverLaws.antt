@@ -5,6 +5,7 @@ use mathlib.Core.List.{List, []}
 use Prim.Native.Nat.{ℕ, _+_, _≤_, _<_}
 use native.Mathlib.Omega.{arith}
 use lib.ListN.{length, drop}
+use Rattle.limits.specs.Limits.{mostLuts, mostLeaves}
 use Rattle.netlist.specs.Net.{Net, size}
 use Rattle.netbytes.specs.Reading.{andThen, between, got, refused}
 use Rattle.netbytes.specs.Readers.{then-goes, then-stops, byte-got}
@@ -71,7 +72,7 @@ module _ (s : List ℕ) (I G k : ℕ) where
             ∙ end-over 13 (record { period = p; entries = lutsIn (heldOf (y .luts)) (w .luts) }) s (y .at) h)
 
         pub cover-goes : length s ≤ y .at → k ≤ 6
-            → length (y .luts .roots) ≡ 32 → length (y .luts .sizes) ≡ 32 → length (y .luts .nodes) ≡ 192 → length (y .luts .backs) ≡ 192
+            → length (y .luts .roots) ≡ mostLuts → length (y .luts .sizes) ≡ mostLuts → length (y .luts .nodes) ≡ mostLeaves → length (y .luts .backs) ≡ mostLeaves
             → length (y .luts .lags) ≡ 32 → length (y .luts .tables) ≡ 32 → CoverRead s I G k (y .luts)
         cover-goes h six lr ls ln lb ll lt =
             let c = y .luts in

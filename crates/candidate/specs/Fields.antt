@@ -2,7 +2,7 @@
 use mathlib.Core.Bool.{Bool, true, _&&_}
 use Prim.Native.Nat.{ℕ, _%_}
 use lib.Dec.{leb, ltb}
-use Rattle.netbytes.specs.Limits.{mostPeriod, mostLuts}
+use Rattle.limits.specs.Limits.{mostPeriod, mostLuts}
 use Rattle.netbytes.specs.Reading.{Reader, between}
 use Rattle.netbytes.specs.Walk.{tableByte}
 use Rattle.records.specs.CoverBytes.{coverByte, notZero}

@@ -4,7 +4,7 @@ use mathlib.Core.Bool.{true, false}
 use mathlib.Core.List.{List, []}
 use Prim.Native.Nat.{ℕ, _+_, _≤_}
 use Rattle.netlist.specs.Net.{Net, size}
-use Rattle.netbytes.specs.Limits.{mostPeriod, mostLuts}
+use Rattle.limits.specs.Limits.{mostPeriod, mostLuts}
 use Rattle.netbytes.specs.Reading.{got, refused}
 use Rattle.records.specs.CoverBytes.{Record, coverReader}
 use Rattle.records.specs.Held.{Held, held, lutsIn, WellHeld}

@@ -8,7 +8,7 @@ use lib.Dec.{leb, ltb}
 use Rattle.netlist.specs.Net.{Net, size}
 use Rattle.netlist.specs.Copies.{Copy}
 use Rattle.covers.specs.Key.{Entry}
-use Rattle.netbytes.specs.Limits.{mostPeriod, mostLuts}
+use Rattle.limits.specs.Limits.{mostPeriod, mostLuts}
 use Rattle.netbytes.specs.Reading.{Reader, andThen, _>>=_, give, check, times, atEnd, between}
 use Rattle.netbytes.specs.Walk.{tableByte, tableBytes, fromBytes, first}
 use Rattle.records.specs.CoverBytes.{Record, coverByte, notZero, leafMapOk, depthReader, leavesFrom, risingLeaves, fromSigned, lutReader, lutsReader, coverReader}

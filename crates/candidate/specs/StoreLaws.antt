@@ -11,6 +11,7 @@ use lib.IntN.{ℤ, pos}
 use lib.ListN.{length, getD, drop, set, length-set}
 use lib.Seq.{getD-set-same, getD-set-other}
 use borrow.Author.Count.{below-more}
+use Rattle.limits.specs.Limits.{mostLeaves}
 use Rattle.netlist.specs.Arrays.{stride, copyAt, copiesFrom}
 use Rattle.netlist.specs.Copies.{Copy, copy}
 use Rattle.covers.specs.Key.{Entry}
@@ -32,7 +33,7 @@ pub same-trans : {w y z : Candidate} → Same w y → Same y z → Same w z
 same-trans a b = record { fine = b .fine ∙ a .fine; period = b .period ∙ a .period; luts = b .luts ∙ a .luts }
 
 module _ (w : Candidate) (i : ℕ) (S D : List ℕ) where
-  pub leaves-none : length (w .nodes) ≡ 192 → length (w .backs) ≡ 192 → LeavesStored w i S D 0 w
+  pub leaves-none : length (w .nodes) ≡ mostLeaves → length (w .backs) ≡ mostLeaves → LeavesStored w i S D 0 w
   leaves-none ln lb = record {
     same = same-refl w;
     roots = refl;

@@ -1,9 +1,15 @@
 // The byte walk over a candidate's cover record: one pass over any bytes, each byte tested when read. Every refusal is 13.
+use limits::LEAVES;
+use limits::LUTS;
+use limits::LUTS_BYTE;
+use limits::PERIOD_BYTE;
+use limits::PINS;
 ghost use mathlib.Core.Path.{_≡_};
 ghost use mathlib.Core.Bool.{true, false, _&&_};
 ghost use Prim.Native.Nat.{_+_, _*_, _^_, _≤_, _<_};
 ghost use lib.Dec.{leb, ltb};
 ghost use lib.ListN.{drop};
+ghost use Rattle.limits.specs.Limits.{depthRoom, mostGates, mostInputs, mostK, mostLeaves, mostLuts, mostPins};
 ghost use Rattle.netlist.specs.Arrays.{copiesFrom};
 ghost use Rattle.netlist.specs.Copies.{copy};
 ghost use Rattle.records.specs.CoverBytes.{before, fromSigned, risingLeaves};
@@ -24,12 +30,12 @@ pub struct Candidate {
     pub fine: bool,
     pub period: usize,
     pub luts: usize,
-    pub roots: [usize; 32],
-    pub sizes: [usize; 32],
-    pub nodes: [usize; 192],
-    pub backs: [usize; 192],
-    pub lags: [i64; 32],
-    pub tables: [u64; 32],
+    pub roots: [usize; LUTS],
+    pub sizes: [usize; LUTS],
+    pub nodes: [usize; LEAVES],
+    pub backs: [usize; LEAVES],
+    pub lags: [i64; LUTS],
+    pub tables: [u64; LUTS],
 }
 
 // What may stand at a place of the record.
@@ -151,11 +157,11 @@ fn allowed(field: Field, byte: u8, low: usize, limit: usize) -> bool
 {
     match field {
         Field::Period => match byte {
-            1..=32 => true,
+            1..=PERIOD_BYTE => true,
             _ => false,
         },
         Field::Luts => match byte {
-            1..=32 => true,
+            1..=LUTS_BYTE => true,
             _ => false,
         },
         Field::Root => gate(byte, low, limit),
@@ -241,7 +247,7 @@ fn no_depth() -> Depth
 
 // A number of two bytes.
 fn paired(low: u8, high: u8) -> usize
-    ensures { λ r. ⌜ (r ≡ low + 256 * high) × (r < 65536) ⌝ }
+    ensures { λ r. ⌜ (r ≡ low + 256 * high) × (r < depthRoom) ⌝ }
 {
     wide(low) + 256 * wide(high)
 }
@@ -299,7 +305,7 @@ fn read_depths(bytes: &[u8], at: usize, n: usize) -> Depths
 
 // 2 to a number of leaves.
 fn power(n: usize) -> usize
-    requires { ⌜ n ≤ 6 ⌝ }
+    requires { ⌜ n ≤ mostPins ⌝ }
     ensures { λ r. ⌜ r ≡ 2 ^ n ⌝ }
 {
     match n {
@@ -327,7 +333,7 @@ fn no_head() -> Head
 
 // The root, at least so high, the leaf count, at most k, and the map.
 fn read_head(bytes: &[u8], at: usize, nodes: usize, k: usize, least: usize) -> Head
-    requires { ⌜ k ≤ 6 ⌝ }
+    requires { ⌜ k ≤ mostK ⌝ }
     ensures { λ r. ⌜ HeadRead (now (bytes .entry)) at nodes k least r ⌝ }
 {
     let root = read_byte(bytes, at, Field::Root, least, nodes);
@@ -354,7 +360,7 @@ fn read_head(bytes: &[u8], at: usize, nodes: usize, k: usize, least: usize) -> H
 
 // Leaf i takes the next stored d where its bit is set, else 0.
 fn spread_one(so: SpreadSoFar, map: u8, depths: [usize; 8], i: usize) -> SpreadSoFar
-    requires { ⌜ i < 6 ⌝ }
+    requires { ⌜ i < mostPins ⌝ }
     requires { ⌜ Spreading map depths i so ⌝ }
     ensures { λ r. ⌜ Spreading map depths (i + 1) r ⌝ }
 {
@@ -376,7 +382,7 @@ fn spread_one(so: SpreadSoFar, map: u8, depths: [usize; 8], i: usize) -> SpreadS
 
 // The d's of n leaves: those whose bit is set take the stored d's in turn, the others have 0.
 fn spread(map: u8, n: usize, depths: [usize; 8]) -> [usize; 8]
-    requires { ⌜ n ≤ 6 ⌝ }
+    requires { ⌜ n ≤ mostPins ⌝ }
     ensures { λ r. ⌜ Spread map n depths r ⌝ }
 {
     let mut so = SpreadSoFar {
@@ -406,7 +412,7 @@ fn comes_before(node: u8, back: usize, next_node: u8, next_back: usize) -> bool
 
 // Whether n leaves rise.
 fn rising(nodes: [u8; 8], backs: [usize; 8], n: usize) -> bool
-    requires { ⌜ n ≤ 6 ⌝ }
+    requires { ⌜ n ≤ mostPins ⌝ }
     ensures { λ r. ⌜ r ≡ risingLeaves (copiesFrom nodes backs 0 n) ⌝ }
 {
     let mut i: usize = 0;
@@ -432,7 +438,7 @@ fn no_leaves() -> Leaves
 
 // The leaves of a LUT: a node for each, a stored d for each leaf bit of the map, and all rising.
 fn read_leaves(bytes: &[u8], at: usize, nodes: usize, n: usize, map: u8) -> Leaves
-    requires { ⌜ n ≤ 6 ⌝ }
+    requires { ⌜ n ≤ mostPins ⌝ }
     ensures { λ r. ⌜ LeavesRead (now (bytes .entry)) at nodes n map r ⌝ }
 {
     let sources = read_items(bytes, at, n, Field::Leaf, nodes);
@@ -481,7 +487,7 @@ fn no_tail() -> Tail
 
 // The lag, where the map has bit 6, and the table.
 fn read_tail(bytes: &[u8], at: usize, n: usize, map: u8) -> Tail
-    requires { ⌜ n ≤ 6 ⌝ }
+    requires { ⌜ n ≤ mostPins ⌝ }
     ensures { λ r. ⌜ TailRead (now (bytes .entry)) at n map r ⌝ }
 {
     let lags = read_items(bytes, at, wide(map) / 64, Field::Lag, 0);
@@ -519,7 +525,7 @@ fn no_row() -> Row
 
 // A LUT: its head, its leaves, its lag and table.
 fn read_lut(bytes: &[u8], at: usize, nodes: usize, k: usize, least: usize) -> Row
-    requires { ⌜ k ≤ 6 ⌝ }
+    requires { ⌜ k ≤ mostK ⌝ }
     ensures { λ r. ⌜ LutRead (now (bytes .entry)) at nodes k least r ⌝ }
 {
     let head = read_head(bytes, at, nodes, k, least);
@@ -550,7 +556,7 @@ fn read_lut(bytes: &[u8], at: usize, nodes: usize, k: usize, least: usize) -> Ro
 
 // One leaf is stored at its place.
 fn store_leaf(luts: Candidate, at: usize, node: usize, back: usize) -> Candidate
-    requires { ⌜ at < 192 ⌝ }
+    requires { ⌜ at < mostLeaves ⌝ }
     ensures { λ r. ⌜ r ≡ withLeaf luts at node back ⌝ }
 {
     let mut out = luts;
@@ -561,15 +567,15 @@ fn store_leaf(luts: Candidate, at: usize, node: usize, back: usize) -> Candidate
 
 // The leaves of a row are stored as those of LUT i.
 fn store_leaves(luts: Candidate, i: usize, row: Row) -> Candidate
-    requires { ⌜ i < 32 ⌝ }
+    requires { ⌜ i < mostLuts ⌝ }
     ensures { λ r. ⌜ LeavesStored luts i (row .nodes) (row .backs) 6 r ⌝ }
 {
     let nodes = row.nodes;
     let backs = row.backs;
     let mut out = luts;
     let mut j: usize = 0;
-    while j < 6 {
-        out = store_leaf(out, 6 * i + j, wide(nodes[j]), backs[j]);
+    while j < PINS {
+        out = store_leaf(out, PINS * i + j, wide(nodes[j]), backs[j]);
         j += 1;
     }
     out
@@ -577,8 +583,8 @@ fn store_leaves(luts: Candidate, i: usize, row: Row) -> Candidate
 
 // A row is stored as LUT i.
 fn store_lut(luts: Candidate, i: usize, row: Row) -> Candidate
-    requires { ⌜ i < 32 ⌝ }
-    requires { ⌜ row .size ≤ 6 ⌝ }
+    requires { ⌜ i < mostLuts ⌝ }
+    requires { ⌜ row .size ≤ mostPins ⌝ }
     requires { ⌜ narrow luts i ⌝ }
     ensures { λ r. ⌜ LutStored luts i row r ⌝ }
 {
@@ -603,8 +609,8 @@ fn read_luts(
     inputs: usize,
     luts: Candidate,
 ) -> Part
-    requires { ⌜ k ≤ 6 ⌝ }
-    requires { ⌜ luts .luts ≤ 32 ⌝ }
+    requires { ⌜ k ≤ mostK ⌝ }
+    requires { ⌜ luts .luts ≤ mostLuts ⌝ }
     ensures { λ r. ⌜ LutsRead (now (bytes .entry)) at nodes k inputs luts r ⌝ }
 {
     let n = luts.luts;
@@ -641,18 +647,18 @@ fn empty(fine: bool, period: usize, luts: usize) -> Candidate
         fine: fine,
         period: period,
         luts: luts,
-        roots: [0usize; 32],
-        sizes: [0usize; 32],
-        nodes: [0usize; 192],
-        backs: [0usize; 192],
-        lags: [0i64; 32],
-        tables: [0u64; 32],
+        roots: [0usize; LUTS],
+        sizes: [0usize; LUTS],
+        nodes: [0usize; LEAVES],
+        backs: [0usize; LEAVES],
+        lags: [0i64; LUTS],
+        tables: [0u64; LUTS],
     }
 }
 
 // The walk: the LUTs of the record, or that it breaks the layout.
 pub fn read_cover(bytes: &[u8], inputs: usize, gates: usize, k: usize) -> Candidate
-    requires { ⌜ (inputs ≤ 16) × (gates ≤ 32) × (k ≤ 6) ⌝ }
+    requires { ⌜ (inputs ≤ mostInputs) × (gates ≤ mostGates) × (k ≤ mostK) ⌝ }
     ensures { λ r. ⌜ CoverRead (now (bytes .entry)) inputs gates k r ⌝ }
 {
     let period = read_byte(bytes, 0, Field::Period, 0, 0);

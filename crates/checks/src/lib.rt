@@ -1,4 +1,5 @@
 // Checks 9, 10 and 11 over a net's wiring: gate g has pins[g] pins, and pin j of gate g stands at 6g + j.
+use limits::PINS;
 ghost use mathlib.Core.Path.{_≡_};
 ghost use mathlib.Core.Bool.{true, false};
 ghost use mathlib.Core.List.{List};
@@ -67,9 +68,9 @@ fn reach_gate(
         return 0;
     }
     let n = pins[g];
-    let j = first_known(inputs, marks, sources, 6 * g, n);
+    let j = first_known(inputs, marks, sources, PINS * g, n);
     if j < n {
-        ranks[g] = rank_behind(inputs, gates, ranks, sources[6 * g + j]);
+        ranks[g] = rank_behind(inputs, gates, ranks, sources[PINS * g + j]);
         marks[g] = j + 1;
         1
     } else {
@@ -218,7 +219,7 @@ fn place_gate(
         return 0;
     }
     let n = pins[g];
-    let j = first_open(inputs, marks, sources, counts, 6 * g, n);
+    let j = first_open(inputs, marks, sources, counts, PINS * g, n);
     if j < n {
         0
     } else {
@@ -353,8 +354,8 @@ fn push_pins(
     let mut new = 0;
     let mut j = 0;
     while j < n {
-        let value = base + counts[6 * g + j];
-        new += push(inputs, marks, sources[6 * g + j], value);
+        let value = base + counts[PINS * g + j];
+        new += push(inputs, marks, sources[PINS * g + j], value);
         j += 1;
     }
     new

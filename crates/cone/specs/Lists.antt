@@ -5,6 +5,7 @@ use mathlib.Core.List.{List, [], _∷_, _++_}
 use mathlib.Core.Logic.{_⊎_}
 use Prim.Native.Nat.{ℕ, zero, suc, _+_, _-_, _*_, _≤_, _<_}
 use lib.ListN.{length, getD}
+use Rattle.limits.specs.Limits.{mostGates, mostCount, mostPins, mostCopies}
 use Rattle.sequences.specs.Member.{_∈_, Within}
 use Rattle.netlist.specs.Net.{Net}
 use Rattle.netlist.specs.Arrays.{stride, copyAt, copiesFrom}
@@ -28,7 +29,7 @@ copiesIn nodes backs n = copiesFrom nodes backs 0 n
 
 -- most registers on a pin
 abbrev pub most : ℕ
-most = 3
+most = mostCount
 
 -- The wiring of G gates: at most `stride` pins a gate; each source is a node; few registers on a pin.
 pub record Wires (I G : ℕ) (ps sources counts : List ℕ) : Type 0 where
@@ -36,7 +37,7 @@ pub record Wires (I G : ℕ) (ps sources counts : List ℕ) : Type 0 where
   pub room : stride * G ≤ length sources
   pub room′ : stride * G ≤ length counts
   pub inputs : I ≤ 65535
-  pub gates : G ≤ 32
+  pub gates : G ≤ mostGates
   pub pins : (g : ℕ) → g < G → getD ps g 0 ≤ stride
   pub node : (g j : ℕ) → g < G → j < getD ps g 0 → getD sources (stride * g + j) 0 < I + G
   pub count : (g j : ℕ) → g < G → j < getD ps g 0 → getD counts (stride * g + j) 0 ≤ most
@@ -53,9 +54,9 @@ Fed sources counts g m b y = (j : ℕ) × (j < m) × (sourceAt sources counts g 
 abbrev pub Touched : ℕ → List ℕ → List ℕ → List ℕ → List ℕ → List ℕ → ℕ → Copy → Type 0
 Touched I ps sources counts nodes backs len y = (p : ℕ) × (p < len) × Fed sources counts (getD nodes p 0 - I) (getD ps (getD nodes p 0 - I) 0) (getD backs p 0) y
 
--- room for the members of a cone: six leaves, 32 gates
+-- room for the members of a cone
 abbrev pub members : ℕ
-members = 192
+members = mostCopies
 
 -- the place of pin j of gate g
 pub record Place (sources counts : List ℕ) (g j : ℕ) : Type 0 where
@@ -88,7 +89,7 @@ pub record Bounded (I G : ℕ) (C : List Copy) : Type 0 where
 pub record Given (I G : ℕ) (ps sources counts ts ln lb : List ℕ) (n : ℕ) (us ds : List ℕ) (len : ℕ) : Type 0 where
   pub wires : Wires I G ps sources counts
   pub tables : G ≤ length ts
-  pub few : n ≤ 6
+  pub few : n ≤ mostPins
   pub leafNodes : n ≤ length ln
   pub leafBacks : n ≤ length lb
   pub room : Room us ds len

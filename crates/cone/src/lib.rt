@@ -1,9 +1,12 @@
 // Cones: from a root and its leaves the copies between them, and the truth table over the leaves.
 // A net's wiring is in arrays: gate g has pins[g] pins, and pin j of gate g stands at 6g + j. A list of copies is two arrays, nodes and backs.
+use limits::COPIES;
+use limits::PINS;
 ghost use mathlib.Core.Path.{_≡_};
 ghost use mathlib.Core.List.{List};
 ghost use Prim.Native.Nat.{ℕ, _+_, _*_, _^_, _≤_, _<_};
 ghost use lib.ListN.{length, getD};
+ghost use Rattle.limits.specs.Limits.{mostPins};
 ghost use Rattle.netlist.specs.Copies.{copy};
 ghost use Rattle.netlist.specs.Arrays.{copyAt};
 ghost use Rattle.cone.specs.Lists.{Tells, First, copiesIn, Wires, members, most, Leaves, Room, Bounded, Given, Visit, Place, Fed, Touched, sourceAt, Mixed, Swapped, Early, Ready, ReadyCopy};
@@ -21,8 +24,8 @@ pub enum Told {
 // The verdict and, where it is Cut, the members of the cone in the first len places, sources first if the net has no loop of register-free pins.
 pub struct Cone {
     pub verdict: Told,
-    pub nodes: [usize; 192],
-    pub backs: [usize; 192],
+    pub nodes: [usize; COPIES],
+    pub backs: [usize; COPIES],
     pub len: usize,
 }
 
@@ -112,7 +115,7 @@ fn expand(
     let mut size = len;
     let mut j = 0;
     while j < m {
-        let at = 6 * g + j;
+        let at = PINS * g + j;
         let r = visit(
             inputs,
             leaf_nodes,
@@ -214,7 +217,7 @@ fn is_fed(
 {
     let mut j = 0;
     while j < m {
-        if is_source(sources, counts, 6 * g + j, base, node, back) {
+        if is_source(sources, counts, PINS * g + j, base, node, back) {
             return true;
         }
         j += 1;
@@ -352,7 +355,7 @@ fn ready(
 {
     let mut j = 0;
     while j < n {
-        let at = 6 * g + j;
+        let at = PINS * g + j;
         if !is_early(nodes, backs, len, m, sources[at], base + counts[at]) {
             return false;
         }
@@ -442,11 +445,11 @@ pub fn walk(
     n: usize,
     g: usize,
 ) -> Cone
-    requires { ⌜ Wires inputs gates (now pins) (now sources) (now counts) × (n ≤ 6) × (n ≤ length (now «leaf_nodes»)) × (n ≤ length (now «leaf_backs»)) × (g < gates) ⌝ }
+    requires { ⌜ Wires inputs gates (now pins) (now sources) (now counts) × (n ≤ mostPins) × (n ≤ length (now «leaf_nodes»)) × (n ≤ length (now «leaf_backs»)) × (g < gates) ⌝ }
     ensures { λ r. ⌜ Walk inputs gates (now (pins .entry)) (now (sources .entry)) (now (counts .entry)) (now («leaf_nodes» .entry)) (now («leaf_backs» .entry)) n g r ⌝ }
 {
-    let mut nodes = [0usize; 192];
-    let mut backs = [0usize; 192];
+    let mut nodes = [0usize; COPIES];
+    let mut backs = [0usize; COPIES];
     let root = inputs + g;
     let leaf = find(leaf_nodes, leaf_backs, n, root, 0);
     if leaf < n {
@@ -529,7 +532,7 @@ fn source_word(
     node: usize,
     back: usize,
 ) -> u64
-    requires { ⌜ (n ≤ 6) × (n ≤ length (now «leaf_nodes»)) × (n ≤ length (now «leaf_backs»)) × (len ≤ length (now nodes)) × (len ≤ length (now backs)) × (len ≤ length (now words)) ⌝ }
+    requires { ⌜ (n ≤ mostPins) × (n ≤ length (now «leaf_nodes»)) × (n ≤ length (now «leaf_backs»)) × (len ≤ length (now nodes)) × (len ≤ length (now backs)) × (len ≤ length (now words)) ⌝ }
     ensures { λ r. ⌜ Carries (copiesIn (now («leaf_nodes» .entry)) (now («leaf_backs» .entry)) n) (copiesIn (now (nodes .entry)) (now (backs .entry)) len) (now (words .entry)) (copy node back) r ⌝ }
 {
     let leaf = find(leaf_nodes, leaf_backs, n, node, back);
@@ -554,14 +557,14 @@ fn gather(
     g: usize,
     m: usize,
     base: usize,
-) -> [u64; 6]
-    requires { ⌜ ((n ≤ 6) × (n ≤ length (now «leaf_nodes»)) × (n ≤ length (now «leaf_backs»)) × (len ≤ length (now nodes)) × (len ≤ length (now backs)) × (len ≤ length (now words))) × ((j : ℕ) → j < m → Place (now sources) (now counts) g j) × (g ≤ members) × (m ≤ 6) × (base ≤ most * members) ⌝ }
+) -> [u64; PINS]
+    requires { ⌜ ((n ≤ mostPins) × (n ≤ length (now «leaf_nodes»)) × (n ≤ length (now «leaf_backs»)) × (len ≤ length (now nodes)) × (len ≤ length (now backs)) × (len ≤ length (now words))) × ((j : ℕ) → j < m → Place (now sources) (now counts) g j) × (g ≤ members) × (m ≤ 6) × (base ≤ most * members) ⌝ }
     ensures { λ r. ⌜ (m ≤ length r) × ((j : ℕ) → j < m → Carries (copiesIn (now («leaf_nodes» .entry)) (now («leaf_backs» .entry)) n) (copiesIn (now (nodes .entry)) (now (backs .entry)) len) (now (words .entry)) (sourceAt (now (sources .entry)) (now (counts .entry)) g base j) (getD r j 0)) ⌝ }
 {
-    let mut fed = [0u64; 6];
+    let mut fed = [0u64; PINS];
     let mut j = 0;
     while j < m {
-        let at = 6 * g + j;
+        let at = PINS * g + j;
         fed[j] = source_word(
             leaf_nodes,
             leaf_backs,
@@ -631,11 +634,11 @@ fn settle(
     nodes: &[usize],
     backs: &[usize],
     len: usize,
-) -> [u64; 192]
+) -> [u64; COPIES]
     requires { ⌜ Given inputs gates (now pins) (now sources) (now counts) (now tables) (now «leaf_nodes») (now «leaf_backs») n (now nodes) (now backs) len ⌝ }
     ensures { λ r. ⌜ (length r ≡ members) × Settled inputs gates (now (pins .entry)) (now (sources .entry)) (now (counts .entry)) (now (tables .entry)) (copiesIn (now («leaf_nodes» .entry)) (now («leaf_backs» .entry)) n) (now (nodes .entry)) (now (backs .entry)) len r (2 ^ n) len ⌝ }
 {
-    let mut words = [0u64; 192];
+    let mut words = [0u64; COPIES];
     let mut p = 0;
     while p < len {
         let word = copy_word(

@@ -7,6 +7,7 @@ use native.Mathlib.Nat.{le-trans, lt-irrefl, mul-le-mul-right, mul-le-mul}
 use native.Mathlib.Omega.{arith}
 use native.Mathlib.Decide.{ℕ-discrete}
 use lib.ListN.{length}
+use Rattle.limits.specs.Limits.{mostGates, mostCount, mostK, mostCopies, mostReach}
 use Rattle.sequences.specs.Member.{_∈_, here, there, not-in-nil, Within}
 use Rattle.sequences.specs.Distinct.{Distinct, distinct-nil, distinct-cons, within-cons}
 use Rattle.sequences.specs.Sum.{sum, sum-by, sum-within, sum-at-most}
@@ -122,19 +123,19 @@ module _ {N : Net} (R : Ranked N) {k v : ℕ} {A B : Copy → Type 0} (K : Cut N
   pub cut-members : (S : List Copy) → Distinct S → Within S (K .cone) → length S ≤ k * length (N .gates)
   cut-members S distinct w = le-trans (few-members R (K .isCone .gates) (K .isLeaves) S distinct w) (mul-le-mul-right (length (N .gates)) (K .few))
 
-  -- At most 32 gates, counts at most 3, k at most 6: at most 192 members, and no d above 576.
-  pub limit-members : length (N .gates) ≤ 32 → k ≤ 6 → (S : List Copy) → Distinct S → Within S (K .cone) → length S ≤ 192
+  -- By document 01's limits: at most 192 members, and no d above 576.
+  pub limit-members : length (N .gates) ≤ mostGates → k ≤ mostK → (S : List Copy) → Distinct S → Within S (K .cone) → length S ≤ mostCopies
   limit-members g h S distinct w = le-trans (cut-members S distinct w) (mul-le-mul h g)
 
-  limit-product : length (N .gates) ≤ 32 → ((u : ℕ) → IsGate N u → (p : Pin) → p ∈ pins N u → p .count ≤ 3) → k ≤ 6 → k * reachOf N ≤ 576
+  limit-product : length (N .gates) ≤ mostGates → ((u : ℕ) → IsGate N u → (p : Pin) → p ∈ pins N u → p .count ≤ mostCount) → k ≤ mostK → k * reachOf N ≤ mostReach
   limit-product g c h =
       let m : reachOf N ≤ 96 = omega (arith, reachOf-le N 3 c) in
       mul-le-mul h m
 
-  pub limit-reach : length (N .gates) ≤ 32 → ((u : ℕ) → IsGate N u → (p : Pin) → p ∈ pins N u → p .count ≤ 3) → k ≤ 6 → (x : Copy) → x ∈ K .cone → x .back ≤ 576
+  pub limit-reach : length (N .gates) ≤ mostGates → ((u : ℕ) → IsGate N u → (p : Pin) → p ∈ pins N u → p .count ≤ mostCount) → k ≤ mostK → (x : Copy) → x ∈ K .cone → x .back ≤ mostReach
   limit-reach g c h x m = omega (arith, cut-reach x m, limit-product g c h)
 
-  pub limit-reach-leaf : length (N .gates) ≤ 32 → ((u : ℕ) → IsGate N u → (p : Pin) → p ∈ pins N u → p .count ≤ 3) → k ≤ 6 → (y : Copy) → y ∈ K .leaves → y .back ≤ 576
+  pub limit-reach-leaf : length (N .gates) ≤ mostGates → ((u : ℕ) → IsGate N u → (p : Pin) → p ∈ pins N u → p .count ≤ mostCount) → k ≤ mostK → (y : Copy) → y ∈ K .leaves → y .back ≤ mostReach
   limit-reach-leaf g c h y m = omega (arith, cut-reach-leaf y m, limit-product g c h)
 
 -- ---- the registers of an input path

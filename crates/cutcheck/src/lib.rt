@@ -2,9 +2,12 @@
 use cone::Told;
 use cone::table;
 use cone::walk;
+use limits::LUTS;
+use limits::PINS;
 ghost use mathlib.Core.Path.{_≡_};
 ghost use Prim.Native.Nat.{ℕ, _+_, _*_, _≤_, _<_};
 ghost use lib.ListN.{length, getD};
+ghost use Rattle.limits.specs.Limits.{mostLuts, mostPins};
 ghost use Rattle.cone.specs.Lists.{Wires, copiesIn};
 ghost use Rattle.cutcheck.specs.Cuts.{Cutting, LutTried, TriedAt, CutsTried, Compared, CutsTold};
 
@@ -27,7 +30,7 @@ fn try_lut(
     n: usize,
     g: usize,
 ) -> Tried
-    requires { ⌜ Wires inputs gates (now pins) (now sources) (now counts) × (gates ≤ length (now tables)) × (n ≤ 6) × (n ≤ length (now «leaf_nodes»)) × (n ≤ length (now «leaf_backs»)) × (g < gates) ⌝ }
+    requires { ⌜ Wires inputs gates (now pins) (now sources) (now counts) × (gates ≤ length (now tables)) × (n ≤ mostPins) × (n ≤ length (now «leaf_nodes»)) × (n ≤ length (now «leaf_backs»)) × (g < gates) ⌝ }
     ensures { λ r. ⌜ LutTried inputs gates (now (pins .entry)) (now (sources .entry)) (now (counts .entry)) (now (tables .entry)) (copiesIn (now («leaf_nodes» .entry)) (now («leaf_backs» .entry)) n) g r ⌝ }
 {
     let cone = walk(
@@ -83,10 +86,10 @@ fn try_at(
     n: usize,
     i: usize,
 ) -> Tried
-    requires { ⌜ Cutting inputs gates (now pins) (now sources) (now counts) (now tables) (now roots) (now sizes) (now nodes) (now backs) k n × (i < n) × (n ≤ 32) ⌝ }
+    requires { ⌜ Cutting inputs gates (now pins) (now sources) (now counts) (now tables) (now roots) (now sizes) (now nodes) (now backs) k n × (i < n) × (n ≤ mostLuts) ⌝ }
     ensures { λ r. ⌜ TriedAt inputs gates (now (pins .entry)) (now (sources .entry)) (now (counts .entry)) (now (tables .entry)) (now (roots .entry)) (now (sizes .entry)) (now (nodes .entry)) (now (backs .entry)) i r ⌝ }
 {
-    let at = 6 * i;
+    let at = PINS * i;
     let size = sizes[i];
     let g = roots[i] - inputs;
     try_lut(
@@ -119,7 +122,7 @@ fn no_cuts(
     n: usize,
     right: &mut [u64],
 ) -> bool
-    requires { ⌜ Cutting inputs gates (now pins) (now sources) (now counts) (now tables) (now roots) (now sizes) (now nodes) (now backs) k n × (n ≤ 32) × (n ≤ length (now right)) ⌝ }
+    requires { ⌜ Cutting inputs gates (now pins) (now sources) (now counts) (now tables) (now roots) (now sizes) (now nodes) (now backs) k n × (n ≤ mostLuts) × (n ≤ length (now right)) ⌝ }
     ensures { λ r. ⌜ CutsTried inputs gates (now (pins .entry)) (now (sources .entry)) (now (counts .entry)) (now (tables .entry)) (now (roots .entry)) (now (sizes .entry)) (now (nodes .entry)) (now (backs .entry)) k n (now (right .exit)) r ⌝ }
 {
     let mut i = 0;
@@ -179,10 +182,10 @@ pub fn check_luts(
     k: usize,
     n: usize,
 ) -> usize
-    requires { ⌜ Cutting inputs gates (now pins) (now sources) (now counts) (now tables) (now roots) (now sizes) (now nodes) (now backs) k n × (n ≤ 32) × (n ≤ length (now luts)) ⌝ }
+    requires { ⌜ Cutting inputs gates (now pins) (now sources) (now counts) (now tables) (now roots) (now sizes) (now nodes) (now backs) k n × (n ≤ mostLuts) × (n ≤ length (now luts)) ⌝ }
     ensures { λ r. ⌜ CutsTold inputs gates (now (pins .entry)) (now (sources .entry)) (now (counts .entry)) (now (tables .entry)) (now (roots .entry)) (now (sizes .entry)) (now (nodes .entry)) (now (backs .entry)) (now (luts .entry)) k n r ⌝ }
 {
-    let mut right = [0u64; 32];
+    let mut right = [0u64; LUTS];
     let uncut = no_cuts(
         inputs,
         gates,

@@ -22,7 +22,7 @@ use Rattle.covers.specs.Joined.{key?, key-met}
 use Rattle.covers.specs.KeyOf.{entries-in, roots-gate, entryOf}
 use Rattle.covers.specs.Period.{leastPeriod, leastPeriod-is, leastKey, leastPeriod-bound}
 use Rattle.covers.specs.Written.{noEntry, lut-asCover, luts-asCover}
-use Rattle.netbytes.specs.Limits.{mostPeriod, mostLuts}
+use Rattle.limits.specs.Limits.{mostPeriod, mostLuts}
 use Rattle.netbytes.specs.Reading.{got, refused, Result, Reader, andThen, atEnd, between}
 use Rattle.netbytes.specs.Readers.{refused-not-got, got-value, then-got, byte-got, atEnd-got}
 use Rattle.netbytes.specs.Sound.{between-true}

@@ -17,7 +17,7 @@ use Rattle.covers.specs.Key.{Key, Entry, entries, asCover}
 use Rattle.covers.specs.Joined.{key?, key-met, key-meets, met-reachable}
 use Rattle.covers.specs.KeyOf.{keyOf}
 use Rattle.covers.specs.Period.{leastPeriod, leastPeriod-is, leastKey, leastPeriod-bound}
-use Rattle.netbytes.specs.Limits.{mostPeriod, scratchArea}
+use Rattle.limits.specs.Limits.{mostPeriod, scratchArea}
 use Rattle.netbytes.specs.Reading.{got, refused, Result}
 use Rattle.netbytes.specs.Walk.{netReader}
 use Rattle.netbytes.specs.Sound.{walk-facts, walk-gate, NetFacts}

@@ -29,7 +29,7 @@ use Rattle.labelling.specs.Decision.{start, starting, start-bound}
 use Rattle.covers.specs.Key.{Key, Entry, entries, placeOf, source}
 use Rattle.covers.specs.KeyOf.{entryOf, in-entries}
 use Rattle.covers.specs.Period.{leastPeriod}
-use Rattle.netbytes.specs.Limits.{scratchArea}
+use Rattle.limits.specs.Limits.{scratchArea}
 use Rattle.netbytes.specs.Reading.{got, times}
 use Rattle.netbytes.specs.Walk.{netReader, gateReader, outputReader, pinsFrom, fromBytes}
 use Rattle.records.specs.CoverBytes.{Record, coverBytes, allLutBytes, lutBytes, depths, leafMap, toBytes, coverReader, lutsReader, lutReader, depthReader, leavesFrom, risingLeaves}

@@ -41,7 +41,7 @@ use Rattle.covers.specs.Key.{Key, Entry, entries}
 use Rattle.covers.specs.KeyOf.{rootList, rootOf?, rootList-root, root-rootList, numbers-rising, rising-gates}
 use Rattle.covers.specs.KeyUnique.{label-same, entries-unique}
 use Rattle.covers.specs.Joined.{key?}
-use Rattle.netbytes.specs.Limits.{leastK, mostK, mostPeriod, coverArea, scratchArea}
+use Rattle.limits.specs.Limits.{leastK, mostK, mostPeriod, coverArea, scratchArea}
 use Rattle.netbytes.specs.Reading.{Result, got, between}
 use Rattle.netbytes.specs.Walk.{netReader}
 use Rattle.netbytes.specs.Sound.{walk-sound, walk-fits}

@@ -11,7 +11,7 @@ use Rattle.netlist.specs.Net.{Net, IsGate}
 use Rattle.netlist.specs.Copies.{Copy}
 use Rattle.labelling.specs.Labels.{LowCut}
 use Rattle.covers.specs.Key.{Key, Entry, entries}
-use Rattle.netbytes.specs.Limits.{coverArea, scratchArea}
+use Rattle.limits.specs.Limits.{coverArea, scratchArea}
 use Rattle.netbytes.specs.Reading.{got}
 use Rattle.netbytes.specs.Walk.{netReader}
 use Rattle.records.specs.CoverBytes.{coverBytes}

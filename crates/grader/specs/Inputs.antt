@@ -6,7 +6,7 @@ use native.Mathlib.Omega.{arith}
 use native.Mathlib.Nat.{zero-add}
 use lib.ListN.{length, getD, take, drop, replicate, length-drop, drop-of-length-le}
 use lib.Seq.{take-all, drop-length, drop-drop}
-use Rattle.netbytes.specs.Limits.{scratchArea}
+use Rattle.limits.specs.Limits.{scratchArea}
 use Rattle.netbytes.specs.Walk.{first, rest}
 use Rattle.records.specs.Listing.{refusalText, excessText}
 use Rattle.records.specs.Outcomes.{Answer, accepted, turnedBack, MarkOutcome, markOutcome}

@@ -3,6 +3,7 @@ use inputs::byte_at;
 use inputs::net_length;
 use inputs::number;
 use inputs::place_behind;
+use limits::SCRATCH;
 use marker::Grade;
 use marker::mark;
 use text::write_excess;
@@ -12,14 +13,14 @@ ghost use Prim.Native.Nat.{_+_, _*_, _-_, _≤_, _<_};
 ghost use lib.ListN.{length, getD, drop};
 ghost use Rattle.records.specs.Program.{marking, markingProgram};
 ghost use Rattle.writer.specs.Writing.{Wrote};
-ghost use Rattle.text.specs.Text.{refusalRoom};
+ghost use Rattle.limits.specs.Limits.{refusalRoom};
 
 // The record's mark as text.
 fn grade_parts(k: u32, net: &[u8], cover: &[u8], out: &mut [u8]) -> usize
     requires { ⌜ refusalRoom ≤ length (now out) ⌝ }
     ensures { λ r. ⌜ Wrote (marking k (now (net .entry)) (now (cover .entry))) (now (out .entry)) (now (out .exit)) r ⌝ }
 {
-    let mut scratch = [0u8; 65536];
+    let mut scratch = [0u8; SCRATCH];
     let m = mark(net, k, cover, &mut scratch);
     match m {
         Grade::Excess(n) => write_excess(n, out),

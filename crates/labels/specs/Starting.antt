@@ -23,7 +23,8 @@ use Rattle.labelling.specs.Floor.{floor}
 use Rattle.labelling.specs.Bounds.{LowerBound}
 use Rattle.signed.specs.Range.{Small, room}
 use Rattle.mincut.specs.Circuit.{Circuit}
-use Rattle.query.specs.Question.{labelIn, mostCopies}
+use Rattle.limits.specs.Limits.{mostCopies}
+use Rattle.query.specs.Question.{labelIn}
 use Rattle.labels.specs.Visits.{Suits, Bounds, Refuted, Quiet, quiet-least}
 use Rattle.labels.specs.Visiting.{small-between}
 use Rattle.labels.specs.Sweeps.{wiring, heightAt, PinFits, Filled, OutFits, Sized, Ready, Fine, Settling, Labelled}

@@ -20,7 +20,8 @@ use Rattle.signed.specs.Range.{Small, room}
 use Rattle.signed.specs.RangeLaws.{parts-mag, mag-parts, other-zero, back, fits-of, minus-mag}
 use Rattle.mincut.specs.Circuit.{Circuit, circuit, Layout}
 use Rattle.mincut.specs.Bridge.{Holds}
-use Rattle.query.specs.Question.{labelIn, Answers, Asks, mostCopies}
+use Rattle.limits.specs.Limits.{mostCopies}
+use Rattle.query.specs.Question.{labelIn, Answers, Asks}
 use Rattle.labels.specs.Visits.{Suits, PinMax, Quiet, higher, level, Bounds, Refuted, bounds-p, bounds-more, past-top}
 use Rattle.labels.specs.Sweeps.{wiring, heightAt, PinFits, Best, Raised, Fine, Ceilings, left, Visited, Ready}
 

@@ -1,4 +1,5 @@
 // The label sweep: labels raised from below, gate by gate, until nothing can change or a label would pass its ceiling.
+use limits::PINS;
 use mincut::Sizes;
 use query::question;
 use signed::minus;
@@ -205,7 +206,7 @@ fn visit(
 {
     let v = s.inputs + g;
     let n = pins[g];
-    let at = 6 * g;
+    let at = PINS * g;
     let best = best_pin(sources, counts, labels, phi, at, n);
     let p = pin_height(sources, counts, labels, phi, at + best);
     if higher(labels, v, p) {

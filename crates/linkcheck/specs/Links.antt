@@ -6,7 +6,7 @@ use lib.IntN.{ℤ}
 use lib.ListN.{length, getD}
 use Rattle.netlist.specs.Net.{Net, size}
 use Rattle.netlist.specs.Arrays.{pinsIn}
-use Rattle.netbytes.specs.Limits.{mostPeriod}
+use Rattle.limits.specs.Limits.{mostPeriod}
 use Rattle.covers.specs.Key.{Entry}
 use Rattle.records.specs.Marking.{AllFed, EnoughRegisters, ShortChains}
 use Rattle.records.specs.Held.{held, lutsIn}

@@ -9,7 +9,7 @@ use lib.ListN.{length, getD}
 use lib.Signed.{mag}
 use Rattle.integers.specs.Parts.{up, dn}
 use Rattle.netlist.specs.Arrays.{stride}
-use Rattle.netbytes.specs.Limits.{mostInputs, mostGates, mostLuts}
+use Rattle.limits.specs.Limits.{mostInputs, mostGates, mostLuts, depthRoom}
 
 -- the place, counted from i, of the first of n roots from place i on that is u; n if there is none
 unfoldable pub placeFrom : List ℕ → ℕ → ℕ → ℕ → ℕ
@@ -116,7 +116,7 @@ pub record LeafAsked (I : ℕ) (roots nodes backs : List ℕ) (n i j : ℕ) : Ty
   pub atNode : stride * i + j < length nodes
   pub atBack : stride * i + j < length backs
   pub found : Found I roots n (leafIn nodes i j)
-  pub back : leafIn backs i j < 65536
+  pub back : leafIn backs i j < depthRoom
 
 -- n LUTs of a net with I inputs and G gates
 pub record Wired (I G : ℕ) (roots sizes nodes backs : List ℕ) (lags : List ℤ) (n : ℕ) : Type 0 where
@@ -128,4 +128,4 @@ pub record Wired (I G : ℕ) (roots sizes nodes backs : List ℕ) (lags : List �
   pub low : (i : ℕ) → i < n → I ≤ getD roots i 0
   pub high : (i : ℕ) → i < n → getD roots i 0 < I + G
   pub node : (i j : ℕ) → i < n → j < getD sizes i 0 → leafIn nodes i j < I + G
-  pub back : (i j : ℕ) → i < n → j < getD sizes i 0 → leafIn backs i j < 65536
+  pub back : (i j : ℕ) → i < n → j < getD sizes i 0 → leafIn backs i j < depthRoom

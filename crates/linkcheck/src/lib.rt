@@ -1,9 +1,12 @@
 // Checks 16, 17 and 18 for LUTs kept in arrays: LUT i has its leaves from place 6i on.
+use limits::LUTS;
+use limits::PINS;
 ghost use mathlib.Core.Path.{_≡_};
 ghost use Prim.Native.Nat.{ℕ, _+_, _*_, _≤_, _<_};
 ghost use lib.IntN.{pos};
 ghost use lib.ListN.{length, getD};
 ghost use lib.Signed.{mag};
+ghost use Rattle.limits.specs.Limits.{mostPeriod};
 ghost use Rattle.netlist.specs.Arrays.{stride};
 ghost use Rattle.cone.specs.Lists.{Tells};
 ghost use Rattle.linkcheck.specs.Places.{placeIn, Found, LutFed, LutsFed, OutputsFed, raisedAt, levelOf, LeafEnough, LutEnough, LutsEnough, OutputEnough, OutputsEnough, LeafLong, LutLong, LongAt, NoneLong, Marked, Marks, most, LeafRoom, LagRoom, LeafAsked, Wired};
@@ -50,7 +53,7 @@ fn lut_fed(
     let m = sizes[i];
     let mut j = 0;
     while j < m {
-        if !is_fed(inputs, roots, n, nodes[6 * i + j]) {
+        if !is_fed(inputs, roots, n, nodes[PINS * i + j]) {
             return false;
         }
         j += 1;
@@ -123,7 +126,7 @@ fn leaf_enough(
     requires { ⌜ LeafAsked inputs (now roots) (now nodes) (now backs) n i j ⌝ }
     ensures { λ r. ⌜ Tells r (LeafEnough inputs (now (roots .entry)) (now (nodes .entry)) (now (backs .entry)) (now (lags .entry)) n i j) ⌝ }
 {
-    let at = 6 * i + j;
+    let at = PINS * i + j;
     let level = level_of(inputs, roots, lags, n, nodes[at]);
     level <= backs[at] + raised(lags, i)
 }
@@ -238,7 +241,7 @@ fn leaf_long(
     requires { ⌜ LeafAsked inputs (now roots) (now nodes) (now backs) n i j ⌝ }
     ensures { λ r. ⌜ Tells r (LeafLong (Marked (now (marks .entry))) inputs (now (roots .entry)) (now (nodes .entry)) (now (backs .entry)) (now (lags .entry)) n i j) ⌝ }
 {
-    let at = 6 * i + j;
+    let at = PINS * i + j;
     let u = nodes[at];
     if u < inputs {
         return false;
@@ -312,12 +315,12 @@ fn round(
     lags: &[i64],
     n: usize,
     marks: &[usize],
-) -> [usize; 32]
+) -> [usize; LUTS]
     requires { ⌜ Wired inputs gates (now roots) (now sizes) (now nodes) (now backs) (now lags) n × (n ≤ length (now marks)) ⌝ }
     requires { ⌜ LutsFed inputs (now roots) (now sizes) (now nodes) n ⌝ }
     ensures { λ r. ⌜ (length r ≡ most) × ((i : ℕ) → i < n → Marks (getD r i 0) (LutLong (Marked (now (marks .entry))) inputs (now (roots .entry)) (now (sizes .entry)) (now (nodes .entry)) (now (backs .entry)) (now (lags .entry)) n i)) ⌝ }
 {
-    let mut next = [0usize; 32];
+    let mut next = [0usize; LUTS];
     let mut i = 0;
     while i < n {
         next[i] = lut_mark(inputs, gates, roots, sizes, nodes, backs, lags, n, i, marks);
@@ -337,12 +340,12 @@ fn rounds(
     lags: &[i64],
     n: usize,
     period: usize,
-) -> [usize; 32]
-    requires { ⌜ Wired inputs gates (now roots) (now sizes) (now nodes) (now backs) (now lags) n × (period ≤ 32) ⌝ }
+) -> [usize; LUTS]
+    requires { ⌜ Wired inputs gates (now roots) (now sizes) (now nodes) (now backs) (now lags) n × (period ≤ mostPeriod) ⌝ }
     requires { ⌜ LutsFed inputs (now roots) (now sizes) (now nodes) n ⌝ }
     ensures { λ r. ⌜ (length r ≡ most) × ((i : ℕ) → i < n → Marks (getD r i 0) (LongAt inputs (now (roots .entry)) (now (sizes .entry)) (now (nodes .entry)) (now (backs .entry)) (now (lags .entry)) n period i)) ⌝ }
 {
-    let mut marks = [1usize; 32];
+    let mut marks = [1usize; LUTS];
     let mut luts = 1;
     while luts <= period {
         marks = round(inputs, gates, roots, sizes, nodes, backs, lags, n, &marks);
@@ -378,7 +381,7 @@ fn chains_short(
     n: usize,
     period: usize,
 ) -> bool
-    requires { ⌜ Wired inputs gates (now roots) (now sizes) (now nodes) (now backs) (now lags) n × (period ≤ 32) ⌝ }
+    requires { ⌜ Wired inputs gates (now roots) (now sizes) (now nodes) (now backs) (now lags) n × (period ≤ mostPeriod) ⌝ }
     requires { ⌜ LutsFed inputs (now roots) (now sizes) (now nodes) n ⌝ }
     ensures { λ r. ⌜ Tells r (NoneLong inputs (now (roots .entry)) (now (sizes .entry)) (now (nodes .entry)) (now (backs .entry)) (now (lags .entry)) n period) ⌝ }
 {

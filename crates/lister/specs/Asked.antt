@@ -11,7 +11,7 @@ use Rattle.records.specs.Program.{listChecked}
 use Rattle.reader.specs.Answer.{arraysOf}
 use Rattle.reader.specs.declared.Wiring.{Wiring}
 use Rattle.writer.specs.Writing.{Wrote}
-use Rattle.text.specs.Text.{textRoom}
+use Rattle.limits.specs.Limits.{textRoom}
 use Rattle.solver.specs.Settling.{Settling}
 
 -- a net read, with room for its text

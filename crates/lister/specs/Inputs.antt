@@ -7,7 +7,7 @@ use native.Mathlib.Omega.{arith}
 use borrow.Author.Tests.{lt-ltb, le-ltb}
 use lib.Dec.{ltb}
 use lib.ListN.{length, getD, drop}
-use Rattle.netbytes.specs.Limits.{leastK, mostK, mostPeriod}
+use Rattle.limits.specs.Limits.{leastK, mostK, mostPeriod}
 use Rattle.netbytes.specs.Reading.{between}
 use Rattle.netbytes.specs.Walk.{first, rest}
 use Rattle.records.specs.Listing.{refusalText}

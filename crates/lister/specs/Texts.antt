@@ -9,7 +9,7 @@ use Rattle.netlist.specs.Net.{Net}
 use Rattle.netlist.specs.Arrays.{netIn}
 use Rattle.netlist.specs.ArrayLaws.{outputs-netIn}
 use Rattle.netlist.specs.Checks.{Passed}
-use Rattle.netbytes.specs.Limits.{leastK, mostK, mostPeriod, coverArea}
+use Rattle.limits.specs.Limits.{leastK, mostK, mostPeriod, coverArea, textRoom}
 use Rattle.netbytes.specs.Reading.{Result, got, refused}
 use Rattle.netbytes.specs.Walk.{netReader}
 use Rattle.netbytes.specs.Sound.{walk-sound, walk-fits}
@@ -29,7 +29,7 @@ use Rattle.solver.specs.Planned.{Lengths}
 use Rattle.solver.specs.Settling.{Settling, SettledAs}
 use Rattle.solver.specs.Settling as settling
 use Rattle.text.specs.PutLaws.{wrote-as}
-use Rattle.text.specs.Text.{textRoom, Listable, Lists}
+use Rattle.text.specs.Text.{Listable, Lists}
 use Rattle.mapper.specs.Outcome.{Sure}
 use Rattle.mapper.specs.Recording.{Long, cover-writable}
 use Rattle.lister.specs.Asked.{Listing, ListsNet}

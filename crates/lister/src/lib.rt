@@ -2,6 +2,13 @@
 use inputs::byte_at;
 use inputs::number;
 use inputs::wide;
+use limits::GATES;
+use limits::LEAST_K;
+use limits::MOST_K;
+use limits::NODES;
+use limits::PERIOD;
+use limits::PLACES;
+use limits::TABLE;
 use reader::Verdict;
 use reader::Wiring;
 use reader::read_net;
@@ -15,7 +22,7 @@ ghost use Rattle.netbytes.specs.Walk.{rest};
 ghost use Rattle.records.specs.Outcomes.{checkNet};
 ghost use Rattle.records.specs.Program.{listChecked, listing, listingProgram};
 ghost use Rattle.writer.specs.Writing.{Wrote};
-ghost use Rattle.text.specs.Text.{textRoom};
+ghost use Rattle.limits.specs.Limits.{leastK, mostK, mostPeriod, textRoom};
 ghost use Rattle.lister.specs.Asked.{Listing, ListsNet};
 
 // Checks 9 to 12 and the cover of a net read.
@@ -23,13 +30,13 @@ fn list_read(net: Wiring, k: usize, target: usize, out: &mut [u8]) -> usize
     requires { ⌜ Listing k target net (now out) ⌝ }
     ensures { λ r. ⌜ ListsNet k target net (now (out .entry)) (now (out .exit)) r ⌝ }
 {
-    let mut work = [0u8; 27840];
-    let mut labels = [0i64; 48];
-    let mut marks = [0usize; 32];
-    let mut sizes = [0usize; 32];
-    let mut nodes = [0usize; 192];
-    let mut backs = [0usize; 192];
-    let mut tables = [0u64; 32];
+    let mut work = [0u8; TABLE];
+    let mut labels = [0i64; NODES];
+    let mut marks = [0usize; GATES];
+    let mut sizes = [0usize; GATES];
+    let mut nodes = [0usize; PLACES];
+    let mut backs = [0usize; PLACES];
+    let mut tables = [0u64; GATES];
     let s = settle(
         net,
         k,
@@ -67,7 +74,7 @@ fn list_read(net: Wiring, k: usize, target: usize, out: &mut [u8]) -> usize
 
 // Checks 4 to 12 and the cover.
 fn list_net(net: &[u8], k: u32, target: u32, out: &mut [u8]) -> usize
-    requires { ⌜ (2 ≤ k) × (k ≤ 6) × (target ≤ 32) × (textRoom ≤ length (now out)) ⌝ }
+    requires { ⌜ (leastK ≤ k) × (k ≤ mostK) × (target ≤ mostPeriod) × (textRoom ≤ length (now out)) ⌝ }
     ensures { λ r. ⌜ Wrote (listChecked k target (checkNet k (now (net .entry)))) (now (out .entry)) (now (out .exit)) r ⌝ }
 {
     let w = read_net(net, k);
@@ -83,13 +90,13 @@ fn list_parts(k: u32, target: u32, net: &[u8], out: &mut [u8]) -> usize
     requires { ⌜ textRoom ≤ length (now out) ⌝ }
     ensures { λ r. ⌜ Wrote (listing k target (now (net .entry))) (now (out .entry)) (now (out .exit)) r ⌝ }
 {
-    if k < 2 {
+    if k < LEAST_K {
         return write_refusal(1, out);
     }
-    if 6 < k {
+    if MOST_K < k {
         return write_refusal(1, out);
     }
-    if 32 < target {
+    if PERIOD < target {
         return write_refusal(2, out);
     }
     list_net(net, k, target, out)

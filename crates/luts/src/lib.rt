@@ -2,9 +2,11 @@
 use cone::Told;
 use cone::table;
 use cone::walk;
+use limits::PINS;
 ghost use mathlib.Core.Path.{_≡_};
 ghost use Prim.Native.Nat.{ℕ, _+_, _*_, _≤_, _<_};
 ghost use lib.ListN.{length, getD};
+ghost use Rattle.limits.specs.Limits.{mostPins};
 ghost use Rattle.cone.specs.Lists.{Wires, copiesIn};
 ghost use Rattle.luts.specs.Luts.{LutTable, GateTable, Tabulates, Tabulated};
 
@@ -21,7 +23,7 @@ fn lut_table(
     n: usize,
     g: usize,
 ) -> u64
-    requires { ⌜ Wires inputs gates (now pins) (now sources) (now counts) × (gates ≤ length (now tables)) × (n ≤ 6) × (n ≤ length (now «leaf_nodes»)) × (n ≤ length (now «leaf_backs»)) × (g < gates) ⌝ }
+    requires { ⌜ Wires inputs gates (now pins) (now sources) (now counts) × (gates ≤ length (now tables)) × (n ≤ mostPins) × (n ≤ length (now «leaf_nodes»)) × (n ≤ length (now «leaf_backs»)) × (g < gates) ⌝ }
     ensures { λ r. ⌜ LutTable inputs gates (now (pins .entry)) (now (sources .entry)) (now (counts .entry)) (now (tables .entry)) (copiesIn (now («leaf_nodes» .entry)) (now («leaf_backs» .entry)) n) g r ⌝ }
 {
     let cone = walk(
@@ -74,7 +76,7 @@ fn gate_table(
     if marks[g] == 0 {
         return 0;
     }
-    let at = 6 * g;
+    let at = PINS * g;
     let n = sizes[g];
     lut_table(
         inputs,

@@ -1,6 +1,6 @@
 -- Definitions: document 01's answer for each case of map's.
 use Prim.Native.Nat.{ℕ, _≤_, _<_}
-use Rattle.netbytes.specs.Limits.{coverArea}
+use Rattle.limits.specs.Limits.{coverArea}
 use Rattle.records.specs.Outcomes.{Answer, accepted, turnedBack}
 use Rattle.mapper.specs.declared.Answer.the-variants.{Length, Refused}
 use Rattle.mapper.specs.declared.Answer as declared

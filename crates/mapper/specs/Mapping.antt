@@ -4,7 +4,7 @@ use mathlib.Core.List.{List, []}
 use Prim.Native.Nat.{ℕ, _≤_}
 use lib.ListN.{length}
 use Rattle.netlist.specs.Arrays.{netIn}
-use Rattle.netbytes.specs.Limits.{coverArea, scratchArea}
+use Rattle.limits.specs.Limits.{coverArea, scratchArea}
 use Rattle.netbytes.specs.Reading.{got}
 use Rattle.netbytes.specs.Walk.{netReader}
 use Rattle.records.specs.Outcomes.{Answer, MapOutcome, checkNet, mapChecked, cleared}

@@ -7,7 +7,7 @@ use lib.ListN.{length, drop, replicate}
 use Rattle.netlist.specs.Net.{Net}
 use Rattle.netlist.specs.Arrays.{netIn}
 use Rattle.netlist.specs.Checks.{Passed}
-use Rattle.netbytes.specs.Limits.{coverArea, scratchArea}
+use Rattle.limits.specs.Limits.{coverArea, scratchArea}
 use Rattle.netbytes.specs.Reading.{Result, got, refused}
 use Rattle.netbytes.specs.Walk.{netReader}
 use Rattle.labelling.specs.Labels.{Reachable}

@@ -5,7 +5,7 @@ use Prim.Native.Nat.{ℕ, _≤_, _<_}
 use lib.ListN.{length}
 use Rattle.netlist.specs.Net.{Net}
 use Rattle.netlist.specs.Arrays.{netIn}
-use Rattle.netbytes.specs.Limits.{leastK, mostK, mostPeriod, coverArea, scratchArea}
+use Rattle.limits.specs.Limits.{leastK, mostK, mostPeriod, coverArea, scratchArea}
 use Rattle.netbytes.specs.Reading.{Result, got, refused}
 use Rattle.netbytes.specs.Walk.{netReader}
 use Rattle.netbytes.specs.Sound.{walk-sound, walk-fits}

@@ -8,7 +8,7 @@ use borrow.Author.Tests.{lt-ltb, le-ltb, ltb-true, ltb-false}
 use lib.Dec.{ltb}
 use lib.ListN.{length, take, drop, replicate}
 use lib.Seq.{drop-at, length-take-le}
-use Rattle.netbytes.specs.Limits.{leastK, mostK, mostPeriod, coverArea, scratchArea}
+use Rattle.limits.specs.Limits.{leastK, mostK, mostPeriod, coverArea, scratchArea}
 use Rattle.netbytes.specs.Reading.{between}
 use Rattle.netbytes.specs.Sound.{between-true}
 use Rattle.records.specs.Outcomes.{Answer, turnedBack, MapOutcome, mapSizes, mapSized, mapOutcome, mapChecked, checkNet, cleared}

@@ -1,6 +1,14 @@
 // Map: the key of the examination. A net, k and a target; a cover in the cover area, or a refusal.
 use inputs::narrow;
 use inputs::wide;
+use limits::AREA;
+use limits::GATES;
+use limits::LEAST_K;
+use limits::MOST_K;
+use limits::NODES;
+use limits::PERIOD;
+use limits::PLACES;
+use limits::SCRATCH;
 use reader::Verdict;
 use reader::Wiring;
 use reader::read_net;
@@ -10,7 +18,7 @@ use writer::write_cover;
 ghost use mathlib.Core.Path.{_≡_};
 ghost use Prim.Native.Nat.{_≤_, _<_};
 ghost use lib.ListN.{length};
-ghost use Rattle.netbytes.specs.Limits.{scratchArea};
+ghost use Rattle.limits.specs.Limits.{coverArea, leastK, mostK, mostPeriod, scratchArea};
 ghost use Rattle.records.specs.Outcomes.{mapOutcome, mapSizes};
 ghost use Rattle.mapper.specs.Answers.{answerOf, InRange};
 ghost use Rattle.mapper.specs.Mapping.{Mapping, MapsTo, MapsNet};
@@ -25,19 +33,19 @@ pub enum Answer {
 fn check_sizes(k: u32, target: u32, area: &[u8], scratch: &[u8]) -> u8
     ensures { λ r. ⌜ r ≡ mapSizes k target (now (area .entry)) (now (scratch .entry)) ⌝ }
 {
-    if k < 2 {
+    if k < LEAST_K {
         return 1;
     }
-    if 6 < k {
+    if MOST_K < k {
         return 1;
     }
-    if 32 < target {
+    if PERIOD < target {
         return 2;
     }
-    if area.len() < 962 {
+    if area.len() < AREA {
         return 3;
     }
-    if scratch.len() < 65536 {
+    if scratch.len() < SCRATCH {
         return 3;
     }
     0
@@ -48,12 +56,12 @@ fn map_read(net: Wiring, k: usize, target: usize, area: &mut [u8], work: &mut [u
     requires { ⌜ Mapping k target net (now area) (now work) ⌝ }
     ensures { λ r. ⌜ MapsNet k target net (now (area .entry)) (now (area .exit)) (answerOf r) ⌝ }
 {
-    let mut labels = [0i64; 48];
-    let mut marks = [0usize; 32];
-    let mut sizes = [0usize; 32];
-    let mut nodes = [0usize; 192];
-    let mut backs = [0usize; 192];
-    let mut tables = [0u64; 32];
+    let mut labels = [0i64; NODES];
+    let mut marks = [0usize; GATES];
+    let mut sizes = [0usize; GATES];
+    let mut nodes = [0usize; PLACES];
+    let mut backs = [0usize; PLACES];
+    let mut tables = [0u64; GATES];
     let s = settle(
         net,
         k,
@@ -87,7 +95,7 @@ fn map_read(net: Wiring, k: usize, target: usize, area: &mut [u8], work: &mut [u
 
 // Checks 4 to 12 and the cover.
 fn map_bytes(net: &[u8], k: u32, target: u32, area: &mut [u8], work: &mut [u8]) -> Answer
-    requires { ⌜ (2 ≤ k) × (k ≤ 6) × (target ≤ 32) × (962 ≤ length (now area)) × (scratchArea ≤ length (now work)) ⌝ }
+    requires { ⌜ (leastK ≤ k) × (k ≤ mostK) × (target ≤ mostPeriod) × (coverArea ≤ length (now area)) × (scratchArea ≤ length (now work)) ⌝ }
     ensures { λ r. ⌜ MapsTo k target (now (net .entry)) (now (area .entry)) (now (area .exit)) (answerOf r) ⌝ }
 {
     let w = read_net(net, k);
@@ -107,7 +115,7 @@ pub fn map(net: &[u8], k: u32, target: u32, area: &mut [u8], scratch: &mut [u8])
     if r > 0 {
         return Answer::Refused(r);
     }
-    let answer = map_bytes(net, k, target, area, &mut scratch[..65536]);
-    clear_first(scratch, 65536);
+    let answer = map_bytes(net, k, target, area, &mut scratch[..SCRATCH]);
+    clear_first(scratch, SCRATCH);
     answer
 }

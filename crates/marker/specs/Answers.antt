@@ -1,6 +1,6 @@
 -- Definitions: document 01's answer for each case of mark's.
 use Prim.Native.Nat.{ℕ, _≤_, _<_}
-use Rattle.netbytes.specs.Limits.{mostPeriod}
+use Rattle.limits.specs.Limits.{mostPeriod}
 use Rattle.records.specs.Outcomes.{Answer, accepted, turnedBack}
 use Rattle.marker.specs.declared.Grade.the-variants.{Excess, Refused}
 use Rattle.marker.specs.declared.Grade as declared

@@ -6,7 +6,7 @@ use lib.ListN.{length}
 use Rattle.netlist.specs.Net.{size}
 use Rattle.netlist.specs.Arrays.{netIn}
 use Rattle.netlist.specs.Checks.{Passed}
-use Rattle.netbytes.specs.Limits.{mostPeriod, mostLuts, scratchArea}
+use Rattle.limits.specs.Limits.{mostPeriod, mostLuts, scratchArea}
 use Rattle.netbytes.specs.Reading.{got}
 use Rattle.netbytes.specs.Walk.{netReader}
 use Rattle.covers.specs.Covers.{LeastPeriod}

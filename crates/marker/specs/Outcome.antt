@@ -11,7 +11,7 @@ use Rattle.netlist.specs.ArrayLaws.{inputs-netIn, size-netIn, outputs-netIn}
 use Rattle.netlist.specs.Wired.{netIn-wired}
 use Rattle.netlist.specs.Checks.{Passed}
 use Rattle.netlist.specs.Copies.{copy}
-use Rattle.netbytes.specs.Limits.{mostPeriod}
+use Rattle.limits.specs.Limits.{mostPeriod}
 use Rattle.netbytes.specs.Reading.{Result, got, refused}
 use Rattle.netbytes.specs.Walk.{netReader}
 use Rattle.cones.specs.Ranks.{ranked}

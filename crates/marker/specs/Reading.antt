@@ -5,7 +5,7 @@ use Prim.Native.Nat.{ℕ, _≤_, _<_}
 use native.Mathlib.Omega.{arith}
 use lib.ListN.{length}
 use Rattle.netlist.specs.Arrays.{netIn}
-use Rattle.netbytes.specs.Limits.{leastK, mostK, scratchArea}
+use Rattle.limits.specs.Limits.{leastK, mostK, scratchArea}
 use Rattle.netbytes.specs.Walk.{netReader}
 use Rattle.netbytes.specs.Sound.{walk-sound, walk-fits}
 use Rattle.records.specs.Outcomes.{Answer, turnedBack}

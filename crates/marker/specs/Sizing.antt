@@ -8,7 +8,7 @@ use borrow.Author.Tests.{lt-ltb, le-ltb, ltb-true, ltb-false}
 use lib.Dec.{ltb}
 use lib.ListN.{length, drop, replicate}
 use lib.Seq.{drop-at}
-use Rattle.netbytes.specs.Limits.{leastK, mostK, scratchArea}
+use Rattle.limits.specs.Limits.{leastK, mostK, scratchArea}
 use Rattle.netbytes.specs.Reading.{between}
 use Rattle.netbytes.specs.Sound.{between-true}
 use Rattle.records.specs.Outcomes.{Answer, turnedBack, MarkOutcome, markSizes, markSized, markOutcome, cleared}

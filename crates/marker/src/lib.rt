@@ -4,6 +4,12 @@ use candidate::read_cover;
 use cutcheck::check_luts;
 use inputs::narrow;
 use inputs::wide;
+use limits::GATES;
+use limits::LEAST_K;
+use limits::MOST_K;
+use limits::NODES;
+use limits::PLACES;
+use limits::SCRATCH;
 use linkcheck::check_links;
 use reader::Verdict;
 use reader::Wiring;
@@ -14,7 +20,7 @@ use solver::settle;
 ghost use mathlib.Core.Path.{_≡_};
 ghost use Prim.Native.Nat.{_≤_, _<_};
 ghost use lib.ListN.{length};
-ghost use Rattle.netbytes.specs.Limits.{scratchArea};
+ghost use Rattle.limits.specs.Limits.{leastK, mostK, scratchArea};
 ghost use Rattle.records.specs.Outcomes.{markOutcome, markSizes};
 ghost use Rattle.cutcheck.specs.Cuts.{CutsTold};
 ghost use Rattle.linkcheck.specs.Links.{LinksTold};
@@ -31,13 +37,13 @@ pub enum Grade {
 fn check_sizes(k: u32, scratch: &[u8]) -> u8
     ensures { λ r. ⌜ r ≡ markSizes k (now (scratch .entry)) ⌝ }
 {
-    if k < 2 {
+    if k < LEAST_K {
         return 1;
     }
-    if 6 < k {
+    if MOST_K < k {
         return 1;
     }
-    if scratch.len() < 65536 {
+    if scratch.len() < SCRATCH {
         return 3;
     }
     0
@@ -135,12 +141,12 @@ fn least_of(net: Wiring, k: usize, work: &mut [u8]) -> Settled
     requires { ⌜ Marking k net (now work) ⌝ }
     ensures { λ r. ⌜ LeastOf k net r ⌝ }
 {
-    let mut labels = [0i64; 48];
-    let mut marks = [0usize; 32];
-    let mut sizes = [0usize; 32];
-    let mut nodes = [0usize; 192];
-    let mut backs = [0usize; 192];
-    let mut tables = [0u64; 32];
+    let mut labels = [0i64; NODES];
+    let mut marks = [0usize; GATES];
+    let mut sizes = [0usize; GATES];
+    let mut nodes = [0usize; PLACES];
+    let mut backs = [0usize; PLACES];
+    let mut tables = [0u64; GATES];
     settle(
         net,
         k,
@@ -170,7 +176,7 @@ fn mark_read(net: Wiring, k: usize, cover: &[u8], work: &mut [u8]) -> Grade
 
 // Checks 4 to 18.
 fn mark_bytes(net: &[u8], k: u32, cover: &[u8], work: &mut [u8]) -> Grade
-    requires { ⌜ (2 ≤ k) × (k ≤ 6) × (scratchArea ≤ length (now work)) ⌝ }
+    requires { ⌜ (leastK ≤ k) × (k ≤ mostK) × (scratchArea ≤ length (now work)) ⌝ }
     ensures { λ r. ⌜ MarksTo k (now (net .entry)) (now (cover .entry)) (answerOf r) ⌝ }
 {
     let w = read_net(net, k);
@@ -190,7 +196,7 @@ pub fn mark(net: &[u8], k: u32, cover: &[u8], scratch: &mut [u8]) -> Grade
     if r > 0 {
         return Grade::Refused(r);
     }
-    let answer = mark_bytes(net, k, cover, &mut scratch[..65536]);
-    clear_first(scratch, 65536);
+    let answer = mark_bytes(net, k, cover, &mut scratch[..SCRATCH]);
+    clear_first(scratch, SCRATCH);
     answer
 }

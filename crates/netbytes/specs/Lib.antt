@@ -1,4 +1,3 @@
-pub mod Limits
 pub mod Reading
 pub mod Walk
 pub mod Readers

@@ -5,7 +5,7 @@ use Prim.Native.Nat.{ℕ, _+_}
 use lib.Count.{ones}
 use lib.Dec.{leb, ltb}
 use Rattle.netlist.specs.Net.{Net, Pin, Gate}
-use Rattle.netbytes.specs.Limits.{mostInputs, mostGates, mostOutputs, mostCount}
+use Rattle.limits.specs.Limits.{mostInputs, mostGates, mostOutputs, mostCount}
 use Rattle.netbytes.specs.Reading.{Reader, andThen, _>>=_, give, check, times, atEnd, between}
 use Rattle.netbytes.specs.Walk.{netReader, gateReader, outputReader, netByte, onlyBits, tableByte, tableBytes, pinsFrom, fromBytes, first}
 

@@ -7,7 +7,7 @@ use lib.Dec.{leb, ltb}
 use lib.ListN.{length}
 use Rattle.netlist.specs.Net.{Net, Pin, Gate}
 use Rattle.netlist.specs.Tables.{bit}
-use Rattle.netbytes.specs.Limits.{mostInputs, mostGates, mostOutputs, mostCount}
+use Rattle.limits.specs.Limits.{mostInputs, mostGates, mostOutputs, mostCount}
 use Rattle.netbytes.specs.Reading.{Result, Reader, _>>=_, andThen, give, check, byte, times, atEnd, between, got, refused}
 
 -- each of the low n bits that r has, p has

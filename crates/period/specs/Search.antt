@@ -16,7 +16,8 @@ use Rattle.covers.specs.Covers.{LeastPeriod}
 use Rattle.covers.specs.Joined.{reachable-met, met-reachable}
 use Rattle.covers.specs.Period.{gates-reach}
 use Rattle.mincut.specs.Circuit.{Circuit}
-use Rattle.query.specs.Question.{labelIn, mostCopies}
+use Rattle.limits.specs.Limits.{mostCopies}
+use Rattle.query.specs.Question.{labelIn}
 use Rattle.labels.specs.Visits.{Suits}
 use Rattle.labels.specs.Sweeps.{wiring, Fine, Sized, Ceilings, Labelled}
 

@@ -29,7 +29,8 @@ use Rattle.mincut.specs.Circuit.{wide-positive, gate-below, place-below, source
 use Rattle.mincut.specs.Contracts.{SourceAsked}
 use Rattle.mincut.specs.Table.{length-upTo}
 use Rattle.mincut.specs.Bridge.{Holds, decode, encode, decode-one, to-feeds, from-feeds}
-use Rattle.query.specs.Question.{labelIn, mostCopies}
+use Rattle.limits.specs.Limits.{mostCopies}
+use Rattle.query.specs.Question.{labelIn}
 
 -- a circuit's sizes and pins alone
 abbrev pub wires : ℕ → ℕ → ℕ → ℕ → List ℕ → List ℕ → List ℕ → Circuit

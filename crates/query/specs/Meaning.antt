@@ -27,7 +27,8 @@ use Rattle.netlist.specs.Arrays.{copiesFrom}
 use Rattle.mincut.specs.Bridge.{Holds, decode, encode, decode-encode}
 use Rattle.mincut.specs.Answer.{Separates, ForcedLeads, coneOf, none-few, fewest, found-separates, found-count, found-smallest, found-cone, collect-asked}
 use Rattle.mincut.specs.Answer.{collected-leaves, collected-count}
-use Rattle.query.specs.Question.{labelIn, mostCopies, AtRest, Asks, Separated, Answers, Takes, Written}
+use Rattle.limits.specs.Limits.{mostCopies}
+use Rattle.query.specs.Question.{labelIn, AtRest, Asks, Separated, Answers, Takes, Written}
 use Rattle.query.specs.Forcing.{wires, target, Target, LowOf, Inner, Ground, Growing, Refuted, Refutes, Settled, AllSettled, ForceAsked, Listed}
 use Rattle.query.specs.Forcing.{Unmarked, feeder, feeds-pin, copiesOf, copies-in}
 

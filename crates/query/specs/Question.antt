@@ -4,6 +4,7 @@ use mathlib.Core.List.{List}
 use Prim.Native.Nat.{ℕ, _+_, _*_, _≤_, _<_}
 use lib.IntN.{ℤ, pos}
 use lib.ListN.{length, getD}
+use Rattle.limits.specs.Limits.{mostCopies}
 use Rattle.sequences.specs.Member.{Within}
 use Rattle.netlist.specs.Net.{Net}
 use Rattle.netlist.specs.Checks.{Loopless}
@@ -22,10 +23,6 @@ use Rattle.mincut.specs.Bridge.{Holds}
 -- labels kept in an array
 abbrev pub labelIn : List ℤ → ℕ → ℤ
 labelIn ls u = getD ls u (pos 0)
-
--- most copies of a cone, by document 01's limits: "so at most 192 copies"
-abbrev pub mostCopies : ℕ
-mostCopies = 192
 
 -- The engine at rest: arrays laid out, chains linked, no copy forced, no flow and no mark.
 pub record AtRest (C : Circuit) (t l members : List ℕ) : Type 0 where

@@ -1,4 +1,5 @@
 // The cut question: the forced set of a gate and a threshold by a work list, and its nearest minimum cut.
+use limits::PINS;
 ghost use mathlib.Core.Path.{_≡_};
 ghost use mathlib.Core.Bool.{true, false};
 ghost use Prim.Native.Nat.{_+_, _-_, _*_, _/_, _%_, _≤_, _<_};
@@ -22,7 +23,7 @@ fn feeder(s: Sizes, sources: &[usize], counts: &[usize], x: usize, j: usize) -> 
     requires { ⌜ SourceAsked (s .inputs) (s .width) (now sources) (now counts) x j ⌝ }
     ensures { λ r. ⌜ r ≡ feedingAt (s .width) (now (sources .entry)) (now (counts .entry)) x (6 * (x / s .width - s .inputs) + j) ⌝ }
 {
-    let p = 6 * (x / s.width - s.inputs) + j;
+    let p = PINS * (x / s.width - s.inputs) + j;
     sources[p] * s.width + (x % s.width + counts[p])
 }
 

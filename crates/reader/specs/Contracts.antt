@@ -4,6 +4,7 @@ use mathlib.Core.List.{List, [], _∷_, _++_}
 use Prim.Native.Nat.{ℕ, _+_, _-_, _*_, _≤_, _<_}
 use lib.Count.{ones}
 use lib.ListN.{length, getD, take, drop, set}
+use Rattle.limits.specs.Limits.{mostPlaces}
 use Rattle.netlist.specs.Net.{Gate, Pin}
 use Rattle.netlist.specs.Arrays.{pinsIn, gatesIn, stride}
 use Rattle.netlist.specs.ArrayLaws.{pinAt}
@@ -130,8 +131,8 @@ pub record PinsStored (w : Wiring) (g : ℕ) (sources counts : List ℕ) (j : �
   pub tables : z .tables ≡ w .tables
   pub here : (i : ℕ) → i < j → pinAt (z .sources) (z .counts) (stride * g + i) ≡ pinAt sources counts i
   pub below : (i : ℕ) → i < stride * g → pinAt (z .sources) (z .counts) i ≡ pinAt (w .sources) (w .counts) i
-  pub sources-long : length (z .sources) ≡ 192
-  pub counts-long : length (z .counts) ≡ 192
+  pub sources-long : length (z .sources) ≡ mostPlaces
+  pub counts-long : length (z .counts) ≡ mostPlaces
 
 -- none of the first g gates has more pins than there are places
 abbrev pub narrow : Wiring → ℕ → Type 0

@@ -2,7 +2,7 @@
 use mathlib.Core.Bool.{Bool}
 use Prim.Native.Nat.{ℕ}
 use lib.Dec.{leb, ltb}
-use Rattle.netbytes.specs.Limits.{mostInputs, mostGates, mostOutputs, mostCount}
+use Rattle.limits.specs.Limits.{mostInputs, mostGates, mostOutputs, mostCount}
 use Rattle.netbytes.specs.Reading.{Reader, byte, between}
 use Rattle.netbytes.specs.Walk.{onlyBits, tableByte}
 use Rattle.reader.specs.declared.Field.{Field}

@@ -8,6 +8,7 @@ use native.Mathlib.Omega.{arith}
 use lib.ListN.{length, getD, drop, set, length-set}
 use lib.Seq.{getD-set-same, getD-set-other}
 use borrow.Author.Count.{below-more}
+use Rattle.limits.specs.Limits.{mostPlaces}
 use Rattle.netlist.specs.Net.{Gate, Pin}
 use Rattle.netlist.specs.Arrays.{pinsIn, gatesIn, stride}
 use Rattle.netlist.specs.ArrayLaws.{pinAt, gateAt}
@@ -30,7 +31,7 @@ pub same-trans : {w y z : Wiring} → Same w y → Same y z → Same w z
 same-trans a b = record { inputs = b .inputs ∙ a .inputs; gates = b .gates ∙ a .gates; outputs = b .outputs ∙ a .outputs }
 
 module _ (w : Wiring) (g : ℕ) (S C : List ℕ) where
-  pub pins-none : length (w .sources) ≡ 192 → length (w .counts) ≡ 192 → PinsStored w g S C 0 w
+  pub pins-none : length (w .sources) ≡ mostPlaces → length (w .counts) ≡ mostPlaces → PinsStored w g S C 0 w
   pins-none ls lc = record {
     same = same-refl w;
     pins = refl;

@@ -1,9 +1,17 @@
 // The byte walk over a net record: one pass over any bytes, each byte tested when read.
+use limits::COUNT_BYTE;
+use limits::GATES;
+use limits::GATES_BYTE;
+use limits::INPUTS_BYTE;
+use limits::OUTPUTS;
+use limits::OUTPUTS_BYTE;
+use limits::PLACES;
 ghost use mathlib.Core.Path.{_≡_};
 ghost use mathlib.Core.List.{List};
 ghost use Prim.Native.Nat.{ℕ, _+_, _*_, _^_, _≤_, _<_};
 ghost use lib.Count.{ones};
 ghost use lib.ListN.{drop};
+ghost use Rattle.limits.specs.Limits.{mostGates, mostOutputs, mostPins, mostPlaces};
 ghost use Rattle.reader.specs.Fields.{allowedOf, refusalOf, fieldByte};
 ghost use Rattle.reader.specs.Answer.{outcome, resultOf};
 ghost use Rattle.netlist.specs.Tables.{bit};
@@ -22,12 +30,12 @@ pub struct Wiring {
     pub inputs: usize,
     pub gates: usize,
     pub outputs: usize,
-    pub pins: [usize; 32],
-    pub sources: [usize; 192],
-    pub counts: [usize; 192],
-    pub tables: [u64; 32],
-    pub out_sources: [usize; 16],
-    pub out_counts: [usize; 16],
+    pub pins: [usize; GATES],
+    pub sources: [usize; PLACES],
+    pub counts: [usize; PLACES],
+    pub tables: [u64; GATES],
+    pub out_sources: [usize; OUTPUTS],
+    pub out_counts: [usize; OUTPUTS],
 }
 
 // The verdict and, where it is Read, the net.
@@ -141,15 +149,15 @@ fn allowed(field: Field, byte: u8, limit: usize) -> bool
 {
     match field {
         Field::Inputs => match byte {
-            1..=16 => true,
+            1..=INPUTS_BYTE => true,
             _ => false,
         },
         Field::Gates => match byte {
-            1..=32 => true,
+            1..=GATES_BYTE => true,
             _ => false,
         },
         Field::Outputs => match byte {
-            1..=16 => true,
+            1..=OUTPUTS_BYTE => true,
             _ => false,
         },
         Field::PinMap => match byte {
@@ -159,7 +167,7 @@ fn allowed(field: Field, byte: u8, limit: usize) -> bool
         Field::RegisterMap => within(byte, limit),
         Field::Source => wide(byte) < limit,
         Field::Count => match byte {
-            1..=3 => true,
+            1..=COUNT_BYTE => true,
             _ => false,
         },
         Field::Table => table_byte(limit, byte),
@@ -281,7 +289,7 @@ pub fn count_of(map: u8) -> usize
 
 // The number of table bytes of a gate with so many pins.
 pub fn table_bytes(pins: usize) -> usize
-    requires { ⌜ pins ≤ 6 ⌝ }
+    requires { ⌜ pins ≤ mostPins ⌝ }
     ensures { λ r. ⌜ TableBytes pins r ⌝ }
 {
     match pins {
@@ -294,7 +302,7 @@ pub fn table_bytes(pins: usize) -> usize
 
 // Whether place i of a map is set.
 pub fn has(map: u8, i: usize) -> bool
-    requires { ⌜ i < 6 ⌝ }
+    requires { ⌜ i < mostPins ⌝ }
     ensures { λ r. ⌜ r ≡ bit map i ⌝ }
 {
     (wide(map) >> i) % 2 == 1
@@ -323,7 +331,7 @@ pub fn number(values: [u8; 8]) -> u64
 
 // Place i of the maps: a pin with the next count, a pin with none, or no pin.
 fn spread_one(so: SpreadSoFar, pins: u8, registers: u8, counts: [u8; 8], i: usize) -> SpreadSoFar
-    requires { ⌜ i < 6 ⌝ }
+    requires { ⌜ i < mostPins ⌝ }
     requires { ⌜ Spreading pins registers counts i so ⌝ }
     ensures { λ r. ⌜ Spreading pins registers counts (i + 1) r ⌝ }
 {
@@ -514,7 +522,7 @@ fn read_gate(bytes: &[u8], at: usize, k: u32, nodes: usize) -> GateRow
 
 // One pin is stored at its place.
 fn store_pin(net: Wiring, at: usize, source: usize, count: usize) -> Wiring
-    requires { ⌜ at < 192 ⌝ }
+    requires { ⌜ at < mostPlaces ⌝ }
     ensures { λ r. ⌜ r ≡ withPin net at source count ⌝ }
 {
     let mut out = net;
@@ -525,7 +533,7 @@ fn store_pin(net: Wiring, at: usize, source: usize, count: usize) -> Wiring
 
 // The pins of a row are stored as those of gate g.
 fn store_pins(net: Wiring, g: usize, row: GateRow) -> Wiring
-    requires { ⌜ g < 32 ⌝ }
+    requires { ⌜ g < mostGates ⌝ }
     ensures { λ r. ⌜ PinsStored net g (row .sources) (row .counts) 6 r ⌝ }
 {
     let sources = row.sources;
@@ -541,8 +549,8 @@ fn store_pins(net: Wiring, g: usize, row: GateRow) -> Wiring
 
 // A row is stored as gate g.
 fn store_gate(net: Wiring, g: usize, row: GateRow) -> Wiring
-    requires { ⌜ g < 32 ⌝ }
-    requires { ⌜ row .pins ≤ 6 ⌝ }
+    requires { ⌜ g < mostGates ⌝ }
+    requires { ⌜ row .pins ≤ mostPins ⌝ }
     requires { ⌜ narrow net g ⌝ }
     ensures { λ r. ⌜ GateStored net g row r ⌝ }
 {
@@ -626,7 +634,7 @@ fn read_output(bytes: &[u8], at: usize, nodes: usize) -> OutputRow
 
 // One output is stored.
 fn store_output(net: Wiring, o: usize, source: usize, count: usize) -> Wiring
-    requires { ⌜ o < 16 ⌝ }
+    requires { ⌜ o < mostOutputs ⌝ }
     ensures { λ r. ⌜ r ≡ withOutput net o source count ⌝ }
 {
     let mut out = net;
@@ -714,12 +722,12 @@ fn empty(inputs: usize, gates: usize, outputs: usize) -> Wiring
         inputs: inputs,
         gates: gates,
         outputs: outputs,
-        pins: [0usize; 32],
-        sources: [0usize; 192],
-        counts: [0usize; 192],
-        tables: [0u64; 32],
-        out_sources: [0usize; 16],
-        out_counts: [0usize; 16],
+        pins: [0usize; GATES],
+        sources: [0usize; PLACES],
+        counts: [0usize; PLACES],
+        tables: [0u64; GATES],
+        out_sources: [0usize; OUTPUTS],
+        out_counts: [0usize; OUTPUTS],
     }
 }
 

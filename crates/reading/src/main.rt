@@ -1,4 +1,5 @@
 // The reader's gate: reads a batch of cases from standard input, and prints the reader's answer to each on a line.
+use limits::LINE;
 use readings::case_end;
 use readings::write_case;
 ghost use Prim.Native.Nat.{_≤_, _<_};
@@ -9,7 +10,7 @@ fn print_case(input: &[u8], at: usize) -> usize
     requires { ⌜ at < length (now input) ⌝ }
     ensures { λ r. ⌜ (at < r) × (r ≤ length (now (input .entry))) ⌝ }
 {
-    let mut out = [0u8; 68];
+    let mut out = [0u8; LINE];
     let end = case_end(input, at);
     let m = write_case(&input[at..end], &mut out);
     io::write_all(1, &out[..m]);

@@ -6,10 +6,6 @@ use Rattle.netlist.specs.Net.{Net}
 use Rattle.netbytes.specs.Reading.{Result, got, refused}
 use Rattle.records.specs.Listing.{decimal, newline, refusalText}
 
--- bytes for a line
-abbrev pub lineRoom : ℕ
-lineRoom = 68
-
 -- "read "
 abbrev pub readWord : List ℕ
 readWord = 114 ∷ 101 ∷ 97 ∷ 100 ∷ 32 ∷ []

@@ -13,7 +13,8 @@ ghost use Prim.Native.Nat.{_≤_, _<_};
 ghost use lib.ListN.{length, getD, drop};
 ghost use Rattle.netbytes.specs.Walk.{netReader};
 ghost use Rattle.writer.specs.Writing.{Wrote};
-ghost use Rattle.readings.specs.Reading.{lineRoom, sizesText, readingText};
+ghost use Rattle.limits.specs.Limits.{lineRoom};
+ghost use Rattle.readings.specs.Reading.{sizesText, readingText};
 
 // The numbers of inputs, gates and outputs on a line.
 fn write_sizes(inputs: usize, gates: usize, outputs: usize, out: &mut [u8]) -> usize

@@ -10,7 +10,7 @@ use Rattle.netlist.specs.Net.{Net, size}
 use Rattle.netlist.specs.Copies.{Copy, copy}
 use Rattle.netlist.specs.Tables.{bit, asNumber}
 use Rattle.covers.specs.Key.{Entry}
-use Rattle.netbytes.specs.Limits.{mostPeriod, mostLuts}
+use Rattle.limits.specs.Limits.{mostPeriod, mostLuts}
 use Rattle.netbytes.specs.Reading.{Result, Reader, _>>=_, andThen, give, check, byte, times, atEnd, between, got, refused}
 use Rattle.netbytes.specs.Walk.{tableBytes, tableByte, fromBytes, first, rest}
 

@@ -29,7 +29,7 @@ use Rattle.labelling.specs.Floor.{floor}
 use Rattle.labelling.specs.Small.{least-small}
 use Rattle.covers.specs.Key.{Key, Root, source, leaf, RisingNumbers, Entry, entries}
 use Rattle.covers.specs.KeyOf.{entryOf, roots-gate}
-use Rattle.netbytes.specs.Limits.{mostGates, mostCount, mostK, mostPeriod, mostLuts, coverArea}
+use Rattle.limits.specs.Limits.{mostGates, mostCount, mostK, mostPeriod, mostLuts, coverArea}
 use Rattle.netbytes.specs.Walk.{tableBytes}
 use Rattle.records.specs.CoverBytes.{toBytes, notZero, leafMap, depths, isZero, lagBytes, lutBytes, allLutBytes, coverBytes, coverReader, Record}
 use Rattle.netbytes.specs.Reading.{got}

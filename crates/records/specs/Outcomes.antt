@@ -12,7 +12,7 @@ use Rattle.cones.specs.Ranks.{ranked}
 use Rattle.covers.specs.Key.{Key, Entry, entries}
 use Rattle.covers.specs.Joined.{key?}
 use Rattle.covers.specs.Period.{leastPeriod, leastKey}
-use Rattle.netbytes.specs.Limits.{leastK, mostK, mostPeriod, coverArea, scratchArea}
+use Rattle.limits.specs.Limits.{leastK, mostK, mostPeriod, coverArea, scratchArea}
 use Rattle.netbytes.specs.Reading.{Result, got, refused, between}
 use Rattle.netbytes.specs.Walk.{netReader}
 use Rattle.netbytes.specs.Sound.{walk-sound, walk-fits}

@@ -6,7 +6,7 @@ use lib.ListN.{take, drop, replicate}
 use mathlib.Core.Bool.{cond, not}
 use Rattle.netlist.specs.Net.{Net}
 use Rattle.covers.specs.Key.{Key, entries}
-use Rattle.netbytes.specs.Limits.{leastK, mostK, mostPeriod, scratchArea}
+use Rattle.limits.specs.Limits.{leastK, mostK, mostPeriod, scratchArea}
 use Rattle.netbytes.specs.Reading.{between}
 use Rattle.netbytes.specs.Walk.{first, rest}
 use Rattle.records.specs.Listing.{coverText, refusalText, excessText}

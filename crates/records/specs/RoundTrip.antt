@@ -18,7 +18,7 @@ use Rattle.netlist.specs.Copies.{Copy, copy, Before, Rising}
 use Rattle.netlist.specs.Tables.{bit, asNumber}
 use Rattle.tables.specs.Words.{asNumber-small, bit-low, half}
 use Rattle.covers.specs.Key.{Entry}
-use Rattle.netbytes.specs.Limits.{mostPeriod, mostLuts}
+use Rattle.limits.specs.Limits.{mostPeriod, mostLuts}
 use Rattle.netbytes.specs.Reading.{Result, Reader, andThen, check, byte, times, atEnd, between, got, refused}
 use Rattle.netbytes.specs.Walk.{tableBytes, tableByte, fromBytes, first, rest}
 use Rattle.records.specs.CoverBytes.{toBytes, notZero, leafMap, depths, isZero, signedByte, lagBytes, lutBytes, allLutBytes, coverBytes, Record, coverByte, fromSigned, leafMapOk, depthReader, leavesFrom, before, risingLeaves, lutReader, lutsReader, coverReader}

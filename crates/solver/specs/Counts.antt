@@ -14,7 +14,7 @@ use Rattle.netlist.specs.Net.{Net, Pin, pins}
 use Rattle.netlist.specs.Arrays.{stride, pinsIn}
 use Rattle.netlist.specs.ArrayLaws.{pinsIn-in, pinAt}
 use Rattle.netlist.specs.Wired.{Wired}
-use Rattle.netbytes.specs.Limits.{mostCount}
+use Rattle.limits.specs.Limits.{mostCount}
 use Rattle.cones.specs.Copies.{gateNumbers}
 use Rattle.cones.specs.Reach.{most, most-le, reachOf}
 

@@ -9,17 +9,17 @@ use lib.ListN.{length, getD, replicate, length-replicate}
 use Rattle.netlist.specs.Net.{Net}
 use Rattle.netlist.specs.Arrays.{stride}
 use Rattle.netlist.specs.Wired.{Wired}
-use Rattle.netbytes.specs.Limits.{mostPeriod}
+use Rattle.limits.specs.Limits.{mostPeriod, mostCopies, mostTable, mostList}
 use Rattle.cone.specs.Lists.{Wires}
 use Rattle.mincut.specs.Circuit.{circuit}
 use Rattle.mincut.specs.Bridge.{Holds}
-use Rattle.query.specs.Question.{AtRest, mostCopies}
+use Rattle.query.specs.Question.{AtRest}
 use Rattle.query.specs.Forcing.{wires}
 use Rattle.labels.specs.Sweeps.{wiring}
 use Rattle.roots.specs.Choosing.{Chooses, RootsTold}
 use Rattle.luts.specs.Luts.{Tabulates}
 use Rattle.solver.specs.Found.{PeriodFound}
-use Rattle.solver.specs.Planned.{Engine, Roomy, mostTable}
+use Rattle.solver.specs.Planned.{Engine, Roomy}
 use Rattle.solver.specs.Covering.{few-leaves}
 
 -- an array of zeros
@@ -30,13 +30,13 @@ zeros (suc n) (suc c) = zeros n c
 
 module _ {I G W B : ℕ} {ps fs so co hs ns ts os oc : List ℕ} {n : ℕ} {tops order : List ℕ} {k target : ℕ} {t : List ℕ} {ls : List ℤ}
     (e : Engine I G W B ps fs so co hs ns ts os oc n tops order k target t ls) where
-  pub engine-rest : AtRest (circuit I G W B ps fs so co hs ns (replicate mostTable 0)) t (replicate 27841 0) (replicate mostCopies 0)
+  pub engine-rest : AtRest (circuit I G W B ps fs so co hs ns (replicate mostTable 0)) t (replicate mostList 0) (replicate mostCopies 0)
   engine-rest = record {
     layout = e .layout;
     chains = e .chains;
     table = e .size;
-    longer = let a = e .size in let b = e .fits in let c = length-replicate {A = ℕ} 27841 0 in omega arith;
-    cleared = record { zero = e .clear; empty = zeros 27841 0 };
+    longer = let a = e .size in let b = e .fits in let c = length-replicate {A = ℕ} mostList 0 in omega arith;
+    cleared = record { zero = e .clear; empty = zeros mostList 0 };
     unforced = zeros mostTable;
     space = let c = length-replicate {A = ℕ} mostCopies 0 in omega arith;
   }

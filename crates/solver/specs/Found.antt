@@ -9,7 +9,7 @@ use lib.ListN.{length, getD}
 use Rattle.netlist.specs.Net.{Net}
 use Rattle.netlist.specs.Arrays.{pinsIn}
 use Rattle.netlist.specs.Checks.{Passed}
-use Rattle.netbytes.specs.Limits.{mostPeriod}
+use Rattle.limits.specs.Limits.{mostPeriod}
 use Rattle.labelling.specs.Labels.{Least, OutputsMet, Reachable}
 use Rattle.covers.specs.Covers.{LeastPeriod}
 use Rattle.mincut.specs.Circuit.{Circuit}

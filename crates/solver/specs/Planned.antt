@@ -7,7 +7,7 @@ use lib.ListN.{length, getD, replicate}
 use Rattle.netlist.specs.Net.{Net, IsGate}
 use Rattle.netlist.specs.Arrays.{stride, pinsIn, netIn}
 use Rattle.netlist.specs.Checks.{Passed}
-use Rattle.netbytes.specs.Limits.{leastK, mostK, mostPeriod}
+use Rattle.limits.specs.Limits.{leastK, mostK, mostPeriod, mostTable, mostPlaces}
 use Rattle.labelling.specs.Labels.{Reachable}
 use Rattle.labelling.specs.Pins.{OutPath}
 use Rattle.covers.specs.Covers.{LeastPeriod}
@@ -58,8 +58,8 @@ asWiring inputs gates outputs pins sources counts tables outs delays = record {
 -- the lengths of a wiring's arrays
 pub record Lengths (w : Wiring) : Type 0 where
   pub atPins : length (w .pins) ≡ 32
-  pub atSources : length (w .sources) ≡ 192
-  pub atCounts : length (w .counts) ≡ 192
+  pub atSources : length (w .sources) ≡ mostPlaces
+  pub atCounts : length (w .counts) ≡ mostPlaces
   pub atTables : length (w .tables) ≡ 32
   pub atOuts : length (w .«out_sources») ≡ 16
   pub atDelays : length (w .«out_counts») ≡ 16
@@ -88,10 +88,6 @@ pub record Roomy (G : ℕ) (marks sizes nodes backs luts : List ℕ) : Type 0 wh
   pub atNodes : stride * G ≤ length nodes
   pub atBacks : stride * G ≤ length backs
   pub atLuts : G ≤ length luts
-
--- most copies in the engine's table, by document 01's limits: (16 + 32) · (576 + 4)
-abbrev pub mostTable : ℕ
-mostTable = 27840
 
 -- The engine's arrays for a net, with nothing forced.
 pub record Engine (I G W B : ℕ) (ps fs so co hs ns ts os oc : List ℕ) (n : ℕ) (tops order : List ℕ) (k target : ℕ) (t : List ℕ) (ls : List ℤ) : Type 0 where

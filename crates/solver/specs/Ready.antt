@@ -13,7 +13,7 @@ use Rattle.netlist.specs.Arrays.{Arrays, stride, pinsIn, gatesIn, netIn}
 use Rattle.netlist.specs.ArrayLaws.{getD-gatesIn, gateAt, outputs-netIn}
 use Rattle.netlist.specs.Wired.{Wired, netIn-wired}
 use Rattle.netlist.specs.Checks.{Passed}
-use Rattle.netbytes.specs.Limits.{mostPeriod, mostCount}
+use Rattle.limits.specs.Limits.{mostPeriod, mostCount, mostCopies, mostTable, mostNodes, mostPlaces, mostReach}
 use Rattle.cones.specs.Ranks.{ranked}
 use Rattle.cones.specs.Reach.{reachOf}
 use Rattle.records.specs.Kept.{Kept, kept, entriesIn}
@@ -28,12 +28,11 @@ use Rattle.mincut.specs.Circuit.{circuit, Layout}
 use Rattle.mincut.specs.Chains.{Chains}
 use Rattle.mincut.specs.Links.{LinkAsked, Linked, chains}
 use Rattle.mincut.specs.Bridge.{Holds}
-use Rattle.query.specs.Question.{mostCopies}
 use Rattle.labels.specs.Visits.{Suits}
 use Rattle.labels.specs.Sweeps.{wiring, Sized, Ordered, Ceilings}
 use Rattle.solver.specs.Counts.{Counted, SumCounts, sum-reach}
 use Rattle.solver.specs.Found.{PeriodAsked}
-use Rattle.solver.specs.Planned.{Covered, Planned, Planning, Roomy, Engine, CoverTold, Lengths, mostTable}
+use Rattle.solver.specs.Planned.{Covered, Planned, Planning, Roomy, Engine, CoverTold, Lengths}
 use Rattle.solver.specs.Entries.{withLabels, entries-in}
 use Rattle.solver.specs.Engines.{zeros}
 
@@ -103,7 +102,7 @@ module _ {k target : ℕ} {w : Wiring} {first tops order : List ℕ} (p : Planni
     count = p .facts .count;
   }
 
-  pub plan-link : (heads nexts : List ℕ) → length heads ≡ 48 → length nexts ≡ 192 → LinkAsked (I + G) G (w .pins) (w .sources) heads nexts
+  pub plan-link : (heads nexts : List ℕ) → length heads ≡ mostNodes → length nexts ≡ mostPlaces → LinkAsked (I + G) G (w .pins) (w .sources) heads nexts
   plan-link heads nexts a b = record {
     pin = let c = p .facts .gates-high in let d = l .atPins in omega arith;
     source = let c = p .facts .gates-high in let d = l .atSources in omega arith;
@@ -118,7 +117,7 @@ module _ {k target : ℕ} {w : Wiring} {first tops order : List ℕ} (p : Planni
 
   module _ {m : ℕ} (s : SumCounts G (w .pins) (w .counts) 0 m) where
     -- 6 · 96
-    pub border-small : k * m ≤ 576
+    pub border-small : k * m ≤ mostReach
     border-small =
         let a : m ≤ 96 = let b = s .small in let c = p .facts .gates-high in omega arith in
         let d = mul-le-mul (p .high) a in
@@ -198,7 +197,7 @@ module _ {k target : ℕ} {w : Wiring} {first tops order : List ℕ} (p : Planni
     tabled = tabled-netIn (arraysOf w)
 
     -- **the engine's arrays**
-    pub plan-engine : (hs ns : List ℕ) → length hs ≡ 48 → length ns ≡ 192 → Linked (I + G) G (w .pins) (w .sources) hs ns (6 * G) → (t : List ℕ) → t ≡ replicate ((I + G) * (k * m + 4)) 0
+    pub plan-engine : (hs ns : List ℕ) → length hs ≡ mostNodes → length ns ≡ mostPlaces → Linked (I + G) G (w .pins) (w .sources) hs ns (6 * G) → (t : List ℕ) → t ≡ replicate ((I + G) * (k * m + 4)) 0
         → (ls : List ℤ) → length ls ≡ I + G
         → Engine I G (k * m + 4) (k * m) (w .pins) first (w .sources) (w .counts) hs ns (w .tables) (w .«out_sources») (w .«out_counts») (w .outputs) tops order k target t ls
     plan-engine hs ns a b linked t e ls f = record {

@@ -11,7 +11,7 @@ use Rattle.netlist.specs.Arrays.{stride, netIn, pinsIn}
 use Rattle.netlist.specs.ArrayLaws.{outputs-netIn}
 use Rattle.netlist.specs.Wired.{Wired, netIn-wired}
 use Rattle.netlist.specs.Checks.{Sound, Fits, Loopless, AllReached, AllLeading, Passed}
-use Rattle.netbytes.specs.Limits.{leastK, mostK, mostPeriod}
+use Rattle.limits.specs.Limits.{leastK, mostK, mostPeriod}
 use Rattle.labelling.specs.Labels.{Reachable}
 use Rattle.records.specs.Kept.{Kept}
 use Rattle.reader.specs.Answer.{arraysOf}

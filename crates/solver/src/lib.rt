@@ -3,6 +3,12 @@ use checks::check_leading;
 use checks::check_loops;
 use checks::check_reached;
 use labels::reach;
+use limits::COPIES;
+use limits::GATES;
+use limits::LIST;
+use limits::NODES;
+use limits::PLACES;
+use limits::TABLE;
 use luts::tabulate;
 use mincut::Sizes;
 use mincut::link;
@@ -16,7 +22,7 @@ ghost use mathlib.Core.Path.{_≡_};
 ghost use Prim.Native.Nat.{ℕ, max, _+_, _-_, _*_, _≤_, _<_};
 ghost use lib.ListN.{length, getD, take};
 ghost use Rattle.netlist.specs.Arrays.{netIn};
-ghost use Rattle.netbytes.specs.Limits.{mostPeriod};
+ghost use Rattle.limits.specs.Limits.{mostNodes, mostTable};
 ghost use Rattle.reader.specs.Answer.{arraysOf};
 ghost use Rattle.mincut.specs.Circuit.{circuit};
 ghost use Rattle.query.specs.Question.{AtRest};
@@ -28,7 +34,7 @@ ghost use Rattle.checks.specs.Heading.{Counted as Headed};
 ghost use Rattle.solver.specs.Checking.{GraphTold};
 ghost use Rattle.solver.specs.Settling.{Readable, Settling, SettledAs};
 ghost use Rattle.solver.specs.Found.{PeriodAsked, PeriodFound};
-ghost use Rattle.solver.specs.Planned.{Planned, Planning, Roomy, Engine, CoverTold, Lengths, asWiring, mostTable};
+ghost use Rattle.solver.specs.Planned.{Planned, Planning, Roomy, Engine, CoverTold, Lengths, asWiring};
 
 // The number of a refusal, 0 if there is none, and the period of the cover.
 pub struct Settled {
@@ -188,9 +194,9 @@ fn cover(
     requires { ⌜ Roomy (s .gates) (now marks) (now sizes) (now nodes) (now backs) (now luts) ⌝ }
     ensures { λ r. ⌜ CoverTold (s .inputs) (s .gates) (s .border) (now (pins .entry)) (now (sources .entry)) (now (counts .entry)) (now (tables .entry)) (now (outs .entry)) (now (delays .entry)) n (now (tops .entry)) k target (kept (s .inputs) (s .gates) r (now (labels .exit)) (now (marks .exit)) (now (sizes .exit)) (now (nodes .exit)) (now (backs .exit)) (now (luts .exit))) ⌝ }
 {
-    let mut inside = [0u8; 27840];
-    let mut list = [0usize; 27841];
-    let mut members = [0usize; 192];
+    let mut inside = [0u8; TABLE];
+    let mut list = [0usize; LIST];
+    let mut members = [0usize; COPIES];
     let phi = find_period(
         s,
         pins,
@@ -278,7 +284,7 @@ fn fit(
     luts: &mut [u64],
 ) -> usize
     requires { ⌜ Planning k target (asWiring inputs gates n (now pins) (now sources) (now counts) (now tables) (now outs) (now delays)) (now first) (now tops) (now order) ⌝ }
-    requires { ⌜ Lengths (asWiring inputs gates n (now pins) (now sources) (now counts) (now tables) (now outs) (now delays)) × (mostTable ≤ length (now work)) × (48 ≤ length (now labels)) × Roomy gates (now marks) (now sizes) (now nodes) (now backs) (now luts) ⌝ }
+    requires { ⌜ Lengths (asWiring inputs gates n (now pins) (now sources) (now counts) (now tables) (now outs) (now delays)) × (mostTable ≤ length (now work)) × (mostNodes ≤ length (now labels)) × Roomy gates (now marks) (now sizes) (now nodes) (now backs) (now luts) ⌝ }
     ensures { λ r. ⌜ Planned (netIn (arraysOf (asWiring inputs gates n (now (pins .entry)) (now (sources .entry)) (now (counts .entry)) (now (tables .entry)) (now (outs .entry)) (now (delays .entry))))) k target (kept inputs gates r (now (labels .exit)) (now (marks .exit)) (now (sizes .exit)) (now (nodes .exit)) (now (backs .exit)) (now (luts .exit))) ⌝ }
 {
     let m = sum_counts(gates, pins, counts);
@@ -292,8 +298,8 @@ fn fit(
         width: width,
         border: border,
     };
-    let mut heads = [0usize; 48];
-    let mut nexts = [0usize; 192];
+    let mut heads = [0usize; NODES];
+    let mut nexts = [0usize; PLACES];
     link(all, gates, pins, sources, &mut heads, &mut nexts);
     clear_first(work, total);
     cover(
@@ -339,7 +345,7 @@ fn plan(
     luts: &mut [u64],
 ) -> usize
     requires { ⌜ Planning k target net (now first) (now tops) (now order) ⌝ }
-    requires { ⌜ (mostTable ≤ length (now work)) × (48 ≤ length (now labels)) × Roomy (net .gates) (now marks) (now sizes) (now nodes) (now backs) (now luts) ⌝ }
+    requires { ⌜ (mostTable ≤ length (now work)) × (mostNodes ≤ length (now labels)) × Roomy (net .gates) (now marks) (now sizes) (now nodes) (now backs) (now luts) ⌝ }
     ensures { λ r. ⌜ Planned (netIn (arraysOf net)) k target (kept (net .inputs) (net .gates) r (now (labels .exit)) (now (marks .exit)) (now (sizes .exit)) (now (nodes .exit)) (now (backs .exit)) (now (luts .exit))) ⌝ }
 {
     let pins = net.pins;
@@ -465,7 +471,7 @@ fn settle_with(
 ) -> Settled
     requires { ⌜ Settling k target net ⌝ }
     requires { ⌜ (length (now placed) ≡ net .gates) × (length (now order) ≡ net .gates) × (length (now first) ≡ net .gates) × (length (now tops) ≡ net .gates) ⌝ }
-    requires { ⌜ (mostTable ≤ length (now work)) × (48 ≤ length (now labels)) × Roomy (net .gates) (now marks) (now sizes) (now nodes) (now backs) (now luts) ⌝ }
+    requires { ⌜ (mostTable ≤ length (now work)) × (mostNodes ≤ length (now labels)) × Roomy (net .gates) (now marks) (now sizes) (now nodes) (now backs) (now luts) ⌝ }
     ensures { λ r. ⌜ SettledAs k target net (kept (net .inputs) (net .gates) (r .period) (now (labels .exit)) (now (marks .exit)) (now (sizes .exit)) (now (nodes .exit)) (now (backs .exit)) (now (luts .exit))) (r .refusal) ⌝ }
 {
     let r = check_wiring(net, placed, order, first, tops);
@@ -517,14 +523,14 @@ pub fn settle(
     luts: &mut [u64],
 ) -> Settled
     requires { ⌜ Settling k target net ⌝ }
-    requires { ⌜ (mostTable ≤ length (now work)) × (48 ≤ length (now labels)) × Roomy (net .gates) (now marks) (now sizes) (now nodes) (now backs) (now luts) ⌝ }
+    requires { ⌜ (mostTable ≤ length (now work)) × (mostNodes ≤ length (now labels)) × Roomy (net .gates) (now marks) (now sizes) (now nodes) (now backs) (now luts) ⌝ }
     ensures { λ r. ⌜ SettledAs k target net (kept (net .inputs) (net .gates) (r .period) (now (labels .exit)) (now (marks .exit)) (now (sizes .exit)) (now (nodes .exit)) (now (backs .exit)) (now (luts .exit))) (r .refusal) ⌝ }
 {
     let gates = net.gates;
-    let mut placed = [0usize; 32];
-    let mut order = [0usize; 32];
-    let mut first = [0usize; 32];
-    let mut tops = [0usize; 32];
+    let mut placed = [0usize; GATES];
+    let mut order = [0usize; GATES];
+    let mut first = [0usize; GATES];
+    let mut tops = [0usize; GATES];
     settle_with(
         net,
         k,

@@ -14,7 +14,7 @@ use Rattle.integers.specs.Lag.{lag}
 use Rattle.netlist.specs.Arrays.{stride, copiesFrom, pinsIn}
 use Rattle.netlist.specs.Copies.{Copy}
 use Rattle.netlist.specs.Net.{Net, Pin}
-use Rattle.netbytes.specs.Limits.{mostGates}
+use Rattle.limits.specs.Limits.{mostGates}
 use Rattle.covers.specs.Key.{Entry}
 use Rattle.records.specs.Kept.{Kept, kept, entryAt, entriesFrom, entriesIn}
 use Rattle.records.specs.Listing.{lagIn, leafSum, lutSum, outputSum, registerCount}

@@ -9,7 +9,7 @@ use Rattle.integers.specs.Parts.{up, dn}
 use Rattle.integers.specs.Lag.{lag}
 use Rattle.netlist.specs.Arrays.{stride, pinsIn, copiesFrom}
 use Rattle.netlist.specs.Net.{Net}
-use Rattle.netbytes.specs.Limits.{mostGates, mostOutputs}
+use Rattle.limits.specs.Limits.{mostGates, mostOutputs, textRoom, depthRoom}
 use Rattle.covers.specs.Key.{Entry}
 use Rattle.records.specs.Kept.{Kept, kept, entriesFrom, entriesIn}
 use Rattle.records.specs.Listing.{coverText, digitText, reversed, hexLow, decimal, signed, tableText, leafText, lutWord, labelWord, lagWord, tableWord, leavesWord, newline, periodWord, lutsWord, registersWord, lutLines, lutSum, outputSum}
@@ -19,14 +19,6 @@ use Rattle.writer.specs.Writing.{ArraysHeld, LutsHeld, Below, Wrote}
 
 -- ---- what is asked, and what is told
 
--- bytes for the text: 86 for the first line and 361 for each LUT
-abbrev pub textRoom : ℕ
-textRoom = 12288
-
--- and for a refusal or an excess
-abbrev pub refusalRoom : ℕ
-refusalRoom = 29
-
 -- the cover can be written as text, with n outputs whose sources and register counts are os and oc
 pub record Listable (a : Kept) (os oc : List ℕ) (n : ℕ) (out : List ℕ) : Type 0 where
   pub arrays : ArraysHeld a
@@ -35,7 +27,7 @@ pub record Listable (a : Kept) (os oc : List ℕ) (n : ℕ) (out : List ℕ) : T
   pub outputs : n ≤ mostOutputs
   pub sources : n ≤ length os
   pub counts : n ≤ length oc
-  pub small : Below 65536 oc 0 n
+  pub small : Below depthRoom oc 0 n
   pub room : textRoom ≤ length out
 
 -- the label of a node
@@ -132,4 +124,4 @@ pub record LeavesHeld (a : Kept) : Type 0 where
   pub nodes : stride * a .gates ≤ length (a .nodes)
   pub backs : stride * a .gates ≤ length (a .backs)
   pub leaves : (g : ℕ) → g < a .gates → (getD (a .marks) g 0 ≡ 0 → ⊥) → getD (a .sizes) g 0 ≤ stride
-  pub small : (g : ℕ) → g < a .gates → (getD (a .marks) g 0 ≡ 0 → ⊥) → Below 65536 (a .backs) (stride * g) (getD (a .sizes) g 0)
+  pub small : (g : ℕ) → g < a .gates → (getD (a .marks) g 0 ≡ 0 → ⊥) → Below depthRoom (a .backs) (stride * g) (getD (a .sizes) g 0)

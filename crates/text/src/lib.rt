@@ -9,7 +9,8 @@ ghost use Rattle.records.specs.Kept.{kept, entriesFrom, entriesIn};
 ghost use Rattle.records.specs.Listing.{digit, decimal, signed, tableText, leafText, newline, refusalText, excessText, lagIn, leafSum, lutSum, outputSum};
 ghost use Rattle.signed.specs.Range.{Small, room};
 ghost use Rattle.writer.specs.Writing.{Below, Wrote};
-ghost use Rattle.text.specs.Text.{Listable, Lists, Put, hexText, lineFront, lineBack, firstLine, lineAt, linesFrom, GateAsked, GatesAsked, Within, Counted, marking, registersOf, LagsHeld, LeavesHeld, refusalRoom};
+ghost use Rattle.limits.specs.Limits.{depthRoom, mostOutputs, mostPins, refusalRoom};
+ghost use Rattle.text.specs.Text.{Listable, Lists, Put, hexText, lineFront, lineBack, firstLine, lineAt, linesFrom, GateAsked, GatesAsked, Within, Counted, marking, registersOf, LagsHeld, LeavesHeld};
 use signed::lag_of;
 use signed::whole;
 use writer::count_luts;
@@ -101,7 +102,7 @@ fn put_hex(k: usize, w: u64, at: usize, out: &mut [u8]) -> usize
 
 // The table of a LUT with n leaves.
 fn put_table(n: usize, w: u64, at: usize, out: &mut [u8]) -> usize
-    requires { ⌜ (n ≤ 6) × (at + 16 ≤ length (now out)) ⌝ }
+    requires { ⌜ (n ≤ mostPins) × (at + 16 ≤ length (now out)) ⌝ }
     ensures { λ r. ⌜ Put 16 at (tableText n w) (now (out .entry)) (now (out .exit)) r ⌝ }
 {
     let k = ((1usize << n) + 3) / 4;
@@ -171,7 +172,7 @@ fn put_back(
     at: usize,
     out: &mut [u8],
 ) -> usize
-    requires { ⌜ (n ≤ 6) × (p + n ≤ length (now nodes)) × (p + n ≤ length (now backs)) ⌝ }
+    requires { ⌜ (n ≤ mostPins) × (p + n ≤ length (now nodes)) × (p + n ≤ length (now backs)) ⌝ }
     requires { ⌜ at + 283 ≤ length (now out) ⌝ }
     ensures { λ r. ⌜ Put 283 at (lineBack n table (now (nodes .entry)) (now (backs .entry)) p) (now (out .entry)) (now (out .exit)) r ⌝ }
 {
@@ -272,7 +273,7 @@ fn plus(a: i64, b: i64) -> i64
 
 // The registers of a connection after moving, and those of the others.
 fn moved(d: usize, own: i64, other: i64, rest: i64) -> i64
-    requires { ⌜ (d < 65536) × Within 128 own × Within 128 other × Within room rest ⌝ }
+    requires { ⌜ (d < depthRoom) × Within 128 own × Within 128 other × Within room rest ⌝ }
     ensures { λ r. ⌜ r ≡ (((pos d +ℤ own) -ℤ other) +ℤ rest) ⌝ }
 {
     let n = whole(d);
@@ -318,8 +319,8 @@ fn leaf_sum(
     n: usize,
 ) -> i64
     requires { ⌜ LagsHeld (marking inputs gates period (now labels) (now marks)) ⌝ }
-    requires { ⌜ (n ≤ 6) × (p + n ≤ length (now nodes)) × (p + n ≤ length (now backs)) ⌝ }
-    requires { ⌜ Below 65536 (now backs) p n ⌝ }
+    requires { ⌜ (n ≤ mostPins) × (p + n ≤ length (now nodes)) × (p + n ≤ length (now backs)) ⌝ }
+    requires { ⌜ Below depthRoom (now backs) p n ⌝ }
     ensures { λ r. ⌜ Counted (65792 * n) (leafSum (entriesIn (marking inputs gates period (now (labels .entry)) (now (marks .entry)))) (lagIn (entriesIn (marking inputs gates period (now (labels .entry)) (now (marks .entry)))) root) (copiesFrom (now (nodes .entry)) (now (backs .entry)) p n)) r ⌝ }
 {
     if n == 0 {
@@ -404,8 +405,8 @@ fn output_sum(
     n: usize,
 ) -> i64
     requires { ⌜ LagsHeld (marking inputs gates period (now labels) (now marks)) ⌝ }
-    requires { ⌜ (n ≤ 16) × (i + n ≤ length (now outs)) × (i + n ≤ length (now delays)) ⌝ }
-    requires { ⌜ Below 65536 (now delays) i n ⌝ }
+    requires { ⌜ (n ≤ mostOutputs) × (i + n ≤ length (now outs)) × (i + n ≤ length (now delays)) ⌝ }
+    requires { ⌜ Below depthRoom (now delays) i n ⌝ }
     ensures { λ r. ⌜ Counted (65792 * n) (outputSum (entriesIn (marking inputs gates period (now (labels .entry)) (now (marks .entry)))) (pinsIn (now (outs .entry)) (now (delays .entry)) i n)) r ⌝ }
 {
     if n == 0 {
@@ -441,8 +442,8 @@ fn count_registers(
     n: usize,
 ) -> i64
     requires { ⌜ LeavesHeld (kept inputs gates period (now labels) (now marks) (now sizes) (now nodes) (now backs) []) ⌝ }
-    requires { ⌜ (n ≤ 16) × (n ≤ length (now outs)) × (n ≤ length (now delays)) ⌝ }
-    requires { ⌜ Below 65536 (now delays) 0 n ⌝ }
+    requires { ⌜ (n ≤ mostOutputs) × (n ≤ length (now outs)) × (n ≤ length (now delays)) ⌝ }
+    requires { ⌜ Below depthRoom (now delays) 0 n ⌝ }
     ensures { λ r. ⌜ Counted room (registersOf (kept inputs gates period (now (labels .entry)) (now (marks .entry)) (now (sizes .entry)) (now (nodes .entry)) (now (backs .entry)) []) (now (outs .entry)) (now (delays .entry)) n) r ⌝ }
 {
     let luts = lut_sum(inputs, gates, period, labels, marks, sizes, nodes, backs, 0);

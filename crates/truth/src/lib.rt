@@ -1,11 +1,13 @@
 // Truth tables as words of 64 bits, shifted and masked: bit i is the value in choice i of the leaves' values.
+use limits::PINS;
 ghost use mathlib.Core.Path.{_≡_};
 ghost use Prim.Native.Nat.{ℕ, _≤_, _<_};
+ghost use Rattle.limits.specs.Limits.{mostPins};
 ghost use Rattle.netlist.specs.Tables.{bit, asNumber, index};
 ghost use Rattle.truth.specs.Words.{LeafWord, valuesAt, Composed};
 
 // The words of the six leaves: bit i of word j is bit j of i.
-const LEAVES: [u64; 6] = [
+const WORDS: [u64; PINS] = [
     0xaaaaaaaaaaaaaaaa,
     0xcccccccccccccccc,
     0xf0f0f0f0f0f0f0f0,
@@ -16,10 +18,10 @@ const LEAVES: [u64; 6] = [
 
 // The word of leaf j.
 pub fn leaf_word(j: usize) -> u64
-    requires { ⌜ j < 6 ⌝ }
+    requires { ⌜ j < mostPins ⌝ }
     ensures { λ r. ⌜ LeafWord j r ⌝ }
 {
-    LEAVES[j]
+    WORDS[j]
 }
 
 // Bit `index` of a table, 0 or 1.
@@ -31,8 +33,8 @@ pub fn value_at(table: u64, index: usize) -> u64
 }
 
 // The first m words' values in choice i, as an index into a table: word j gives bit j.
-pub fn index_at(words: [u64; 6], m: usize, i: usize) -> usize
-    requires { ⌜ (m ≤ 6) × (i < 64) ⌝ }
+pub fn index_at(words: [u64; PINS], m: usize, i: usize) -> usize
+    requires { ⌜ (m ≤ mostPins) × (i < 64) ⌝ }
     ensures { λ r. ⌜ r ≡ index (valuesAt words m i) ⌝ }
 {
     let mut at = 0;
@@ -45,8 +47,8 @@ pub fn index_at(words: [u64; 6], m: usize, i: usize) -> usize
 }
 
 // The table applied to the first m words, in each of n choices.
-pub fn compose(table: u64, words: [u64; 6], m: usize, n: usize) -> u64
-    requires { ⌜ (m ≤ 6) × (n ≤ 64) ⌝ }
+pub fn compose(table: u64, words: [u64; PINS], m: usize, n: usize) -> u64
+    requires { ⌜ (m ≤ mostPins) × (n ≤ 64) ⌝ }
     ensures { λ r. ⌜ Composed table words m n r ⌝ }
 {
     let mut word = 0;

@@ -4,6 +4,7 @@ use mathlib.Core.List.{List, _++_, map}
 use Prim.Native.Nat.{ℕ, zero, suc, _+_, _*_, _≤_, _<_}
 use lib.IntN.{ℤ, pos}
 use lib.ListN.{length, getD}
+use Rattle.limits.specs.Limits.{depthRoom}
 use Rattle.integers.specs.Lag.{lag}
 use Rattle.netlist.specs.Arrays.{stride, copiesFrom}
 use Rattle.netlist.specs.Copies.{Copy}
@@ -39,7 +40,7 @@ pub record Below (limit : ℕ) (numbers : List ℕ) (at n : ℕ) : Type 0 where
 pub record LutHeld (a : Kept) (g : ℕ) : Type 0 where
   pub few : getD (a .sizes) g 0 ≤ stride
   pub nodes : Below 256 (a .nodes) (stride * g) (getD (a .sizes) g 0)
-  pub backs : Below 65536 (a .backs) (stride * g) (getD (a .sizes) g 0)
+  pub backs : Below depthRoom (a .backs) (stride * g) (getD (a .sizes) g 0)
   pub label : Small (getD (a .labels) (a .inputs + g) (pos 0))
   pub smallLag : SmallLag (lag (a .period) (getD (a .labels) (a .inputs + g) (pos 0)))
 
@@ -73,7 +74,7 @@ pub record LeavesAsked (nodes backs : List ℕ) (at n : ℕ) (area : List ℕ) :
   pub nodesHeld : at + n ≤ length nodes
   pub backsHeld : at + n ≤ length backs
   pub nodesSmall : Below 256 nodes at n
-  pub backsSmall : Below 65536 backs at n
+  pub backsSmall : Below depthRoom backs at n
   pub room : length (leafBytes (copiesFrom nodes backs at n)) ≤ length area
 
 abbrev pub lutOf : ℕ → List ℕ → List ℕ → ℕ → ℕ → ℤ → ℕ → Entry
@@ -85,7 +86,7 @@ pub record LutAsked (root : ℕ) (nodes backs : List ℕ) (at n : ℕ) (lag : �
   pub nodesHeld : at + n ≤ length nodes
   pub backsHeld : at + n ≤ length backs
   pub nodesSmall : Below 256 nodes at n
-  pub backsSmall : Below 65536 backs at n
+  pub backsSmall : Below depthRoom backs at n
   pub smallLag : SmallLag lag
   pub room : length (lutBytes (lutOf root nodes backs at n lag table)) ≤ length area
 

@@ -4,6 +4,7 @@ ghost use mathlib.Core.Bool.{cond};
 ghost use mathlib.Core.List.{[], _∷_, map};
 ghost use Prim.Native.Nat.{_+_, _≤_, _<_};
 ghost use lib.ListN.{length};
+ghost use Rattle.limits.specs.Limits.{depthRoom, mostPins};
 ghost use Rattle.netlist.specs.Arrays.{copiesFrom};
 ghost use Rattle.netlist.specs.Copies.{Copy, copy};
 ghost use Rattle.netlist.specs.Tables.{asNumber};
@@ -31,7 +32,7 @@ fn not_zero(n: usize) -> usize
 
 // The map of n leaves: bit j says that leaf j has d not 0.
 fn leaf_map(backs: &[usize], at: usize, n: usize) -> usize
-    requires { ⌜ (n ≤ 6) × (at + n ≤ length (now backs)) ⌝ }
+    requires { ⌜ (n ≤ mostPins) × (at + n ≤ length (now backs)) ⌝ }
     ensures { λ r. ⌜ r ≡ leafMap (copiesFrom [] (now (backs .entry)) at n) ⌝ }
 {
     let mut m = 0;
@@ -66,7 +67,7 @@ fn write_nodes(nodes: &[usize], at: usize, n: usize, area: &mut [u8]) -> usize
 
 // A d that is not 0, two bytes, low first.
 fn write_depth(d: usize, area: &mut [u8]) -> usize
-    requires { ⌜ (d < 65536) × (length (depths (copy 0 d ∷ [])) ≤ length (now area)) ⌝ }
+    requires { ⌜ (d < depthRoom) × (length (depths (copy 0 d ∷ [])) ≤ length (now area)) ⌝ }
     ensures { λ r. ⌜ Wrote (depths (copy 0 d ∷ [])) (now (area .entry)) (now (area .exit)) r ⌝ }
 {
     if d == 0 {
@@ -82,7 +83,7 @@ fn write_depth(d: usize, area: &mut [u8]) -> usize
 // The d's of n leaves, those that are not 0.
 fn write_depths(backs: &[usize], at: usize, n: usize, area: &mut [u8]) -> usize
     requires { ⌜ (at + n ≤ length (now backs)) × (length (depths (copiesFrom [] (now backs) at n)) ≤ length (now area)) ⌝ }
-    requires { ⌜ Below 65536 (now backs) at n ⌝ }
+    requires { ⌜ Below depthRoom (now backs) at n ⌝ }
     ensures { λ r. ⌜ Wrote (depths (copiesFrom [] (now (backs .entry)) at n)) (now (area .entry)) (now (area .exit)) r ⌝ }
 {
     let mut end = 0;
@@ -122,7 +123,7 @@ fn write_lag(lag: i64, area: &mut [u8]) -> usize
 
 // The number of table bytes of a LUT with so many leaves.
 fn table_bytes(n: usize) -> usize
-    requires { ⌜ n ≤ 6 ⌝ }
+    requires { ⌜ n ≤ mostPins ⌝ }
     ensures { λ r. ⌜ r ≡ tableBytes n ⌝ }
 {
     ((1usize << n) + 7) / 8
@@ -166,7 +167,7 @@ fn write_leaves(nodes: &[usize], backs: &[usize], at: usize, n: usize, area: &mu
 
 // The lag, and behind it the table of a LUT with n leaves.
 fn write_values(lag: i64, table: u64, n: usize, area: &mut [u8]) -> usize
-    requires { ⌜ SmallLag lag × (n ≤ 6) ⌝ }
+    requires { ⌜ SmallLag lag × (n ≤ mostPins) ⌝ }
     requires { ⌜ length (valueBytes lag n table) ≤ length (now area) ⌝ }
     ensures { λ r. ⌜ Wrote (valueBytes lag n table) (now (area .entry)) (now (area .exit)) r ⌝ }
 {

@@ -1,0 +1,135 @@
+// Document 01's limits and the sizes that follow from them, as constants of the programs.
+// specs/Limits.antt has the same numbers as definitions; `agree` is proved, so the two cannot part.
+ghost use mathlib.Core.Path.{_≡_};
+ghost use Prim.Native.Nat.{_≤_};
+ghost use Rattle.limits.specs.Limits.{mostInputs, mostGates, mostOutputs, leastK, mostK, mostCount, mostPeriod, mostLuts, coverArea, scratchArea, mostPins, mostNodes, mostPlaces, mostLeaves, mostCopies, mostReach, mostTable, mostList, textRoom, refusalRoom, lineRoom};
+
+pub const INPUTS: usize = 16;
+
+pub const GATES: usize = 32;
+
+pub const OUTPUTS: usize = 16;
+
+pub const LEAST_K: u32 = 2;
+
+pub const MOST_K: u32 = 6;
+
+pub const COUNT: usize = 3;
+
+pub const PERIOD: u32 = 32;
+
+pub const LUTS: usize = 32;
+
+pub const AREA: usize = 962;
+
+pub const SCRATCH: usize = 65536;
+
+// What follows.
+pub const PINS: usize = 6;
+
+pub const NODES: usize = INPUTS + GATES;
+
+pub const PLACES: usize = PINS * GATES;
+
+pub const LEAVES: usize = PINS * LUTS;
+
+pub const COPIES: usize = PINS * GATES;
+
+pub const REACH: usize = PINS * GATES * COUNT;
+
+pub const TABLE: usize = NODES * (REACH + COUNT + 1);
+
+pub const LIST: usize = TABLE + 1;
+
+pub const TEXT: usize = 12288;
+
+pub const ANSWER: usize = 32;
+
+pub const LINE: usize = 68;
+
+// The limits of one byte of a net or a record.
+pub const INPUTS_BYTE: u8 = INPUTS as u8;
+
+pub const GATES_BYTE: u8 = GATES as u8;
+
+pub const OUTPUTS_BYTE: u8 = OUTPUTS as u8;
+
+pub const COUNT_BYTE: u8 = COUNT as u8;
+
+pub const PERIOD_BYTE: u8 = PERIOD as u8;
+
+pub const LUTS_BYTE: u8 = LUTS as u8;
+
+// The constants in their order.
+pub struct Limits {
+    pub inputs: usize,
+    pub gates: usize,
+    pub outputs: usize,
+    pub least: u32,
+    pub most: u32,
+    pub count: usize,
+    pub period: u32,
+    pub luts: usize,
+    pub area: usize,
+    pub scratch: usize,
+    pub pins: usize,
+    pub nodes: usize,
+    pub places: usize,
+    pub leaves: usize,
+    pub copies: usize,
+    pub reach: usize,
+    pub table: usize,
+    pub list: usize,
+    pub text: usize,
+    pub answer: usize,
+    pub line: usize,
+}
+
+// The constants are the definitions.
+pub fn agree() -> Limits
+    ensures inputs { λ r. ⌜ r .inputs ≡ mostInputs ⌝ }
+    ensures gates { λ r. ⌜ r .gates ≡ mostGates ⌝ }
+    ensures outputs { λ r. ⌜ r .outputs ≡ mostOutputs ⌝ }
+    ensures least { λ r. ⌜ r .least ≡ leastK ⌝ }
+    ensures most { λ r. ⌜ r .most ≡ mostK ⌝ }
+    ensures count { λ r. ⌜ r .count ≡ mostCount ⌝ }
+    ensures period { λ r. ⌜ r .period ≡ mostPeriod ⌝ }
+    ensures luts { λ r. ⌜ r .luts ≡ mostLuts ⌝ }
+    ensures area { λ r. ⌜ r .area ≡ coverArea ⌝ }
+    ensures scratch { λ r. ⌜ r .scratch ≡ scratchArea ⌝ }
+    ensures pins { λ r. ⌜ r .pins ≡ mostPins ⌝ }
+    ensures nodes { λ r. ⌜ r .nodes ≡ mostNodes ⌝ }
+    ensures places { λ r. ⌜ r .places ≡ mostPlaces ⌝ }
+    ensures leaves { λ r. ⌜ r .leaves ≡ mostLeaves ⌝ }
+    ensures copies { λ r. ⌜ r .copies ≡ mostCopies ⌝ }
+    ensures reach { λ r. ⌜ r .reach ≡ mostReach ⌝ }
+    ensures table { λ r. ⌜ r .table ≡ mostTable ⌝ }
+    ensures list { λ r. ⌜ r .list ≡ mostList ⌝ }
+    ensures text { λ r. ⌜ r .text ≡ textRoom ⌝ }
+    ensures answer { λ r. ⌜ refusalRoom ≤ r .answer ⌝ }
+    ensures line { λ r. ⌜ r .line ≡ lineRoom ⌝ }
+{
+    Limits {
+        inputs: INPUTS,
+        gates: GATES,
+        outputs: OUTPUTS,
+        least: LEAST_K,
+        most: MOST_K,
+        count: COUNT,
+        period: PERIOD,
+        luts: LUTS,
+        area: AREA,
+        scratch: SCRATCH,
+        pins: PINS,
+        nodes: NODES,
+        places: PLACES,
+        leaves: LEAVES,
+        copies: COPIES,
+        reach: REACH,
+        table: TABLE,
+        list: LIST,
+        text: TEXT,
+        answer: ANSWER,
+        line: LINE,
+    }
+}
