@@ -1,33 +1,31 @@
 -- Labels at the start, and what they are at the end.
-use mathlib.Core.Path.{_≡_, refl, sym, ap, _∙_, subst}
+use mathlib.Core.Path.{_≡_, refl, sym, _∙_, subst}
 use mathlib.Core.List.{List}
 use mathlib.Core.Bool.{Bool, true, false, false≢true}
-use Prim.Native.Nat.{ℕ, zero, suc, _+_, _-_, _*_, _/_, _≤_, _<_}
+use Prim.Native.Nat.{ℕ, suc, _+_, _*_, _/_, _≤_, _<_}
 use native.Mathlib.Nat.{div-lt-iff-lt-mul, mul-le-mul-left, zero-add, mul-comm, le-div-iff-mul-le}
 use native.Mathlib.Decide.{ℕ-discrete, decLt}
 use native.Mathlib.Omega.{arith}
-use lib.IntN.{ℤ, pos, negsuc, _+ℤ_, _-ℤ_}
+use lib.IntN.{ℤ, pos, negsuc, _-ℤ_}
 use lib.ListN.{length, getD, set, length-set, List·getD-eq-default}
 use lib.Seq.{getD-set-same, getD-set-other}
-use lib.Signed.{_≤ℤ_, _<ℤ_}
-use Rattle.integers.specs.Parts.{ints, sub-parts, +-parts}
-use Rattle.integers.specs.Height.{height, height-parts}
+use lib.Signed.{_≤ℤ_}
+use Rattle.integers.specs.Parts.{ints, sub-parts}
+use Rattle.integers.specs.Height.{height-parts}
 use Rattle.sequences.specs.Member.{_∈_}
-use Rattle.netlist.specs.Net.{Net, Pin, IsGate, IsInput}
+use Rattle.netlist.specs.Net.{Net, Pin, IsGate}
 use Rattle.netlist.specs.Arrays.{pinsIn}
 use Rattle.netlist.specs.ArrayLaws.{pinAt, pinsIn-in, in-pinsIn}
 use Rattle.cones.specs.Reach.{reachOf}
-use Rattle.labelling.specs.Labels.{Labelling, Least, OutputsMet, Reachable}
+use Rattle.labelling.specs.Labels.{Labelling, OutputsMet}
 use Rattle.labelling.specs.Lower.{outputs-under}
 use Rattle.labelling.specs.Floor.{floor}
-use Rattle.labelling.specs.Bounds.{LowerBound}
 use Rattle.signed.specs.Range.{Small, room}
 use Rattle.mincut.specs.Circuit.{Circuit}
-use Rattle.limits.specs.Limits.{mostCopies}
 use Rattle.query.specs.Question.{labelIn}
-use Rattle.labels.specs.Visits.{Suits, Bounds, Refuted, Quiet, quiet-least}
-use Rattle.labels.specs.Visiting.{small-between}
-use Rattle.labels.specs.Sweeps.{wiring, heightAt, PinFits, Filled, OutFits, Sized, Ready, Fine, Settling, Labelled}
+use Rattle.visits.specs.Visits.{Bounds, quiet-least, wiring, heightAt, Ready, Fine}
+use Rattle.visits.specs.Visiting.{small-between}
+use Rattle.labels.specs.Sweeps.{Filled, OutFits, Sized, Settling, Labelled}
 
 pub filled-none : (ls : List ℤ) (from : ℕ) (z : ℤ) → Filled ls ls from from z
 filled-none ls from z = record { size = refl; between = λ u h l. absurd (omega (arith, h, l)); before = λ u h. refl; behind = λ u h. refl }

@@ -7,8 +7,8 @@ use native.Mathlib.Omega.{arith}
 use lib.IntN.{ℤ}
 use lib.ListN.{getD}
 use Rattle.mincut.specs.Circuit.{Circuit}
-use Rattle.labels.specs.Visits.{Quiet, Bounds, Refuted}
-use Rattle.labels.specs.Sweeps.{Fine, left, Visited, IfRose, QuietFrom, Sweep, Swept, Outcome, Ordered, Settling}
+use Rattle.visits.specs.Visits.{Quiet, Fine, left, Visited}
+use Rattle.labels.specs.Sweeps.{IfRose, QuietFrom, Sweep, Swept, Outcome, Ordered, Settling}
 
 -- what is left falls with each sweep that is followed by another, and the last one ends
 pub fallen : {a b : ℕ} (r : ℕ) → r ≤ 2 → (q : ℕ) → q ≡ 1 → b ≤ a → (r ≡ 1 → b < a) → b + r % 2 < a + q % 2

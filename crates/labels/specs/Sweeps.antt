@@ -1,127 +1,18 @@
 -- What the functions of the sweep ask and tell.
-use mathlib.Core.Path.{_≡_, refl, sym, ap, _∙_, subst}
-use mathlib.Core.List.{List, []}
+use mathlib.Core.Path.{_≡_}
+use mathlib.Core.List.{List}
 use mathlib.Core.Bool.{Bool, true, false}
-use Prim.Native.Nat.{ℕ, zero, suc, _+_, _-_, _*_, _≤_, _<_}
-use lib.IntN.{ℤ, pos, _+ℤ_, _-ℤ_}
-use lib.ListN.{length, getD, set}
-use lib.Signed.{_≤ℤ_, _<ℤ_, ≤ℤ-refl}
-use native.Mathlib.Omega.{arith}
-use native.Mathlib.Decide.{ℕ-discrete}
-use Rattle.integers.specs.Order.{≤ℤ-trans, ≤ℤ-antisym}
-use Rattle.integers.specs.Parts.{up, ints, sub-parts, +-parts}
+use Prim.Native.Nat.{ℕ, _+_, _*_, _≤_, _<_}
+use lib.IntN.{ℤ}
+use lib.ListN.{length, getD}
 use Rattle.netlist.specs.Net.{Net}
 use Rattle.netlist.specs.Arrays.{pinsIn}
 use Rattle.labelling.specs.Labels.{Least, OutputsMet, Reachable}
-use Rattle.signed.specs.Range.{Small, room}
-use Rattle.mincut.specs.Circuit.{Circuit, circuit}
+use Rattle.signed.specs.Range.{room}
+use Rattle.mincut.specs.Circuit.{Circuit}
 use Rattle.limits.specs.Limits.{mostCopies}
 use Rattle.query.specs.Question.{labelIn}
-use Rattle.labels.specs.Visits.{Suits, PinMax, Quiet, Bounds, Refuted}
-
--- the wiring alone
-abbrev pub wiring : ℕ → ℕ → ℕ → List ℕ → List ℕ → List ℕ → Circuit
-wiring inputs gates border pins sources counts = circuit inputs gates 0 border pins [] sources counts [] [] []
-
--- label(u) − φ·w for the pin at place i
-abbrev pub heightAt : List ℕ → List ℕ → List ℤ → ℕ → ℕ → ℤ
-heightAt sources counts ls φ i = labelIn ls (getD sources i 0) -ℤ pos (φ * getD counts i 0)
-
-pub less-none : (z : ℤ) → (z -ℤ pos 0) ≡ z
-less-none z = ≤ℤ-antisym (omega (arith, ints, sub-parts z (pos 0))) (omega (arith, ints, sub-parts z (pos 0)))
-
--- what a test told, of equal numbers
-pub told-of : {b : Bool} {x x′ y y′ : ℤ} → x ≡ x′ → y ≡ y′ → (b ≡ true → x <ℤ y) × (b ≡ false → y ≤ℤ x) → (b ≡ true → x′ <ℤ y′) × (b ≡ false → y′ ≤ℤ x′)
-told-of e f t = (λ h. rw (sym e, sym f) (t .0 h), λ h. rw (sym e, sym f) (t .1 h))
-
--- the pin at place i can be read, and its number does not overflow
-pub record PinFits (sources counts : List ℕ) (ls : List ℤ) (φ i : ℕ) : Type 0 where
-  pub source : i < length sources
-  pub count : i < length counts
-  pub node : getD sources i 0 < length ls
-  pub small : Small (labelIn ls (getD sources i 0))
-  pub shift : φ * getD counts i 0 ≤ room
-
--- r is one of n pins from place `at` on, and none of them is higher
-pub record Best (sources counts : List ℕ) (ls : List ℤ) (φ at n r : ℕ) : Type 0 where
-  pub bound : r < n
-  pub above : (j : ℕ) → j < n → heightAt sources counts ls φ (at + j) ≤ℤ heightAt sources counts ls φ (at + r)
-
-module _ (sources counts : List ℕ) (ls : List ℤ) (φ at : ℕ) where
-  pub best-one : Best sources counts ls φ at 1 0
-  best-one = record { bound = omega arith; above = above }
-    where
-      above : (j : ℕ) → j < 1 → heightAt sources counts ls φ (at + j) ≤ℤ heightAt sources counts ls φ (at + 0)
-      above zero h = ≤ℤ-refl (heightAt sources counts ls φ (at + 0))
-      above (suc j) h = absurd (omega (arith, h))
-
-  -- a further pin, higher than all or not
-  further : {j : ℕ} (r : ℕ) → ((i : ℕ) → i < j → heightAt sources counts ls φ (at + i) ≤ℤ heightAt sources counts ls φ (at + r))
-      → heightAt sources counts ls φ (at + j) ≤ℤ heightAt sources counts ls φ (at + r)
-      → (i : ℕ) → i < suc j → heightAt sources counts ls φ (at + i) ≤ℤ heightAt sources counts ls φ (at + r)
-  further {j} r f h i l = go (ℕ-discrete i j)
-    where
-      go : Dec (i ≡ j) → heightAt sources counts ls φ (at + i) ≤ℤ heightAt sources counts ls φ (at + r)
-      go (yes e) = rw e h
-      go (no n) = f i (omega arith)
-
-  pub best-more : {j b : ℕ} → Best sources counts ls φ at j b → heightAt sources counts ls φ (at + b) <ℤ heightAt sources counts ls φ (at + j) → Best sources counts ls φ at (j + 1) j
-  best-more {j} {b} B h = record {
-    bound = omega arith;
-    above = λ i l. further j (λ i′ l′. let a = B .above i′ l′ in omega (arith, ints)) (≤ℤ-refl (heightAt sources counts ls φ (at + j))) i (omega arith);
-  }
-
-  pub best-kept : {j b : ℕ} → Best sources counts ls φ at j b → heightAt sources counts ls φ (at + j) ≤ℤ heightAt sources counts ls φ (at + b) → Best sources counts ls φ at (j + 1) b
-  best-kept {j} {b} B h = record { bound = let a = B .bound in omega arith; above = λ i l. further b (B .above) h i (omega arith) }
-
-  pub best-at : {m n b : ℕ} → m ≡ n → Best sources counts ls φ at m b → Best sources counts ls φ at n b
-  best-at {b = b} e B = subst (λ (x : ℕ). Best sources counts ls φ at x b) e B
-
--- the label of v raised to p, unless it is p
-pub record Raised (ls ls′ : List ℤ) (v : ℕ) (p : ℤ) (r : ℕ) : Type 0 where
-  pub bound : r < 2
-  pub lower : r ≡ 1 → (labelIn ls v <ℤ p) × (ls′ ≡ set ls v p)
-  pub there : r ≡ 0 → (labelIn ls v ≡ p) × (ls′ ≡ ls)
-
-pub raise-lower : (ls : List ℤ) (v : ℕ) (p q : ℤ) → q ≡ p → labelIn ls v <ℤ p → Raised ls (set ls v q) v p 1
-raise-lower ls v p q e h = record { bound = omega arith; lower = λ i. (h, ap (set ls v) e); there = λ i. absurd (omega (arith, i)) }
-
-pub raise-there : (ls : List ℤ) (v : ℕ) (p : ℤ) → labelIn ls v ≤ℤ p → p ≤ℤ labelIn ls v → Raised ls ls v p 0
-raise-there ls v p h l = record { bound = omega arith; lower = λ i. absurd (omega (arith, i)); there = λ i. (≤ℤ-antisym h l, refl) }
-
--- labels for all nodes, far from the ends of 64 bits
-pub record Fine (C : Circuit) (ls : List ℤ) : Type 0 where
-  pub size : length ls ≡ C .inputs + C .gates
-  pub small : (u : ℕ) → Small (labelIn ls u)
-
--- what the engine needs of labels and sizes
-pub record Ready (I G width : ℕ) (ls : List ℤ) (φ k : ℕ) : Type 0 where
-  pub size : length ls ≡ I + G
-  pub small : (u : ℕ) → Small (labelIn ls u)
-  pub shift : φ * width ≤ room
-  pub least : 1 ≤ k
-  pub copies : k * G ≤ mostCopies
-
--- ceilings that do not overflow
-pub record Ceilings (C : Circuit) (φ : ℕ) (tops : List ℕ) : Type 0 where
-  pub size : C .gates ≤ length tops
-  pub top : (g : ℕ) → g < C .gates → φ * getD tops g 0 < room
-
--- what is left below the ceilings of the first n gates
-unfoldable pub left : Circuit → ℕ → List ℕ → List ℤ → ℕ → ℕ
-left C φ tops ls zero = 0
-left C φ tops ls (suc n) = up (pos (φ * getD tops n 0) -ℤ labelIn ls (C .inputs + n)) + left C φ tops ls n
-
--- One visit of gate g. 0: nothing can change. 1: its label rose. 2: it would pass its ceiling.
-pub record Visited (C : Circuit) (k φ : ℕ) (tops : List ℕ) (ls ls′ : List ℤ) (g r : ℕ) : Type 0 where
-  pub most : r ≤ 2
-  pub fine : Fine C ls′
-  pub bounds : Bounds C k φ tops ls → Bounds C k φ tops ls′
-  pub same : r ≡ 0 → ls′ ≡ ls
-  pub quiet : r ≡ 0 → Quiet C k φ tops ls g
-  pub less : left C φ tops ls′ (C .gates) ≤ left C φ tops ls (C .gates)
-  pub falls : r ≡ 1 → left C φ tops ls′ (C .gates) < left C φ tops ls (C .gates)
-  pub refuted : r ≡ 2 → Bounds C k φ tops ls → Refuted C k φ tops
+use Rattle.visits.specs.Visits.{Suits, Quiet, Bounds, Refuted, PinFits, Fine, left}
 
 -- a where a visit raised a label, else b
 abbrev pub IfRose : ℕ → ℕ → ℕ → ℕ → Type 0

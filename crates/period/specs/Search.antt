@@ -18,8 +18,8 @@ use Rattle.covers.specs.Period.{gates-reach}
 use Rattle.mincut.specs.Circuit.{Circuit}
 use Rattle.limits.specs.Limits.{mostCopies}
 use Rattle.query.specs.Question.{labelIn}
-use Rattle.labels.specs.Visits.{Suits}
-use Rattle.labels.specs.Sweeps.{wiring, Fine, Sized, Ceilings, Labelled}
+use Rattle.visits.specs.Visits.{Suits, Fine, Ceilings}
+use Rattle.labels.specs.Sweeps.{Sized, Labelled}
 
 -- no period below φ is reachable
 pub record NoneBelow (C : Circuit) (k : ℕ) (tops os oc : List ℕ) (n φ : ℕ) : Type 0 where

@@ -6,7 +6,8 @@ ghost use Prim.Native.Nat.{ℕ, _+_, _*_, _≤_, _<_};
 ghost use lib.ListN.{length, getD};
 ghost use Rattle.mincut.specs.Circuit.{circuit};
 ghost use Rattle.query.specs.Question.{AtRest};
-ghost use Rattle.labels.specs.Sweeps.{wiring, Sized, Ordered, Ceilings};
+ghost use Rattle.visits.specs.Visits.{wiring, Ceilings};
+ghost use Rattle.labels.specs.Sweeps.{Sized, Ordered};
 ghost use Rattle.period.specs.Search.{Period};
 
 // The least period, with its least labelling left in labels.

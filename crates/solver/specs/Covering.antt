@@ -22,8 +22,7 @@ use Rattle.cone.specs.Words.{Tabled}
 use Rattle.mincut.specs.Bridge.{Holds}
 use Rattle.query.specs.Question.{labelIn}
 use Rattle.query.specs.Forcing.{wires}
-use Rattle.labels.specs.Visits.{Suits}
-use Rattle.labels.specs.Sweeps.{wiring}
+use Rattle.visits.specs.Visits.{Suits, wiring}
 use Rattle.roots.specs.Choosing.{Keyed, RootsTold}
 use Rattle.luts.specs.Luts.{Tabulated}
 use Rattle.solver.specs.Found.{PeriodFound}

@@ -15,7 +15,7 @@ use Rattle.mincut.specs.Circuit.{circuit}
 use Rattle.mincut.specs.Bridge.{Holds}
 use Rattle.query.specs.Question.{AtRest}
 use Rattle.query.specs.Forcing.{wires}
-use Rattle.labels.specs.Sweeps.{wiring}
+use Rattle.visits.specs.Visits.{wiring}
 use Rattle.roots.specs.Choosing.{Chooses, RootsTold}
 use Rattle.luts.specs.Luts.{Tabulates}
 use Rattle.solver.specs.Found.{PeriodFound}

@@ -14,8 +14,8 @@ use Rattle.labelling.specs.Labels.{Least, OutputsMet, Reachable}
 use Rattle.covers.specs.Covers.{LeastPeriod}
 use Rattle.mincut.specs.Circuit.{Circuit}
 use Rattle.query.specs.Question.{labelIn}
-use Rattle.labels.specs.Visits.{Suits}
-use Rattle.labels.specs.Sweeps.{wiring, Fine, Sized, Ordered, Ceilings, Labelled}
+use Rattle.visits.specs.Visits.{Suits, wiring, Fine, Ceilings}
+use Rattle.labels.specs.Sweeps.{Sized, Ordered, Labelled}
 use Rattle.period.specs.Search.{Period, sized-less, ceilings-less}
 
 -- arrays for labels, outputs, ceilings and order; a target and gates within the limits

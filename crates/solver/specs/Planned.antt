@@ -21,8 +21,7 @@ use Rattle.cone.specs.Lists.{Wires}
 use Rattle.cone.specs.Words.{Tabled}
 use Rattle.mincut.specs.Circuit.{circuit, Layout}
 use Rattle.mincut.specs.Chains.{Chains}
-use Rattle.labels.specs.Visits.{Suits}
-use Rattle.labels.specs.Sweeps.{wiring}
+use Rattle.visits.specs.Visits.{Suits, wiring}
 use Rattle.solver.specs.Found.{PeriodAsked}
 
 -- The cover kept in a is the one written for N, k and the period kept.

@@ -28,8 +28,8 @@ use Rattle.mincut.specs.Circuit.{circuit, Layout}
 use Rattle.mincut.specs.Chains.{Chains}
 use Rattle.mincut.specs.Links.{LinkAsked, Linked, chains}
 use Rattle.mincut.specs.Bridge.{Holds}
-use Rattle.labels.specs.Visits.{Suits}
-use Rattle.labels.specs.Sweeps.{wiring, Sized, Ordered, Ceilings}
+use Rattle.visits.specs.Visits.{Suits, wiring, Ceilings}
+use Rattle.labels.specs.Sweeps.{Sized, Ordered}
 use Rattle.solver.specs.Counts.{Counted, SumCounts, sum-reach}
 use Rattle.solver.specs.Found.{PeriodAsked}
 use Rattle.solver.specs.Planned.{Covered, Planned, Planning, Roomy, Engine, CoverTold, Lengths}

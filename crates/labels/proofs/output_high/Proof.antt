@@ -1,6 +1,6 @@
 use Rattle.signed.specs.RangeLaws.{ltZ-true, ltZ-false}
-use Rattle.labels.specs.Visiting.{height-back}
-use Rattle.labels.specs.Sweeps.{heightAt}
+use Rattle.visits.specs.Visiting.{height-back}
+use Rattle.visits.specs.Visits.{heightAt}
 use mir.Val.{toZ, ofZ}
 use mir.Syntax.{w64}
 use Rattle.query.specs.Question.{labelIn}
@@ -17,7 +17,7 @@ use Rattle.labels.proofs.output_high.Statement.{statement}
 use Rattle.labels.proofs.output_high.Tie as tie
 use Rattle.labels.proofs.output_high.Reads as reads
 use Rattle.labels.proofs.output_high.Lts as lts
-use Rattle.labels.proofs.pin_height.Reads as pin-height-reads
+use Rattle.visits.proofs.pin_height.Reads as pin-height-reads
 use Rattle.signed.proofs.whole.Reads as whole-reads
 
 -- src/lib.rt:323:9

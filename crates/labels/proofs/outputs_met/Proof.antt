@@ -1,4 +1,4 @@
-use Rattle.labels.specs.Sweeps.{heightAt}
+use Rattle.visits.specs.Visits.{heightAt}
 use Rattle.integers.specs.Parts.{ints}
 use mathlib.Core.Bool.{true, false, true≢false, false≢true}
 use lib.Signed.{_≤ℤ_, _<ℤ_}

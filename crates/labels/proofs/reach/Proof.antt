@@ -1,5 +1,5 @@
 use Rattle.labels.specs.Starting.{small-low, low-shift, ready-of, start-bounds, labelled-past, labelled-rest, out-fits, rest-zero}
-use Rattle.labels.specs.Sweeps.{wiring}
+use Rattle.visits.specs.Visits.{wiring}
 use mir.Val.{toZ, ofZ}
 use mir.Syntax.{w64}
 use Prim.Native.Nat.{ℕ, _+_, _-_, _*_, _/_, _≤_, _<_}

@@ -1,6 +1,7 @@
 use Rattle.labels.specs.Sweeping.{settling-first, settling-next, quiet-none, next-stop, swept-falls, fallen}
-use Rattle.labels.specs.Visiting.{ready-fine, ready-after}
-use Rattle.labels.specs.Sweeps.{wiring, left, QuietFrom, Settling}
+use Rattle.visits.specs.Visiting.{ready-fine, ready-after}
+use Rattle.visits.specs.Visits.{wiring, left}
+use Rattle.labels.specs.Sweeps.{QuietFrom, Settling}
 use Rattle.query.specs.Question.{AtRest}
 use Rattle.mincut.specs.Circuit.{circuit}
 use Prim.Native.Nat.{_+_, _%_, _≤_}

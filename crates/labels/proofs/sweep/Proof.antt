@@ -1,6 +1,7 @@
 use Rattle.labels.specs.Sweeping.{sweep-none, sweep-next, swept-end, swept-past}
-use Rattle.labels.specs.Visiting.{ready-few, ready-fine, ready-after}
-use Rattle.labels.specs.Sweeps.{wiring, Sweep}
+use Rattle.visits.specs.Visiting.{ready-few, ready-fine, ready-after}
+use Rattle.visits.specs.Visits.{wiring}
+use Rattle.labels.specs.Sweeps.{Sweep}
 use Rattle.query.specs.Question.{AtRest}
 use Rattle.mincut.specs.Circuit.{circuit}
 use borrow.Author.Needs.{needs}
@@ -13,7 +14,7 @@ use Rattle.labels.proofs.sweep.Tie as tie
 use Rattle.labels.proofs.sweep.Reads as reads
 use Rattle.labels.proofs.sweep.Lts as lts
 use Rattle.labels.proofs.if_rose.Reads as if-rose-reads
-use Rattle.labels.proofs.visit.Reads as visit-reads
+use Rattle.visits.proofs.visit.Reads as visit-reads
 
 abbrev Inv-loop : tie.InvT-loop
 Inv-loop s pins first sources counts heads nexts inside₀ table₀ list₀ members₀ labels₀ tops order phi k stop last₀ end₀ i₀ inside table list members labels last end i =

@@ -1,5 +1,5 @@
 use Rattle.period.specs.Search.{NoneBelow, sized-less, sized-few, ceilings-less, none-first, none-next, period-found, period-last}
-use Rattle.labels.specs.Sweeps.{wiring}
+use Rattle.visits.specs.Visits.{wiring}
 use Rattle.query.specs.Question.{AtRest}
 use Rattle.mincut.specs.Circuit.{circuit}
 use borrow.Author.Needs.{needs}

@@ -9,10 +9,10 @@ use native.Mathlib.Omega.{arith}
 use lib.IntN.{ℤ, pos, _+ℤ_, _-ℤ_}
 use mathlib.Core.Path.{_≡_, refl, sym, ap, _∙_, subst}
 use borrow.Author.Needs.{needs}
-use Rattle.labels.proofs.higher.Statement.{statement}
-use Rattle.labels.proofs.higher.Tie as tie
-use Rattle.labels.proofs.higher.Reads as reads
-use Rattle.labels.proofs.higher.Lts as lts
+use Rattle.visits.proofs.higher.Statement.{statement}
+use Rattle.visits.proofs.higher.Tie as tie
+use Rattle.visits.proofs.higher.Reads as reads
+use Rattle.visits.proofs.higher.Lts as lts
 
 -- src/lib.rt:204:9
 mul-result : tie.Need-mul-result

@@ -1,4 +1,4 @@
-use Rattle.labels.specs.Sweeps.{best-more, best-kept}
+use Rattle.visits.specs.VisitLaws.{best-more, best-kept}
 use Rattle.query.specs.Question.{labelIn}
 use Rattle.signed.specs.RangeLaws.{back, fits-of, small-fits, minus-mag, plus-mag}
 use Rattle.signed.specs.Range.{Small, room}
@@ -9,11 +9,11 @@ use native.Mathlib.Omega.{arith}
 use lib.IntN.{ℤ, pos, _+ℤ_, _-ℤ_}
 use mathlib.Core.Path.{_≡_, refl, sym, ap, _∙_, subst}
 use borrow.Author.Needs.{needs}
-use Rattle.labels.proofs.better.Statement.{statement}
-use Rattle.labels.proofs.better.Tie as tie
-use Rattle.labels.proofs.better.Reads as reads
-use Rattle.labels.proofs.better.Lts as lts
-use Rattle.labels.proofs.pin_less.Reads as pin-less-reads
+use Rattle.visits.proofs.better.Statement.{statement}
+use Rattle.visits.proofs.better.Tie as tie
+use Rattle.visits.proofs.better.Reads as reads
+use Rattle.visits.proofs.better.Lts as lts
+use Rattle.visits.proofs.pin_less.Reads as pin-less-reads
 
 -- src/lib.rt:42:47
 add-pin-less : tie.Need-add-pin-less

@@ -1,8 +1,8 @@
 use lib.Signed.{_≤ℤ_}
 use mir.Val.{toZ, ofZ}
 use mir.Syntax.{w64}
-use Rattle.labels.specs.Visiting.{pinmax-at, answers-wiring, asks-of, raised-ready, raised-changed, ready-fine, small-next, visit-cut, visit-lift, visit-over, visit-past}
-use Rattle.labels.specs.Sweeps.{wiring}
+use Rattle.visits.specs.Visiting.{pinmax-at, answers-wiring, asks-of, raised-ready, raised-changed, ready-fine, small-next, visit-cut, visit-lift, visit-over, visit-past}
+use Rattle.visits.specs.Visits.{wiring}
 use Rattle.integers.specs.Parts.{ints}
 use Rattle.query.specs.Question.{labelIn}
 use Rattle.signed.specs.RangeLaws.{back, fits-of, small-fits, minus-mag, plus-mag}
@@ -14,14 +14,14 @@ use native.Mathlib.Omega.{arith}
 use lib.IntN.{ℤ, pos, _+ℤ_, _-ℤ_}
 use mathlib.Core.Path.{_≡_, refl, sym, ap, _∙_, subst}
 use borrow.Author.Needs.{needs}
-use Rattle.labels.proofs.try_label.Statement.{statement}
-use Rattle.labels.proofs.try_label.Tie as tie
-use Rattle.labels.proofs.try_label.Reads as reads
-use Rattle.labels.proofs.try_label.Lts as lts
-use Rattle.labels.proofs.below.Reads as below-reads
-use Rattle.labels.proofs.lift.Reads as lift-reads
+use Rattle.visits.proofs.try_label.Statement.{statement}
+use Rattle.visits.proofs.try_label.Tie as tie
+use Rattle.visits.proofs.try_label.Reads as reads
+use Rattle.visits.proofs.try_label.Lts as lts
+use Rattle.visits.proofs.below.Reads as below-reads
+use Rattle.visits.proofs.lift.Reads as lift-reads
 use Rattle.query.proofs.question.Reads as question-reads
-use Rattle.labels.proofs.raise.Reads as raise-reads
+use Rattle.visits.proofs.raise.Reads as raise-reads
 
 -- src/lib.rt:146:13
 add-v : tie.Need-add-v

@@ -1,4 +1,4 @@
-use Rattle.labels.specs.Sweeps.{told-of, less-none, raise-lower, raise-there}
+use Rattle.visits.specs.VisitLaws.{told-of, less-none, raise-lower, raise-there}
 use Rattle.query.specs.Question.{labelIn}
 use Rattle.signed.specs.RangeLaws.{back, fits-of, small-fits, minus-mag, plus-mag}
 use Rattle.signed.specs.Range.{Small, room}
@@ -9,10 +9,10 @@ use native.Mathlib.Omega.{arith}
 use lib.IntN.{ℤ, pos, _+ℤ_, _-ℤ_}
 use mathlib.Core.Path.{_≡_, refl, sym, ap, _∙_, subst}
 use borrow.Author.Needs.{needs}
-use Rattle.labels.proofs.raise.Statement.{statement}
-use Rattle.labels.proofs.raise.Tie as tie
-use Rattle.labels.proofs.raise.Reads as reads
-use Rattle.labels.proofs.raise.Lts as lts
+use Rattle.visits.proofs.raise.Statement.{statement}
+use Rattle.visits.proofs.raise.Tie as tie
+use Rattle.visits.proofs.raise.Reads as reads
+use Rattle.visits.proofs.raise.Lts as lts
 use Rattle.signed.proofs.no_higher.Reads as no-higher-reads
 
 -- src/lib.rt:58:18

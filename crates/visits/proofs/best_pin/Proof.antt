@@ -1,4 +1,5 @@
-use Rattle.labels.specs.Sweeps.{Best, best-one, best-at}
+use Rattle.visits.specs.Visits.{Best}
+use Rattle.visits.specs.VisitLaws.{best-one, best-at}
 use borrow.Author.Needs.{needs}
 use Rattle.query.specs.Question.{labelIn}
 use Rattle.signed.specs.RangeLaws.{back, fits-of, small-fits, minus-mag, plus-mag}
@@ -9,11 +10,11 @@ use denote.Ref.{now}
 use native.Mathlib.Omega.{arith}
 use lib.IntN.{ℤ, pos, _+ℤ_, _-ℤ_}
 use mathlib.Core.Path.{_≡_, refl, sym, ap, _∙_, subst}
-use Rattle.labels.proofs.best_pin.Statement.{statement}
-use Rattle.labels.proofs.best_pin.Tie as tie
-use Rattle.labels.proofs.best_pin.Reads as reads
-use Rattle.labels.proofs.best_pin.Lts as lts
-use Rattle.labels.proofs.better.Reads as better-reads
+use Rattle.visits.proofs.best_pin.Statement.{statement}
+use Rattle.visits.proofs.best_pin.Tie as tie
+use Rattle.visits.proofs.best_pin.Reads as reads
+use Rattle.visits.proofs.best_pin.Lts as lts
+use Rattle.visits.proofs.better.Reads as better-reads
 
 abbrev Inv-loop : tie.InvT-loop
 Inv-loop sources counts labels phi at n best₀ j₀ best j = (j ≤ n) × Best sources counts labels phi at j best

@@ -1,30 +1,31 @@
 -- One visit of a gate in the sweep: what it keeps, when nothing can change, and when it refutes.
-use mathlib.Core.Path.{_≡_, refl, sym, ap, _∙_, subst, fun-ext}
-use mathlib.Core.List.{List, [], _∷_}
+use mathlib.Core.Path.{_≡_, sym, ap, _∙_, subst, fun-ext}
+use mathlib.Core.List.{List, []}
 use mathlib.Core.Logic.{_⊎_, inl, inr}
 use Prim.Native.Nat.{ℕ, zero, suc, _+_, _-_, _*_, _≤_, _<_}
-use native.Mathlib.Decide.{ℕ-discrete, decLt}
+use native.Mathlib.Decide.{ℕ-discrete}
 use native.Mathlib.Omega.{arith}
 use lib.IntN.{ℤ, pos, _+ℤ_, _-ℤ_}
-use lib.ListN.{length, getD, set, length-set}
+use lib.ListN.{length, getD, set}
 use lib.Seq.{getD-set-same, getD-set-other}
-use lib.Signed.{_≤ℤ_, _<ℤ_, ≤ℤ-refl}
-use Rattle.integers.specs.Parts.{ints, +-parts, sub-parts}
-use Rattle.integers.specs.Order.{≤ℤ-trans, ≤ℤ-antisym}
+use lib.Signed.{_≤ℤ_, _<ℤ_}
+use Rattle.integers.specs.Parts.{up, ints, +-parts}
+use Rattle.integers.specs.Order.{≤ℤ-trans}
 use Rattle.sequences.specs.Member.{_∈_}
-use Rattle.netlist.specs.Net.{Net, Pin, IsGate, IsInput, pins}
+use Rattle.netlist.specs.Net.{Net, Pin, IsGate, pins}
 use Rattle.netlist.specs.Arrays.{stride}
 use Rattle.netlist.specs.ArrayLaws.{pinAt, pinsIn-in, in-pinsIn}
 use Rattle.netlist.specs.Checks.{Sound, Fits, Loopless}
-use Rattle.netlist.specs.Copies.{Copy}
 use Rattle.cones.specs.Ranks.{Ranked}
 use Rattle.cones.specs.Reach.{reachOf}
-use Rattle.labelling.specs.Labels.{Low, LowCut, Labelling, Least, OutputsMet}
+use Rattle.labelling.specs.Labels.{LowCut, Labelling, Least, OutputsMet}
 use Rattle.labelling.specs.Lower.{relabel, replace, replace-same, replace-other}
 use Rattle.labelling.specs.Pins.{OutPath}
 use Rattle.labelling.specs.Bounds.{LowerBound, PinsReach, pin-bound, raised, refutes, alone-cut, settled-least}
 use Rattle.labelling.specs.Forced.{Falling, separation-cut}
-use Rattle.mincut.specs.Circuit.{Circuit}
+use Rattle.limits.specs.Limits.{mostCopies}
+use Rattle.signed.specs.Range.{Small, room}
+use Rattle.mincut.specs.Circuit.{Circuit, circuit}
 use Rattle.mincut.specs.Bridge.{Holds}
 use Rattle.query.specs.Question.{labelIn, Answers, Separated}
 
@@ -63,6 +64,67 @@ Bounds C k φ tops ls = (N : Net) → Suits C k tops N → LowerBound N k φ (la
 -- no labelling meets the outputs of a net that suits
 abbrev pub Refuted : Circuit → ℕ → ℕ → List ℕ → Type 0
 Refuted C k φ tops = (N : Net) → Suits C k tops N → (lab : ℕ → ℤ) → Labelling N k φ lab → ¬ OutputsMet N φ lab
+
+-- the wiring alone
+abbrev pub wiring : ℕ → ℕ → ℕ → List ℕ → List ℕ → List ℕ → Circuit
+wiring inputs gates border pins sources counts = circuit inputs gates 0 border pins [] sources counts [] [] []
+
+-- label(u) − φ·w for the pin at place i
+abbrev pub heightAt : List ℕ → List ℕ → List ℤ → ℕ → ℕ → ℤ
+heightAt sources counts ls φ i = labelIn ls (getD sources i 0) -ℤ pos (φ * getD counts i 0)
+
+-- the pin at place i can be read, and its number does not overflow
+pub record PinFits (sources counts : List ℕ) (ls : List ℤ) (φ i : ℕ) : Type 0 where
+  pub source : i < length sources
+  pub count : i < length counts
+  pub node : getD sources i 0 < length ls
+  pub small : Small (labelIn ls (getD sources i 0))
+  pub shift : φ * getD counts i 0 ≤ room
+
+-- r is one of n pins from place `at` on, and none of them is higher
+pub record Best (sources counts : List ℕ) (ls : List ℤ) (φ at n r : ℕ) : Type 0 where
+  pub bound : r < n
+  pub above : (j : ℕ) → j < n → heightAt sources counts ls φ (at + j) ≤ℤ heightAt sources counts ls φ (at + r)
+
+-- the label of v raised to p, unless it is p
+pub record Raised (ls ls′ : List ℤ) (v : ℕ) (p : ℤ) (r : ℕ) : Type 0 where
+  pub bound : r < 2
+  pub lower : r ≡ 1 → (labelIn ls v <ℤ p) × (ls′ ≡ set ls v p)
+  pub there : r ≡ 0 → (labelIn ls v ≡ p) × (ls′ ≡ ls)
+
+-- labels for all nodes, far from the ends of 64 bits
+pub record Fine (C : Circuit) (ls : List ℤ) : Type 0 where
+  pub size : length ls ≡ C .inputs + C .gates
+  pub small : (u : ℕ) → Small (labelIn ls u)
+
+-- what the engine needs of labels and sizes
+pub record Ready (I G width : ℕ) (ls : List ℤ) (φ k : ℕ) : Type 0 where
+  pub size : length ls ≡ I + G
+  pub small : (u : ℕ) → Small (labelIn ls u)
+  pub shift : φ * width ≤ room
+  pub least : 1 ≤ k
+  pub copies : k * G ≤ mostCopies
+
+-- ceilings that do not overflow
+pub record Ceilings (C : Circuit) (φ : ℕ) (tops : List ℕ) : Type 0 where
+  pub size : C .gates ≤ length tops
+  pub top : (g : ℕ) → g < C .gates → φ * getD tops g 0 < room
+
+-- what is left below the ceilings of the first n gates
+unfoldable pub left : Circuit → ℕ → List ℕ → List ℤ → ℕ → ℕ
+left C φ tops ls zero = 0
+left C φ tops ls (suc n) = up (pos (φ * getD tops n 0) -ℤ labelIn ls (C .inputs + n)) + left C φ tops ls n
+
+-- One visit of gate g. 0: nothing can change. 1: its label rose. 2: it would pass its ceiling.
+pub record Visited (C : Circuit) (k φ : ℕ) (tops : List ℕ) (ls ls′ : List ℤ) (g r : ℕ) : Type 0 where
+  pub most : r ≤ 2
+  pub fine : Fine C ls′
+  pub bounds : Bounds C k φ tops ls → Bounds C k φ tops ls′
+  pub same : r ≡ 0 → ls′ ≡ ls
+  pub quiet : r ≡ 0 → Quiet C k φ tops ls g
+  pub less : left C φ tops ls′ (C .gates) ≤ left C φ tops ls (C .gates)
+  pub falls : r ≡ 1 → left C φ tops ls′ (C .gates) < left C φ tops ls (C .gates)
+  pub refuted : r ≡ 2 → Bounds C k φ tops ls → Refuted C k φ tops
 
 -- gates and pins of a net with this wiring
 gate-of : {C : Circuit} {N : Net} → Holds C N → (g : ℕ) → g < C .gates → IsGate N (C .inputs + g)

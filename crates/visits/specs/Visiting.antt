@@ -1,9 +1,9 @@
 -- The ways out of a visit.
-use mathlib.Core.Path.{_≡_, refl, sym, ap, _∙_, subst}
-use mathlib.Core.List.{List, []}
+use mathlib.Core.Path.{_≡_, refl, sym, _∙_, subst}
+use mathlib.Core.List.{List}
 use mathlib.Core.Logic.{_⊎_, inl, inr}
-use Prim.Native.Nat.{ℕ, zero, suc, _+_, _-_, _*_, _≤_, _<_}
-use native.Mathlib.Decide.{ℕ-discrete, decLt}
+use Prim.Native.Nat.{ℕ, zero, suc, _+_, _*_, _≤_, _<_}
+use native.Mathlib.Decide.{ℕ-discrete}
 use native.Mathlib.Omega.{arith}
 use native.Mathlib.Nat.{mul-le-mul-left, mul-le-mul-right}
 use mir.Syntax.{w64}
@@ -11,19 +11,16 @@ use mir.Val.{toZ, ofZ}
 use lib.IntN.{ℤ, pos, _+ℤ_, _-ℤ_}
 use lib.ListN.{length, getD, set, length-set}
 use lib.Seq.{getD-set-same, getD-set-other}
-use lib.Signed.{_≤ℤ_, _<ℤ_, ≤ℤ-refl}
+use lib.Signed.{_≤ℤ_, _<ℤ_}
 use Rattle.integers.specs.Parts.{up, ints, sub-parts, +-parts}
-use Rattle.integers.specs.Order.{≤ℤ-trans, ≤ℤ-antisym}
-use Rattle.netlist.specs.Net.{Net}
+use Rattle.integers.specs.Order.{≤ℤ-antisym}
 use Rattle.netlist.specs.Arrays.{stride}
 use Rattle.signed.specs.Range.{Small, room}
-use Rattle.signed.specs.RangeLaws.{parts-mag, mag-parts, other-zero, back, fits-of, minus-mag}
+use Rattle.signed.specs.RangeLaws.{mag-parts, other-zero, back, fits-of, minus-mag}
 use Rattle.mincut.specs.Circuit.{Circuit, circuit, Layout}
-use Rattle.mincut.specs.Bridge.{Holds}
 use Rattle.limits.specs.Limits.{mostCopies}
 use Rattle.query.specs.Question.{labelIn, Answers, Asks}
-use Rattle.labels.specs.Visits.{Suits, PinMax, Quiet, higher, level, Bounds, Refuted, bounds-p, bounds-more, past-top}
-use Rattle.labels.specs.Sweeps.{wiring, heightAt, PinFits, Best, Raised, Fine, Ceilings, left, Visited, Ready}
+use Rattle.visits.specs.Visits.{PinMax, higher, level, Bounds, bounds-p, bounds-more, past-top, wiring, heightAt, PinFits, Best, Raised, Fine, left, Visited, Ready}
 
 -- the answers speak of the wiring alone
 pub answers-wiring : {I G W B : ℕ} {ps first so co heads nexts inside : List ℕ} {ls : List ℤ} {φ k g r : ℕ} {h : ℤ}

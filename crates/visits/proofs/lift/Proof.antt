@@ -1,4 +1,3 @@
-use Rattle.labels.specs.Sweeps.{heightAt}
 use Rattle.query.specs.Question.{labelIn}
 use Rattle.signed.specs.RangeLaws.{back, fits-of, small-fits, minus-mag, plus-mag}
 use Rattle.signed.specs.Range.{Small, room}
@@ -9,10 +8,10 @@ use native.Mathlib.Omega.{arith}
 use lib.IntN.{ℤ, pos, _+ℤ_, _-ℤ_}
 use mathlib.Core.Path.{_≡_, refl, sym, ap, _∙_}
 use borrow.Author.Needs.{needs}
-use Rattle.labels.proofs.lift.Statement.{statement}
-use Rattle.labels.proofs.lift.Tie as tie
-use Rattle.labels.proofs.lift.Reads as reads
-use Rattle.labels.proofs.lift.Lts as lts
+use Rattle.visits.proofs.lift.Statement.{statement}
+use Rattle.visits.proofs.lift.Tie as tie
+use Rattle.visits.proofs.lift.Reads as reads
+use Rattle.visits.proofs.lift.Lts as lts
 use Rattle.signed.proofs.plus_one.Reads as plus-one-reads
 
 -- src/lib.rt:73:17

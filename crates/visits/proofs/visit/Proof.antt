@@ -1,5 +1,5 @@
-use Rattle.labels.specs.Visiting.{pinmax-at, pin-fits, best-max, height-back, small-height, ready-fine, visit-higher}
-use Rattle.labels.specs.Sweeps.{wiring}
+use Rattle.visits.specs.Visiting.{pinmax-at, pin-fits, best-max, height-back, small-height, ready-fine, visit-higher}
+use Rattle.visits.specs.Visits.{wiring}
 use Rattle.integers.specs.Parts.{ints, +-parts}
 use lib.Signed.{_≤ℤ_}
 use mir.Val.{toZ, ofZ}
@@ -14,14 +14,14 @@ use native.Mathlib.Omega.{arith}
 use lib.IntN.{ℤ, pos, _+ℤ_, _-ℤ_}
 use mathlib.Core.Path.{_≡_, refl, sym, ap, _∙_, subst}
 use borrow.Author.Needs.{needs}
-use Rattle.labels.proofs.visit.Statement.{statement}
-use Rattle.labels.proofs.visit.Tie as tie
-use Rattle.labels.proofs.visit.Reads as reads
-use Rattle.labels.proofs.visit.Lts as lts
-use Rattle.labels.proofs.best_pin.Reads as best-pin-reads
-use Rattle.labels.proofs.higher.Reads as higher-reads
-use Rattle.labels.proofs.pin_height.Reads as pin-height-reads
-use Rattle.labels.proofs.try_label.Reads as try-label-reads
+use Rattle.visits.proofs.visit.Statement.{statement}
+use Rattle.visits.proofs.visit.Tie as tie
+use Rattle.visits.proofs.visit.Reads as reads
+use Rattle.visits.proofs.visit.Lts as lts
+use Rattle.visits.proofs.best_pin.Reads as best-pin-reads
+use Rattle.visits.proofs.higher.Reads as higher-reads
+use Rattle.visits.proofs.pin_height.Reads as pin-height-reads
+use Rattle.visits.proofs.try_label.Reads as try-label-reads
 
 -- src/lib.rt:188:13
 mul-n : tie.Need-mul-n

@@ -1,6 +1,6 @@
 use mir.Syntax.{w64}
 use mir.Val.{toZ, ofZ}
-use Rattle.labels.specs.Sweeps.{heightAt, told-of}
+use Rattle.visits.specs.VisitLaws.{told-of}
 use Rattle.query.specs.Question.{labelIn}
 use Rattle.signed.specs.RangeLaws.{back, fits-of, small-fits, minus-mag, plus-mag}
 use Rattle.signed.specs.Range.{Small, room}
@@ -11,11 +11,11 @@ use native.Mathlib.Omega.{arith}
 use lib.IntN.{ℤ, pos, _+ℤ_, _-ℤ_}
 use mathlib.Core.Path.{_≡_, refl, sym, ap, _∙_}
 use borrow.Author.Needs.{needs}
-use Rattle.labels.proofs.pin_less.Statement.{statement}
-use Rattle.labels.proofs.pin_less.Tie as tie
-use Rattle.labels.proofs.pin_less.Reads as reads
-use Rattle.labels.proofs.pin_less.Lts as lts
-use Rattle.labels.proofs.pin_height.Reads as pin-height-reads
+use Rattle.visits.proofs.pin_less.Statement.{statement}
+use Rattle.visits.proofs.pin_less.Tie as tie
+use Rattle.visits.proofs.pin_less.Reads as reads
+use Rattle.visits.proofs.pin_less.Lts as lts
+use Rattle.visits.proofs.pin_height.Reads as pin-height-reads
 use Rattle.signed.proofs.no_higher.Reads as no-higher-reads
 
 -- src/lib.rt:22:9
