@@ -22,7 +22,7 @@ use Rattle.labelling.specs.Lower.{outputs-under}
 use Rattle.labelling.specs.Floor.{floor}
 use Rattle.labelling.specs.Bounds.{LowerBound}
 use Rattle.signed.specs.Range.{Small, room}
-use Rattle.mincut.specs.Circuit.{Circuit}
+use Rattle.circuit.specs.Circuit.{Circuit}
 use Rattle.limits.specs.Limits.{mostCopies}
 use Rattle.query.specs.Question.{labelIn}
 use Rattle.labels.specs.Visits.{Suits, Bounds, Refuted, Quiet, quiet-least}

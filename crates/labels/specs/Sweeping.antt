@@ -6,7 +6,7 @@ use native.Mathlib.Decide.{ℕ-discrete, decLt}
 use native.Mathlib.Omega.{arith}
 use lib.IntN.{ℤ}
 use lib.ListN.{getD}
-use Rattle.mincut.specs.Circuit.{Circuit}
+use Rattle.circuit.specs.Circuit.{Circuit}
 use Rattle.labels.specs.Visits.{Quiet, Bounds, Refuted}
 use Rattle.labels.specs.Sweeps.{Fine, left, Visited, IfRose, QuietFrom, Sweep, Swept, Outcome, Ordered, Settling}
 

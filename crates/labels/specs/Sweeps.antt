@@ -14,7 +14,7 @@ use Rattle.netlist.specs.Net.{Net}
 use Rattle.netlist.specs.Arrays.{pinsIn}
 use Rattle.labelling.specs.Labels.{Least, OutputsMet, Reachable}
 use Rattle.signed.specs.Range.{Small, room}
-use Rattle.mincut.specs.Circuit.{Circuit, circuit}
+use Rattle.circuit.specs.Circuit.{Circuit, circuit}
 use Rattle.limits.specs.Limits.{mostCopies}
 use Rattle.query.specs.Question.{labelIn}
 use Rattle.labels.specs.Visits.{Suits, PinMax, Quiet, Bounds, Refuted}

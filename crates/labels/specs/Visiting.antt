@@ -18,7 +18,7 @@ use Rattle.netlist.specs.Net.{Net}
 use Rattle.netlist.specs.Arrays.{stride}
 use Rattle.signed.specs.Range.{Small, room}
 use Rattle.signed.specs.RangeLaws.{parts-mag, mag-parts, other-zero, back, fits-of, minus-mag}
-use Rattle.mincut.specs.Circuit.{Circuit, circuit, Layout}
+use Rattle.circuit.specs.Circuit.{Circuit, circuit, Layout}
 use Rattle.mincut.specs.Bridge.{Holds}
 use Rattle.limits.specs.Limits.{mostCopies}
 use Rattle.query.specs.Question.{labelIn, Answers, Asks}

@@ -24,7 +24,7 @@ use Rattle.labelling.specs.Lower.{relabel, replace, replace-same, replace-other
 use Rattle.labelling.specs.Pins.{OutPath}
 use Rattle.labelling.specs.Bounds.{LowerBound, PinsReach, pin-bound, raised, refutes, alone-cut, settled-least}
 use Rattle.labelling.specs.Forced.{Falling, separation-cut}
-use Rattle.mincut.specs.Circuit.{Circuit}
+use Rattle.circuit.specs.Circuit.{Circuit}
 use Rattle.mincut.specs.Bridge.{Holds}
 use Rattle.query.specs.Question.{labelIn, Answers, Separated}
 

@@ -1,6 +1,6 @@
 // The label sweep: labels raised from below, gate by gate, until nothing can change or a label would pass its ceiling.
+use circuit::Sizes;
 use limits::PINS;
-use mincut::Sizes;
 use query::question;
 use signed::minus;
 use signed::no_higher;
@@ -13,7 +13,7 @@ ghost use lib.IntN.{ℤ, pos, _+ℤ_, _-ℤ_};
 ghost use lib.ListN.{length, getD, set};
 ghost use lib.Signed.{_≤ℤ_, _<ℤ_};
 ghost use Rattle.signed.specs.Range.{Small, room};
-ghost use Rattle.mincut.specs.Circuit.{circuit};
+ghost use Rattle.circuit.specs.Circuit.{circuit};
 ghost use Rattle.query.specs.Question.{AtRest, labelIn};
 ghost use Rattle.labels.specs.Visits.{PinMax};
 ghost use Rattle.labels.specs.Sweeps.{wiring, heightAt, PinFits, Best, Raised, Ready, Ceilings, Ordered, IfRose, QuietFrom, Visited, Swept, Outcome, Settled, Filled, OutFits, Sized, Labelled};

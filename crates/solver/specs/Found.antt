@@ -12,7 +12,7 @@ use Rattle.netlist.specs.Checks.{Passed}
 use Rattle.limits.specs.Limits.{mostPeriod}
 use Rattle.labelling.specs.Labels.{Least, OutputsMet, Reachable}
 use Rattle.covers.specs.Covers.{LeastPeriod}
-use Rattle.mincut.specs.Circuit.{Circuit}
+use Rattle.circuit.specs.Circuit.{Circuit}
 use Rattle.query.specs.Question.{labelIn}
 use Rattle.labels.specs.Visits.{Suits}
 use Rattle.labels.specs.Sweeps.{wiring, Fine, Sized, Ordered, Ceilings, Labelled}

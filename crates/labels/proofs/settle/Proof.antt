@@ -2,7 +2,7 @@ use Rattle.labels.specs.Sweeping.{settling-first, settling-next, quiet-n
 use Rattle.labels.specs.Visiting.{ready-fine, ready-after}
 use Rattle.labels.specs.Sweeps.{wiring, left, QuietFrom, Settling}
 use Rattle.query.specs.Question.{AtRest}
-use Rattle.mincut.specs.Circuit.{circuit}
+use Rattle.circuit.specs.Circuit.{circuit}
 use Prim.Native.Nat.{_+_, _%_, _≤_}
 use borrow.Author.Needs.{needs}
 use lib.ListN.{length}

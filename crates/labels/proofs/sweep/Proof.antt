@@ -2,7 +2,7 @@ use Rattle.labels.specs.Sweeping.{sweep-none, sweep-next, swept-end, swe
 use Rattle.labels.specs.Visiting.{ready-few, ready-fine, ready-after}
 use Rattle.labels.specs.Sweeps.{wiring, Sweep}
 use Rattle.query.specs.Question.{AtRest}
-use Rattle.mincut.specs.Circuit.{circuit}
+use Rattle.circuit.specs.Circuit.{circuit}
 use borrow.Author.Needs.{needs}
 use Prim.Native.Nat.{_-_}
 use lib.ListN.{length}
