@@ -21,7 +21,7 @@ use Rattle.labelling.specs.Labels.{Labelling, OutputsMet}
 use Rattle.labelling.specs.Lower.{outputs-under}
 use Rattle.labelling.specs.Floor.{floor}
 use Rattle.signed.specs.Range.{Small, room}
-use Rattle.mincut.specs.Circuit.{Circuit}
+use Rattle.circuit.specs.Circuit.{Circuit}
 use Rattle.query.specs.Question.{labelIn}
 use Rattle.visits.specs.Visits.{Bounds, quiet-least, wiring, heightAt, Ready, Fine}
 use Rattle.visits.specs.Visiting.{small-between}

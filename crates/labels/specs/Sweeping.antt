@@ -6,7 +6,7 @@ use native.Mathlib.Decide.{ℕ-discrete, decLt}
 use native.Mathlib.Omega.{arith}
 use lib.IntN.{ℤ}
 use lib.ListN.{getD}
-use Rattle.mincut.specs.Circuit.{Circuit}
+use Rattle.circuit.specs.Circuit.{Circuit}
 use Rattle.visits.specs.Visits.{Quiet, Fine, left, Visited}
 use Rattle.labels.specs.Sweeps.{IfRose, QuietFrom, Sweep, Swept, Outcome, Ordered, Settling}
 

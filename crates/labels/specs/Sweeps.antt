@@ -9,7 +9,7 @@ use Rattle.netlist.specs.Net.{Net}
 use Rattle.netlist.specs.Arrays.{pinsIn}
 use Rattle.labelling.specs.Labels.{Least, OutputsMet, Reachable}
 use Rattle.signed.specs.Range.{room}
-use Rattle.mincut.specs.Circuit.{Circuit}
+use Rattle.circuit.specs.Circuit.{Circuit}
 use Rattle.limits.specs.Limits.{mostCopies}
 use Rattle.query.specs.Question.{labelIn}
 use Rattle.visits.specs.Visits.{Suits, Quiet, Bounds, Refuted, PinFits, Fine, left}

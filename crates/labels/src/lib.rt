@@ -1,5 +1,5 @@
 // The label sweep: labels raised from below, gate by gate, until nothing can change or a label would pass its ceiling.
-use mincut::Sizes;
+use circuit::Sizes;
 use signed::minus;
 use signed::whole;
 use visits::pin_height;
@@ -11,7 +11,7 @@ ghost use lib.IntN.{pos, _-ℤ_};
 ghost use lib.ListN.{length};
 ghost use lib.Signed.{_≤ℤ_, _<ℤ_};
 ghost use Rattle.signed.specs.Range.{Small, room};
-ghost use Rattle.mincut.specs.Circuit.{circuit};
+ghost use Rattle.circuit.specs.Circuit.{circuit};
 ghost use Rattle.query.specs.Question.{AtRest};
 ghost use Rattle.visits.specs.Visits.{wiring, heightAt, PinFits, Ready, Ceilings};
 ghost use Rattle.labels.specs.Sweeps.{Ordered, IfRose, QuietFrom, Swept, Outcome, Settled, Filled, OutFits, Sized, Labelled};

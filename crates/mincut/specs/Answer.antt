@@ -20,8 +20,8 @@ use Rattle.flow.specs.Graph as Graphs
 use Rattle.flow.specs.Graph.{Graph, Feeding, Separation, Lists}
 use Rattle.flow.specs.Course.{duality}
 use Rattle.flow.specs.Closed.{Closed, Found, found-separation, few-leaves, smallest, found-leads, out-leaf, leaf-out, leaf-apart}
-use Rattle.mincut.specs.Circuit.{Circuit, graphOf, Layout, lawful, total, ending, wide-positive, terminal-is, forced-is}
-use Rattle.mincut.specs.Table.{viewOf, in-below}
+use Rattle.circuit.specs.Circuit.{Circuit, graphOf, Layout, lawful, total, ending, wide-positive, terminal-is, forced-is}
+use Rattle.search.specs.Table.{viewOf, in-below}
 use Rattle.mincut.specs.Rounds.{Flowing, CutTold}
 use Rattle.mincut.specs.Collect.{LeafMark, CollectAsked, CollectTold, numberAt, rising-copiesFrom, number-before}
 use Rattle.netlist.specs.Arrays.{copiesFrom}

@@ -14,7 +14,7 @@ use Rattle.netlist.specs.ArrayLaws.{pinAt, pinsIn-in, in-pinsIn, inputs-netIn, 
 use Rattle.cones.specs.Basics.{copy-path}
 use Rattle.cones.specs.Order.{Levels, levels, measure, feeds-measure}
 use Rattle.flow.specs.Graph.{Feeding, Order}
-use Rattle.mincut.specs.Circuit.{Circuit, circuit, graphOf, Layout, total, place, ending, wide-positive, gate-below, source-back, node-of, back-of, node-below, copy-parts, terminal-is, pin-below, pins-is, source-is}
+use Rattle.circuit.specs.Circuit.{Circuit, circuit, graphOf, Layout, total, place, ending, wide-positive, gate-below, source-back, node-of, back-of, node-below, copy-parts, terminal-is, pin-below, pins-is, source-is}
 
 -- The arrays of C are those of N.
 pub record Holds (C : Circuit) (N : Net) : Type 0 where

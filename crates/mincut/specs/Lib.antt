@@ -1,11 +1,3 @@
-pub mod Circuit
-pub mod Table
-pub mod Chains
-pub mod Links
-pub mod Contracts
-pub mod Visits
-pub mod Told
-pub mod Roots
 pub mod Rounds
 pub mod Collect
 pub mod Bridge

@@ -15,7 +15,7 @@ use Rattle.labelling.specs.Labels.{Least, OutputsMet, Reachable}
 use Rattle.covers.specs.Covers.{LeastPeriod}
 use Rattle.covers.specs.Joined.{reachable-met, met-reachable}
 use Rattle.covers.specs.Period.{gates-reach}
-use Rattle.mincut.specs.Circuit.{Circuit}
+use Rattle.circuit.specs.Circuit.{Circuit}
 use Rattle.limits.specs.Limits.{mostCopies}
 use Rattle.query.specs.Question.{labelIn}
 use Rattle.visits.specs.Visits.{Suits, Fine, Ceilings}

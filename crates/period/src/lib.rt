@@ -1,10 +1,10 @@
 // The least period, by search over periods from 1 up.
+use circuit::Sizes;
 use labels::reach;
-use mincut::Sizes;
 ghost use mathlib.Core.Path.{_≡_};
 ghost use Prim.Native.Nat.{ℕ, _+_, _*_, _≤_, _<_};
 ghost use lib.ListN.{length, getD};
-ghost use Rattle.mincut.specs.Circuit.{circuit};
+ghost use Rattle.circuit.specs.Circuit.{circuit};
 ghost use Rattle.query.specs.Question.{AtRest};
 ghost use Rattle.visits.specs.Visits.{wiring, Ceilings};
 ghost use Rattle.labels.specs.Sweeps.{Sized, Ordered};

@@ -24,10 +24,10 @@ use Rattle.cones.specs.Reach.{reachOf, cut-reach, cut-members}
 use Rattle.labelling.specs.Labels.{Low, LowCut}
 use Rattle.labelling.specs.Forced.{Forced, forced-inside}
 use Rattle.signed.specs.Range.{Small, room}
-use Rattle.mincut.specs.Circuit.{Circuit, circuit, Layout, total, place, endingAt, ending, feedingAt, terminal-is, pins-is, pin-below, source-is}
-use Rattle.mincut.specs.Circuit.{wide-positive, gate-below, place-below, source-below, node-below, node-of, back-of, copy-inside}
-use Rattle.mincut.specs.Contracts.{SourceAsked}
-use Rattle.mincut.specs.Table.{length-upTo}
+use Rattle.circuit.specs.Circuit.{Circuit, circuit, Layout, total, place, endingAt, ending, feedingAt, terminal-is, pins-is, pin-below, source-is}
+use Rattle.circuit.specs.Circuit.{wide-positive, gate-below, place-below, source-below, node-below, node-of, back-of, copy-inside}
+use Rattle.search.specs.Contracts.{SourceAsked}
+use Rattle.search.specs.Table.{length-upTo}
 use Rattle.mincut.specs.Bridge.{Holds, decode, encode, decode-one, to-feeds, from-feeds}
 use Rattle.limits.specs.Limits.{mostCopies}
 use Rattle.query.specs.Question.{labelIn}

@@ -18,9 +18,9 @@ use Rattle.cones.specs.Ranks.{Ranked}
 use Rattle.cones.specs.Reach.{reachOf}
 use Rattle.labelling.specs.Labels.{LowCut}
 use Rattle.labelling.specs.Forced.{Forced, ForcedSet, Separation, no-cut}
-use Rattle.mincut.specs.Circuit.{Circuit, circuit, Layout, total, wide-positive}
-use Rattle.mincut.specs.Chains.{Chains}
-use Rattle.mincut.specs.Roots.{Members}
+use Rattle.circuit.specs.Circuit.{Circuit, circuit, Layout, total, wide-positive}
+use Rattle.circuit.specs.Chains.{Chains}
+use Rattle.search.specs.Roots.{Members}
 use Rattle.mincut.specs.Rounds.{Cleared, CutAsked, CutTold}
 use Rattle.mincut.specs.Collect.{CollectAsked, CollectTold}
 use Rattle.netlist.specs.Arrays.{copiesFrom}

@@ -14,8 +14,8 @@ use Rattle.cones.specs.Reach.{reachOf}
 use Rattle.labelling.specs.Labels.{Low, LowCut}
 use Rattle.labelling.specs.Forced.{ForcedSet, Separation}
 use Rattle.signed.specs.Range.{Small, room}
-use Rattle.mincut.specs.Circuit.{Circuit, Layout, total}
-use Rattle.mincut.specs.Chains.{Chains}
+use Rattle.circuit.specs.Circuit.{Circuit, Layout, total}
+use Rattle.circuit.specs.Chains.{Chains}
 use Rattle.mincut.specs.Rounds.{Cleared}
 use Rattle.netlist.specs.Arrays.{copiesFrom}
 use Rattle.mincut.specs.Bridge.{Holds}

@@ -1,41 +1,21 @@
 // The cut question: the forced set of a gate and a threshold by a work list, and its nearest minimum cut.
-use limits::PINS;
 ghost use mathlib.Core.Path.{_≡_};
 ghost use mathlib.Core.Bool.{true, false};
-ghost use Prim.Native.Nat.{_+_, _-_, _*_, _/_, _%_, _≤_, _<_};
-ghost use lib.ListN.{getD};
+ghost use Prim.Native.Nat.{_+_, _-_, _*_, _/_, _%_, _<_};
 ghost use Rattle.netlist.specs.Copies.{copy};
 ghost use Rattle.labelling.specs.Labels.{Low};
-ghost use Rattle.mincut.specs.Circuit.{circuit, feedingAt};
-ghost use Rattle.mincut.specs.Contracts.{SourceAsked};
+ghost use Rattle.circuit.specs.Circuit.{circuit, feedingAt};
 ghost use Rattle.mincut.specs.Rounds.{Cleared, CutAsked};
 ghost use Rattle.query.specs.Question.{labelIn, AtRest, Asks, Answers, Takes, Written};
 ghost use Rattle.query.specs.Meaning.{CutSeen, LeavesAsked, LeavesTold, LeavesSeen};
 ghost use Rattle.query.specs.Forcing.{wires, target, Added, AddAsked, LowAsked, PinAsked, PinTold, MemberAsked, MemberTold, GrowAsked, GrowTold, ForceAsked, ForceTold, Listed, Unmarked};
-use mincut::Sizes;
+use circuit::Sizes;
 use mincut::clear;
 use mincut::leaves;
 use mincut::min_cut;
+use search::pins_of;
+use search::source;
 use signed::no_higher;
-
-// The copy that feeds x by pin j.
-fn feeder(s: Sizes, sources: &[usize], counts: &[usize], x: usize, j: usize) -> usize
-    requires { ⌜ SourceAsked (s .inputs) (s .width) (now sources) (now counts) x j ⌝ }
-    ensures { λ r. ⌜ r ≡ feedingAt (s .width) (now (sources .entry)) (now (counts .entry)) x (6 * (x / s .width - s .inputs) + j) ⌝ }
-{
-    let p = PINS * (x / s.width - s.inputs) + j;
-    sources[p] * s.width + (x % s.width + counts[p])
-}
-
-// The number of pins of a gate's copy.
-fn pins_of(s: Sizes, pins: &[usize], x: usize) -> usize
-    requires { ⌜ (0 < s .width) × (s .inputs ≤ x / s .width) ⌝ }
-    requires { do ⌜ x / s .width - s .inputs < (← ⟦pins.len()⟧) ⌝ }
-    ensures { λ r. ⌜ r ≡ getD (now (pins .entry)) (x / s .width - s .inputs) 0 ⌝ }
-{
-    let g = x / s.width - s.inputs;
-    pins[g]
-}
 
 // Whether the copy y is low enough for a leaf.
 fn low(width: usize, labels: &[i64], phi: usize, h: i64, y: usize) -> bool
@@ -88,7 +68,7 @@ fn force_pin(
     requires { ⌜ PinAsked (s .inputs) (s .width) (now sources) (now counts) (now labels) phi most (now inside) (now members) m x j ⌝ }
     ensures { λ r. ⌜ PinTold (s .inputs) (s .width) (s .border) (now (labels .entry)) phi h most (now (inside .entry)) (now (members .entry)) m (feedingAt (s .width) (now (sources .entry)) (now (counts .entry)) x (6 * (x / s .width - s .inputs) + j)) (now (inside .exit)) (now (members .exit)) r ⌝ }
 {
-    let y = feeder(s, sources, counts, x, j);
+    let y = source(s, sources, counts, x, j);
     if low(s.width, labels, phi, h, y) {
         return m;
     }

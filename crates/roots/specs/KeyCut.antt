@@ -24,7 +24,7 @@ use Rattle.labelling.specs.Labels.{Low, LowCut, Least}
 use Rattle.labelling.specs.Lower.{input-or-gate}
 use Rattle.labelling.specs.Pins.{pin-lemma, pin-input}
 use Rattle.labelling.specs.Forced.{Falling, leaf-allowed, reach-separates}
-use Rattle.mincut.specs.Circuit.{Circuit}
+use Rattle.circuit.specs.Circuit.{Circuit}
 use Rattle.mincut.specs.Bridge.{Holds}
 use Rattle.query.specs.Question.{labelIn, Asks, Takes, Separated, Answers, Written}
 use Rattle.query.specs.Meaning.{wiresOf}

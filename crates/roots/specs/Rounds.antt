@@ -15,7 +15,7 @@ use Rattle.netlist.specs.Arrays.{stride, copyAt, copiesFrom}
 use Rattle.netlist.specs.ArrayLaws.{pinAt, pinsIn-in, in-pinsIn, copiesFrom-in, in-copiesFrom}
 use Rattle.covers.specs.Key.{Root, source, leaf}
 use Rattle.covers.specs.KeyOf.{root-gate}
-use Rattle.mincut.specs.Circuit.{Circuit}
+use Rattle.circuit.specs.Circuit.{Circuit}
 use Rattle.query.specs.Question.{labelIn, Answers, Written}
 use Rattle.query.specs.Meaning.{wiresOf}
 use Rattle.roots.specs.Choosing.{Asking, Places, Chooses, Keyed, Reads, RootsTold}

@@ -1,11 +1,11 @@
 // The chosen roots of a cover and the chosen cut of each: from the outputs back, one root after another.
-use mincut::Sizes;
+use circuit::Sizes;
 use query::chosen;
 ghost use mathlib.Core.Path.{_≡_};
 ghost use Prim.Native.Nat.{_*_, _≤_, _<_};
 ghost use lib.ListN.{length};
 ghost use Rattle.netlist.specs.Arrays.{stride};
-ghost use Rattle.mincut.specs.Circuit.{circuit};
+ghost use Rattle.circuit.specs.Circuit.{circuit};
 ghost use Rattle.query.specs.Question.{AtRest};
 ghost use Rattle.query.specs.Forcing.{wires};
 ghost use Rattle.roots.specs.Choosing.{Asking, Places, Chooses, RootsTold};

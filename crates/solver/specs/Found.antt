@@ -12,7 +12,7 @@ use Rattle.netlist.specs.Checks.{Passed}
 use Rattle.limits.specs.Limits.{mostPeriod}
 use Rattle.labelling.specs.Labels.{Least, OutputsMet, Reachable}
 use Rattle.covers.specs.Covers.{LeastPeriod}
-use Rattle.mincut.specs.Circuit.{Circuit}
+use Rattle.circuit.specs.Circuit.{Circuit}
 use Rattle.query.specs.Question.{labelIn}
 use Rattle.visits.specs.Visits.{Suits, wiring, Fine, Ceilings}
 use Rattle.labels.specs.Sweeps.{Sized, Ordered, Labelled}

@@ -19,8 +19,8 @@ use Rattle.reader.specs.WalkFacts.{WalkFacts}
 use Rattle.reader.specs.declared.Wiring.{Wiring}
 use Rattle.cone.specs.Lists.{Wires}
 use Rattle.cone.specs.Words.{Tabled}
-use Rattle.mincut.specs.Circuit.{circuit, Layout}
-use Rattle.mincut.specs.Chains.{Chains}
+use Rattle.circuit.specs.Circuit.{circuit, Layout}
+use Rattle.circuit.specs.Chains.{Chains}
 use Rattle.visits.specs.Visits.{Suits, wiring}
 use Rattle.solver.specs.Found.{PeriodAsked}
 

@@ -24,9 +24,9 @@ use Rattle.reader.specs.WalkFacts.{WalkFacts}
 use Rattle.reader.specs.declared.Wiring.{Wiring}
 use Rattle.cone.specs.Lists.{Wires}
 use Rattle.cone.specs.Words.{Tabled}
-use Rattle.mincut.specs.Circuit.{circuit, Layout}
-use Rattle.mincut.specs.Chains.{Chains}
-use Rattle.mincut.specs.Links.{LinkAsked, Linked, chains}
+use Rattle.circuit.specs.Circuit.{circuit, Layout}
+use Rattle.circuit.specs.Chains.{Chains}
+use Rattle.circuit.specs.Links.{LinkAsked, Linked, chains}
 use Rattle.mincut.specs.Bridge.{Holds}
 use Rattle.visits.specs.Visits.{Suits, wiring, Ceilings}
 use Rattle.labels.specs.Sweeps.{Sized, Ordered}

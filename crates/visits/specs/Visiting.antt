@@ -17,7 +17,7 @@ use Rattle.integers.specs.Order.{≤ℤ-antisym}
 use Rattle.netlist.specs.Arrays.{stride}
 use Rattle.signed.specs.Range.{Small, room}
 use Rattle.signed.specs.RangeLaws.{mag-parts, other-zero, back, fits-of, minus-mag}
-use Rattle.mincut.specs.Circuit.{Circuit, circuit, Layout}
+use Rattle.circuit.specs.Circuit.{Circuit, circuit, Layout}
 use Rattle.limits.specs.Limits.{mostCopies}
 use Rattle.query.specs.Question.{labelIn, Answers, Asks}
 use Rattle.visits.specs.Visits.{PinMax, higher, level, Bounds, bounds-p, bounds-more, past-top, wiring, heightAt, PinFits, Best, Raised, Fine, left, Visited, Ready}

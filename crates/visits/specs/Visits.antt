@@ -25,7 +25,7 @@ use Rattle.labelling.specs.Bounds.{LowerBound, PinsReach, pin-bound, raised, re
 use Rattle.labelling.specs.Forced.{Falling, separation-cut}
 use Rattle.limits.specs.Limits.{mostCopies}
 use Rattle.signed.specs.Range.{Small, room}
-use Rattle.mincut.specs.Circuit.{Circuit, circuit}
+use Rattle.circuit.specs.Circuit.{Circuit, circuit}
 use Rattle.mincut.specs.Bridge.{Holds}
 use Rattle.query.specs.Question.{labelIn, Answers, Separated}
 

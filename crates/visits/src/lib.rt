@@ -1,6 +1,6 @@
 // One visit of a gate: its label raised to what every labelling reaches, unless nothing can change or it would pass its ceiling.
 use limits::PINS;
-use mincut::Sizes;
+use circuit::Sizes;
 use query::question;
 use signed::minus;
 use signed::no_higher;
@@ -13,7 +13,7 @@ ghost use lib.IntN.{pos, _+ℤ_};
 ghost use lib.ListN.{length, set};
 ghost use lib.Signed.{_≤ℤ_, _<ℤ_};
 ghost use Rattle.signed.specs.Range.{Small, room};
-ghost use Rattle.mincut.specs.Circuit.{circuit};
+ghost use Rattle.circuit.specs.Circuit.{circuit};
 ghost use Rattle.query.specs.Question.{AtRest, labelIn};
 ghost use Rattle.visits.specs.Visits.{wiring, heightAt, PinMax, PinFits, Best, Raised, Ready, Ceilings, Visited};
 

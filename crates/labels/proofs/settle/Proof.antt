@@ -3,7 +3,7 @@ use Rattle.visits.specs.Visiting.{ready-fine, ready-after}
 use Rattle.visits.specs.Visits.{wiring, left}
 use Rattle.labels.specs.Sweeps.{QuietFrom, Settling}
 use Rattle.query.specs.Question.{AtRest}
-use Rattle.mincut.specs.Circuit.{circuit}
+use Rattle.circuit.specs.Circuit.{circuit}
 use Prim.Native.Nat.{_+_, _%_, _≤_}
 use borrow.Author.Needs.{needs}
 use lib.ListN.{length}

@@ -3,7 +3,7 @@ use Rattle.visits.specs.Visiting.{ready-few, ready-fine, ready-after}
 use Rattle.visits.specs.Visits.{wiring}
 use Rattle.labels.specs.Sweeps.{Sweep}
 use Rattle.query.specs.Question.{AtRest}
-use Rattle.mincut.specs.Circuit.{circuit}
+use Rattle.circuit.specs.Circuit.{circuit}
 use borrow.Author.Needs.{needs}
 use Prim.Native.Nat.{_-_}
 use lib.ListN.{length}

@@ -1,7 +1,7 @@
 use Rattle.period.specs.Search.{NoneBelow, sized-less, sized-few, ceilings-less, none-first, none-next, period-found, period-last}
 use Rattle.visits.specs.Visits.{wiring}
 use Rattle.query.specs.Question.{AtRest}
-use Rattle.mincut.specs.Circuit.{circuit}
+use Rattle.circuit.specs.Circuit.{circuit}
 use borrow.Author.Needs.{needs}
 use Prim.Native.Nat.{ℕ, _+_, _-_, _*_, _≤_, _<_}
 use lib.ListN.{length, getD}

@@ -7,7 +7,7 @@ use lib.IntN.{ℤ}
 use mir.Syntax.{w64}
 use mir.Val.{toZ}
 use Rattle.signed.specs.RangeLaws.{back}
-use Rattle.mincut.specs.Circuit.{wide-positive}
+use Rattle.circuit.specs.Circuit.{wide-positive}
 use Rattle.query.specs.Forcing.{wires, target, Growing, Told, Looked, MemberTold, member-gate, member-gate-below, pin-asked, told-start, told-pin}
 use Rattle.query.specs.Forcing.{told-lost, told-then}
 use Rattle.query.proofs.force_pins.Statement.{statement}

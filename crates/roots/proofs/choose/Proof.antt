@@ -2,7 +2,7 @@
 use mathlib.Core.Path.{_≡_, refl, _∙_}
 use native.Mathlib.Omega.{arith}
 use lib.ListN.{length}
-use Rattle.mincut.specs.Circuit.{circuit}
+use Rattle.circuit.specs.Circuit.{circuit}
 use Rattle.query.specs.Question.{AtRest}
 use Rattle.query.specs.Forcing.{wires}
 use Rattle.roots.specs.Marking.{Pending, left}

@@ -10,7 +10,7 @@ use Rattle.solver.proofs.fit.Statement.{statement}
 use Rattle.solver.proofs.fit.Tie as tie
 use Rattle.solver.proofs.fit.Reads as reads
 use Rattle.solver.proofs.fit.Lts as lts
-use Rattle.mincut.proofs.link.Reads as link-reads
+use Rattle.circuit.proofs.link.Reads as link-reads
 use Rattle.scratch.proofs.clear_first.Reads as clear-first-reads
 use Rattle.solver.proofs.cover.Reads as cover-reads
 use Rattle.solver.proofs.sum_counts.Reads as sum-counts-reads
