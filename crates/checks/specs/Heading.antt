@@ -16,7 +16,8 @@ use Rattle.netlist.specs.ArrayLaws.{pinAt, in-pinsIn, pinsIn-in}
 use Rattle.netlist.specs.Wired.{Wired, wired-gate, gate-wired, wired-pin, pin-wired}
 use Rattle.netlist.specs.Checks.{Leading, AllLeading}
 use Rattle.labelling.specs.Pins.{OutPath, last, then, out-path}
-use Rattle.checks.specs.Marks.{Tells, Marked, Low, Above, Fallen, Wires, unmarked, left}
+use Rattle.sequences.specs.Tests.{Tells}
+use Rattle.checks.specs.Marks.{Marked, Low, Above, Fallen, Wires, unmarked, left}
 use Rattle.checks.specs.MarkLaws.{low-more, gate-low, low-falls, fallen-none, fallen-one, fallen-trans, left-fits, unmarked-set, unmarked-bound}
 
 -- the outputs of a net, kept in arrays

@@ -12,7 +12,8 @@ use lib.Dec.{eqb}
 use lib.ListN.{length, getD, set, length-set}
 use lib.Seq.{getD-set-same, getD-set-other}
 use Rattle.sequences.specs.Keep.{keep, length-keep, length-keep-cons, bit-yes, bit-no}
-use Rattle.checks.specs.Marks.{Tells, Marked, Known, Low, Above, unmarked, room, left, First, Grown, Fallen}
+use Rattle.sequences.specs.Tests.{Tells, First}
+use Rattle.checks.specs.Marks.{Marked, Known, Low, Above, unmarked, room, left, Grown, Fallen}
 
 pub known-input : (I : ℕ) (m : List ℕ) (u : ℕ) → u < I → Tells true (Known I m u)
 known-input I m u h = record { holds = λ e. inl h; fails = λ e. absurd (true≢false e) }

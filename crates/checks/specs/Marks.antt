@@ -1,6 +1,5 @@
 -- Definitions: marks on gates, and what they mean to the checks.
 use mathlib.Core.Path.{_≡_}
-use mathlib.Core.Bool.{Bool, true, false}
 use mathlib.Core.List.{List, [], _∷_}
 use mathlib.Core.Logic.{_⊎_}
 use Prim.Native.Nat.{ℕ, zero, suc, _+_, _*_, _≤_, _<_}
@@ -8,11 +7,6 @@ use native.Mathlib.Decide.{ℕ-discrete}
 use lib.ListN.{length, getD}
 use Rattle.sequences.specs.Keep.{keep}
 use Rattle.netlist.specs.Arrays.{stride}
-
--- a test tells whether P holds
-pub record Tells (r : Bool) (P : Type 0) : Type 0 where
-  pub holds : r ≡ true → P
-  pub fails : r ≡ false → ¬ P
 
 -- gate g carries a mark
 abbrev pub Marked : List ℕ → ℕ → Type 0
@@ -33,12 +27,6 @@ pub record Wires (I G : ℕ) (ps sources counts : List ℕ) : Type 0 where
   pub room′ : stride * G ≤ length counts
   pub pins : (g : ℕ) → g < G → getD ps g 0 ≤ stride
   pub node : (g j : ℕ) → g < G → j < getD ps g 0 → getD sources (stride * g + j) 0 < I + G
-
--- the first j below n with P j, or n
-pub record First (P : ℕ → Type 0) (n r : ℕ) : Type 0 where
-  pub bound : r ≤ n
-  pub found : r < n → P r
-  pub before : (j : ℕ) → j < r → ¬ P j
 
 -- marks stay, and r are new
 pub record Grown (m m′ : List ℕ) (r : ℕ) : Type 0 where

@@ -16,7 +16,8 @@ use Rattle.netlist.specs.ArrayLaws.{pinAt}
 use Rattle.netlist.specs.Wired.{Wired, wired-gate, gate-wired, wired-pin, pin-wired}
 use Rattle.netlist.specs.Checks.{Drives, Line, one, more, Loopless}
 use Rattle.cones.specs.Order.{Levels, levels}
-use Rattle.checks.specs.Marks.{Tells, Marked, Known, First, Grown, Wires, unmarked}
+use Rattle.sequences.specs.Tests.{Tells, First}
+use Rattle.checks.specs.Marks.{Marked, Known, Grown, Wires, unmarked}
 use Rattle.checks.specs.MarkLaws.{none-unmarked, known?, unmarked-zeros, first-all, grown-none, grown-one, grown-trans}
 
 -- pin j of gate g has no register and a source that is not known

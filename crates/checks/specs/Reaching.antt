@@ -15,7 +15,8 @@ use Rattle.netlist.specs.Arrays.{stride}
 use Rattle.netlist.specs.ArrayLaws.{pinAt}
 use Rattle.netlist.specs.Wired.{Wired, wired-gate, gate-wired, wired-pin, pin-wired}
 use Rattle.netlist.specs.Checks.{Reached, AllReached}
-use Rattle.checks.specs.Marks.{Tells, Marked, Known, First, Grown, Wires, unmarked}
+use Rattle.sequences.specs.Tests.{Tells, First}
+use Rattle.checks.specs.Marks.{Marked, Known, Grown, Wires, unmarked}
 use Rattle.checks.specs.MarkLaws.{first-all, grown-none, grown-one, grown-trans, unmarked-bound}
 
 -- pin j of gate g has a known source

@@ -16,7 +16,8 @@ use Rattle.netlist.specs.Copies.{Copy, copy}
 use Rattle.netlist.specs.CopyLaws.{copy-path}
 use Rattle.netlist.specs.ArrayLaws.{length-copiesFrom, getD-copiesFrom}
 use Rattle.netlist.specs.Arrays.{copyAt, copiesFrom}
-use Rattle.cone.specs.Lists.{Tells, First, copiesIn, Wires, Place, Room, members, Visit}
+use Rattle.sequences.specs.Tests.{Tells, First}
+use Rattle.cone.specs.Lists.{copiesIn, Wires, Place, Room, members, Visit}
 
 -- ---- tests
 

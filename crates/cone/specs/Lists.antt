@@ -1,6 +1,5 @@
 -- Definitions: lists of copies and a net's wiring kept in arrays, and what the steps of a walk over them tell.
 use mathlib.Core.Path.{_≡_}
-use mathlib.Core.Bool.{Bool, true, false}
 use mathlib.Core.List.{List, [], _∷_, _++_}
 use mathlib.Core.Logic.{_⊎_}
 use Prim.Native.Nat.{ℕ, zero, suc, _+_, _-_, _*_, _≤_, _<_}
@@ -10,17 +9,6 @@ use Rattle.sequences.specs.Member.{_∈_, Within}
 use Rattle.netlist.specs.Net.{Net}
 use Rattle.netlist.specs.Arrays.{stride, copyAt, copiesFrom}
 use Rattle.netlist.specs.Copies.{Copy, copy, Feeds}
-
--- a test tells whether P holds
-pub record Tells (r : Bool) (P : Type 0) : Type 0 where
-  pub holds : r ≡ true → P
-  pub fails : r ≡ false → ¬ P
-
--- the first j below n with P j, or n
-pub record First (P : ℕ → Type 0) (n r : ℕ) : Type 0 where
-  pub bound : r ≤ n
-  pub found : r < n → P r
-  pub before : (j : ℕ) → j < r → ¬ P j
 
 -- the first n copies
 unfoldable pub copiesIn : List ℕ → List ℕ → ℕ → List Copy

@@ -17,7 +17,8 @@ use Rattle.netlist.specs.CopyLaws.{copy-path}
 use Rattle.cones.specs.Basics.{leaf-same}
 use Rattle.cones.specs.Order.{levels, measure, feeds-measure}
 use Rattle.cones.specs.Part.{leads-mono}
-use Rattle.cone.specs.Lists.{First, copiesIn, sourceAt, Room, Bounded, most, SourcesFirst, Mixed, Swapped, Early, ReadyCopy}
+use Rattle.sequences.specs.Tests.{First}
+use Rattle.cone.specs.Lists.{copiesIn, sourceAt, Room, Bounded, most, SourcesFirst, Mixed, Swapped, Early, ReadyCopy}
 use Rattle.cone.specs.ListLaws.{length-copiesIn, getD-copiesIn, in-copiesIn, copiesIn-in, found-in, missing}
 use Rattle.cone.specs.Walking.{pin-feeds, feeds-pin}
 use Rattle.cone.specs.Growing.{member}

@@ -12,7 +12,8 @@ use Rattle.netlist.specs.Wired.{Wired, wired-gate}
 use Rattle.netlist.specs.Copies.{Copy, copy, Feeds, IsCone, IsLeaves, IsCut, Rising}
 use Rattle.cones.specs.Ranks.{Ranked}
 use Rattle.netlist.specs.Arrays.{copyAt, copiesFrom}
-use Rattle.cone.specs.Lists.{First, copiesIn, Wires, Touched, Bounded, Room, Leaves, Given, members, most, SourcesFirst}
+use Rattle.sequences.specs.Tests.{First}
+use Rattle.cone.specs.Lists.{copiesIn, Wires, Touched, Bounded, Room, Leaves, Given, members, most, SourcesFirst}
 use Rattle.cone.specs.ListLaws.{length-copiesIn, in-copiesIn, copiesIn-in, found-in, missing}
 use Rattle.cone.specs.Walking.{Walked, Closed, Refuted, walked-root, walked-cone, walked-leaves, refuted-root, closed-all, refuted-cut, pin-feeds, feeds-pin}
 use Rattle.cone.specs.Growing.{Sweep, Grown, member, sweep-closed}

@@ -19,7 +19,8 @@ use Rattle.tables.specs.Words.{bit-half, pack-same, pack-bits}
 use Rattle.tables.specs.Values.{same-true, same-refl, atLeaf-out}
 use Rattle.tables.specs.RunLaws.{map-map}
 use Rattle.truth.specs.Words.{LeafWord, valuesAt, Composed}
-use Rattle.cone.specs.Lists.{First, copiesIn, sourceAt, Bounded, SourcesFirst}
+use Rattle.sequences.specs.Tests.{First}
+use Rattle.cone.specs.Lists.{copiesIn, sourceAt, Bounded, SourcesFirst}
 use Rattle.cone.specs.ListLaws.{length-copiesIn, getD-copiesIn, in-copiesIn, found-in, missing, each-set}
 use Rattle.cone.specs.Walking.{pin-feeds}
 use Rattle.cone.specs.Growing.{member}

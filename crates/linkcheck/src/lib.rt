@@ -8,7 +8,7 @@ ghost use lib.ListN.{length, getD};
 ghost use lib.Signed.{mag};
 ghost use Rattle.limits.specs.Limits.{mostPeriod};
 ghost use Rattle.netlist.specs.Arrays.{stride};
-ghost use Rattle.cone.specs.Lists.{Tells};
+ghost use Rattle.sequences.specs.Tests.{Tells};
 ghost use Rattle.linkcheck.specs.Places.{placeIn, Found, LutFed, LutsFed, OutputsFed, raisedAt, levelOf, LeafEnough, LutEnough, LutsEnough, OutputEnough, OutputsEnough, LeafLong, LutLong, LongAt, NoneLong, Marked, Marks, most, LeafRoom, LagRoom, LeafAsked, Wired};
 ghost use Rattle.linkcheck.specs.Links.{Linking, LinksTold};
 

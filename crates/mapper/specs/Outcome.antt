@@ -22,7 +22,7 @@ use Rattle.reader.specs.Answer.{arraysOf}
 use Rattle.reader.specs.declared.Wiring.{Wiring}
 use Rattle.solver.specs.Checking.{check-refused, check-loop, check-unreached, check-unled, check-passes}
 use Rattle.solver.specs.Planned.{Covered, Roomy}
-use Rattle.solver.specs.Engines.{zeros}
+use Rattle.sequences.specs.Zeros.{zeros}
 use Rattle.solver.specs.Settling.{SettledAs}
 use Rattle.solver.specs.Settling as settling
 use Rattle.mapper.specs.Mapping.{MapsTo, MapsNet}

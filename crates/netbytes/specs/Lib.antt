@@ -4,3 +4,4 @@ pub mod Readers
 pub mod Stages
 pub mod Maps
 pub mod Sound
+pub mod Items

@@ -2,7 +2,6 @@ pub mod Answer
 pub mod Fields
 pub mod FieldLaws
 pub mod Contracts
-pub mod ItemLaws
 pub mod RowLaws
 pub mod SpreadLaws
 pub mod GateLaws

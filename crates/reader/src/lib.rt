@@ -5,6 +5,7 @@ use limits::GATES_BYTE;
 use limits::INPUTS_BYTE;
 use limits::OUTPUTS;
 use limits::OUTPUTS_BYTE;
+use limits::PINS;
 use limits::PLACES;
 ghost use mathlib.Core.Path.{_≡_};
 ghost use mathlib.Core.List.{List};
@@ -520,17 +521,6 @@ fn read_gate(bytes: &[u8], at: usize, k: u32, nodes: usize) -> GateRow
     }
 }
 
-// One pin is stored at its place.
-fn store_pin(net: Wiring, at: usize, source: usize, count: usize) -> Wiring
-    requires { ⌜ at < mostPlaces ⌝ }
-    ensures { λ r. ⌜ r ≡ withPin net at source count ⌝ }
-{
-    let mut out = net;
-    out.sources[at] = source;
-    out.counts[at] = count;
-    out
-}
-
 // The pins of a row are stored as those of gate g.
 fn store_pins(net: Wiring, g: usize, row: GateRow) -> Wiring
     requires { ⌜ g < mostGates ⌝ }
@@ -540,8 +530,10 @@ fn store_pins(net: Wiring, g: usize, row: GateRow) -> Wiring
     let counts = row.counts;
     let mut out = net;
     let mut j: usize = 0;
-    while j < 6 {
-        out = store_pin(out, 6 * g + j, wide(sources[j]), wide(counts[j]));
+    while j < PINS {
+        let at = PINS * g + j;
+        out.sources[at] = wide(sources[j]);
+        out.counts[at] = wide(counts[j]);
         j += 1;
     }
     out

@@ -6,3 +6,5 @@ pub mod Rising
 pub mod Subsets
 pub mod Grow
 pub mod Sum
+pub mod Tests
+pub mod Zeros

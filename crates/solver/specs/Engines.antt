@@ -6,6 +6,7 @@ use native.Mathlib.Nat.{mul-le-mul-right}
 use native.Mathlib.Omega.{arith}
 use lib.IntN.{ℤ}
 use lib.ListN.{length, getD, replicate, length-replicate}
+use Rattle.sequences.specs.Zeros.{zeros}
 use Rattle.netlist.specs.Net.{Net}
 use Rattle.netlist.specs.Arrays.{stride}
 use Rattle.netlist.specs.Wired.{Wired}
@@ -21,12 +22,6 @@ use Rattle.luts.specs.Luts.{Tabulates}
 use Rattle.solver.specs.Found.{PeriodFound}
 use Rattle.solver.specs.Planned.{Engine, Roomy}
 use Rattle.solver.specs.Covering.{few-leaves}
-
--- an array of zeros
-pub zeros : (n c : ℕ) → _≡_ {A = ℕ} (getD (replicate n 0) c 0) 0
-zeros zero c = refl
-zeros (suc n) zero = refl
-zeros (suc n) (suc c) = zeros n c
 
 module _ {I G W B : ℕ} {ps fs so co hs ns ts os oc : List ℕ} {n : ℕ} {tops order : List ℕ} {k target : ℕ} {t : List ℕ} {ls : List ℤ}
     (e : Engine I G W B ps fs so co hs ns ts os oc n tops order k target t ls) where

@@ -34,7 +34,7 @@ use Rattle.solver.specs.Counts.{Counted, SumCounts, sum-reach}
 use Rattle.solver.specs.Found.{PeriodAsked}
 use Rattle.solver.specs.Planned.{Covered, Planned, Planning, Roomy, Engine, CoverTold, Lengths}
 use Rattle.solver.specs.Entries.{withLabels, entries-in}
-use Rattle.solver.specs.Engines.{zeros}
+use Rattle.sequences.specs.Zeros.{zeros}
 
 -- gate g of a net kept in arrays
 gate-netIn : (a : Arrays) (g : ℕ) → g < a .gates → gate (netIn a) (a .inputs + g) ≡ gateAt (a .pins) (a .sources) (a .counts) (a .tables) g

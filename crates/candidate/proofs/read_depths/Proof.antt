@@ -6,7 +6,10 @@ use Prim.Native.Nat.{_-_}
 use native.Mathlib.Omega.{arith}
 use Rattle.records.specs.CoverBytes.{depthReader}
 use Rattle.candidate.specs.Contracts.{Shallow}
-use Rattle.candidate.specs.ItemLaws.{ReadSoFar, items-none, items-one, items-stop, items-all, items-spare, shallow-none, shallow-set}
+use lib.ListN.{drop}
+use Rattle.netbytes.specs.Items.{ReadSoFar, items-none, items-one, items-stop, items-all, items-spare}
+use Rattle.candidate.specs.ItemLaws.{shallow-none, shallow-set}
+use Rattle.candidate.specs.FieldLaws.{went, stopped}
 use Rattle.candidate.proofs.read_depths.Statement.{statement}
 use Rattle.candidate.proofs.read_depths.Tie as tie
 
@@ -28,7 +31,7 @@ returns c =
     let l = c .before .before .before .before .loop in
     let b = c .before .before .read-depth in
     record {
-      result = items-stop depthReader (now (a .bytes)) (a .at) (a .n) (l .values) (l .next) (l .i) (l .inv .0) (c .before .before .before .loop-test .taken) (b .result .fine) (b .result .value) (b .result .at) (b .ensures .result) (not-true _ (c .if1 .taken));
+      result = items-stop depthReader (now (a .bytes)) (a .at) (a .n) (l .values) (l .next) (l .i) (l .inv .0) (c .before .before .before .loop-test .taken) (stopped (b .result .fine) (b .result .value) (drop (b .result .at) (now (a .bytes))) (b .ensures .result) (not-true _ (c .if1 .taken)));
       spare = items-spare depthReader (now (a .bytes)) (a .at) (a .n) (l .values) (l .next) (l .i) (l .inv .0);
       small = l .inv .1;
     }
@@ -51,7 +54,7 @@ loop-again c =
     let l = c .before .before .before .before .loop in
     let b = c .before .before .read-depth in
     let long = l .inv .0 .long in (
-      items-one depthReader (now (a .bytes)) (a .at) (a .n) (l .values) (l .next) (l .i) (l .inv .0) (c .before .before .before .loop-test .taken) (c .before .before .before .before .before .before .pre) (b .result .fine) (b .result .value) (b .result .at) (b .ensures .result) (not-false _ (c .if1 .left)),
+      items-one depthReader (now (a .bytes)) (a .at) (a .n) (l .values) (l .next) (l .i) (l .inv .0) (c .before .before .before .loop-test .taken) (c .before .before .before .before .before .before .pre) (b .result .value) (b .result .at) (went (b .result .fine) (b .result .value) (drop (b .result .at) (now (a .bytes))) (b .ensures .result) (not-false _ (c .if1 .left))),
       shallow-set (l .values) (l .i) (b .result .value) (omega (arith, c .before .before .before .before .before .before .pre)) (l .inv .1) (b .ensures .small),
     )
 

@@ -5,7 +5,9 @@ use denote.Ref.{now}
 use Prim.Native.Nat.{_-_}
 use native.Mathlib.Omega.{arith}
 use Rattle.candidate.specs.Fields.{fieldByte}
-use Rattle.candidate.specs.ItemLaws.{ReadSoFar, items-none, items-one, items-stop, items-all, items-spare}
+use lib.ListN.{drop}
+use Rattle.netbytes.specs.Items.{ReadSoFar, items-none, items-one, items-stop, items-all, items-spare}
+use Rattle.candidate.specs.FieldLaws.{went, stopped}
 use Rattle.candidate.proofs.read_items.Statement.{statement}
 use Rattle.candidate.proofs.read_items.Tie as tie
 
@@ -27,7 +29,7 @@ returns c =
     let l = c .before .before .before .before .loop in
     let b = c .before .before .read-byte in
     record {
-      result = items-stop (fieldByte (a .field) 0 (a .limit)) (now (a .bytes)) (a .at) (a .n) (l .values) (l .next) (l .i) (l .inv) (c .before .before .before .loop-test .taken) (b .result .fine) (b .result .value) (b .result .at) (b .ensures) (not-true _ (c .if1 .taken));
+      result = items-stop (fieldByte (a .field) 0 (a .limit)) (now (a .bytes)) (a .at) (a .n) (l .values) (l .next) (l .i) (l .inv) (c .before .before .before .loop-test .taken) (stopped (b .result .fine) (b .result .value) (drop (b .result .at) (now (a .bytes))) (b .ensures) (not-true _ (c .if1 .taken)));
       spare = items-spare (fieldByte (a .field) 0 (a .limit)) (now (a .bytes)) (a .at) (a .n) (l .values) (l .next) (l .i) (l .inv);
       long = l .inv .long;
     }
@@ -46,7 +48,7 @@ loop-again c =
     let a = c .before .before .before .before .before .before .args in
     let l = c .before .before .before .before .loop in
     let b = c .before .before .read-byte in
-    items-one (fieldByte (a .field) 0 (a .limit)) (now (a .bytes)) (a .at) (a .n) (l .values) (l .next) (l .i) (l .inv) (c .before .before .before .loop-test .taken) (c .before .before .before .before .before .before .pre) (b .result .fine) (b .result .value) (b .result .at) (b .ensures) (not-false _ (c .if1 .left))
+    items-one (fieldByte (a .field) 0 (a .limit)) (now (a .bytes)) (a .at) (a .n) (l .values) (l .next) (l .i) (l .inv) (c .before .before .before .loop-test .taken) (c .before .before .before .before .before .before .pre) (b .result .value) (b .result .at) (went (b .result .fine) (b .result .value) (drop (b .result .at) (now (a .bytes))) (b .ensures) (not-false _ (c .if1 .left)))
 
 returns-2 : tie.Need-returns-2 Inv-loop μ-loop
 returns-2 c =

@@ -3,18 +3,21 @@ use borrow.Author.Needs.{needs}
 use denote.Ref.{now}
 use Prim.Native.Nat.{_-_}
 use native.Mathlib.Omega.{arith}
-use Rattle.reader.specs.ItemLaws.{ItemsSoFar, items-none, items-one, items-stop, items-all, items-spare}
+use lib.ListN.{drop}
+use Rattle.netbytes.specs.Items.{ReadSoFar, items-none, items-one, items-stop, items-all, items-spare}
+use Rattle.reader.specs.Fields.{fieldByte}
+use Rattle.reader.specs.FieldLaws.{went, stopped}
 use Rattle.reader.proofs.read_items.Statement.{statement}
 use Rattle.reader.proofs.read_items.Tie as tie
 
 abbrev Inv-loop : tie.InvT-loop
-Inv-loop bytes at n field limit values₀ next₀ i₀ values next i = ItemsSoFar bytes at n field limit values next i
+Inv-loop bytes at n field limit values₀ next₀ i₀ values next i = ReadSoFar (fieldByte field limit) bytes at n values next i
 
 abbrev μ-loop : tie.MeasureT-loop
 μ-loop bytes at n field limit values₀ next₀ i₀ values next i = n - i
 
 loop-holds : tie.Need-loop-holds Inv-loop μ-loop
-loop-holds c = let a = c .before .args in items-none (now (a .bytes)) (a .at) (a .n) (a .field) (a .limit)
+loop-holds c = let a = c .before .args in items-none (fieldByte (a .field) (a .limit)) (now (a .bytes)) (a .at) (a .n)
 
 read-byte-requires : tie.Need-read-byte-requires Inv-loop μ-loop
 read-byte-requires c κs = search needs
@@ -29,8 +32,8 @@ returns c =
     let h = c .before .before .before .before .loop-test .taken in
     let b = c .before .before .before .read-byte in
     record {
-      result = items-stop (now (a .bytes)) (a .at) (a .n) (a .field) (a .limit) (l .values) (l .next) (l .i) (l .inv) h (b .result .verdict) (b .result .value) (b .result .at) (c .before .v .given .0 .0) (b .ensures) (c .before .v .given .1);
-      spare = items-spare (now (a .bytes)) (a .at) (a .n) (a .field) (a .limit) (l .values) (l .next) (l .i) (l .inv);
+      result = items-stop (fieldByte (a .field) (a .limit)) (now (a .bytes)) (a .at) (a .n) (l .values) (l .next) (l .i) (l .inv) h (stopped (b .result .value) (drop (b .result .at) (now (a .bytes))) (b .ensures) (c .before .v .given .1));
+      spare = items-spare (fieldByte (a .field) (a .limit)) (now (a .bytes)) (a .at) (a .n) (l .values) (l .next) (l .i) (l .inv);
     }
 
 enum-told : tie.Need-enum-told Inv-loop μ-loop
@@ -51,7 +54,7 @@ loop-again c =
     let l = c .before .before .before .before .loop in
     let h = c .before .before .before .loop-test .taken in
     let b = c .before .before .read-byte in
-    items-one (now (a .bytes)) (a .at) (a .n) (a .field) (a .limit) (l .values) (l .next) (l .i) (l .inv) h (c .before .before .before .before .before .before .pre) (b .result .verdict) (b .result .value) (b .result .at) (b .ensures) (c .enum-told .given .1)
+    items-one (fieldByte (a .field) (a .limit)) (now (a .bytes)) (a .at) (a .n) (l .values) (l .next) (l .i) (l .inv) h (c .before .before .before .before .before .before .pre) (b .result .value) (b .result .at) (went (b .result .value) (drop (b .result .at) (now (a .bytes))) (b .ensures) (c .enum-told .given .1))
 
 returns-2 : tie.Need-returns-2 Inv-loop μ-loop
 returns-2 c =
@@ -59,8 +62,8 @@ returns-2 c =
     let l = c .before .loop in
     let h = c .loop-test .left in
     record {
-      result = items-all (now (a .bytes)) (a .at) (a .n) (a .field) (a .limit) (l .values) (l .next) (l .i) (l .inv) h;
-      spare = items-spare (now (a .bytes)) (a .at) (a .n) (a .field) (a .limit) (l .values) (l .next) (l .i) (l .inv);
+      result = items-all (fieldByte (a .field) (a .limit)) (now (a .bytes)) (a .at) (a .n) (l .values) (l .next) (l .i) (l .inv) h;
+      spare = items-spare (fieldByte (a .field) (a .limit)) (now (a .bytes)) (a .at) (a .n) (l .values) (l .next) (l .i) (l .inv);
     }
 
 pub read-items-spec : {M : Type 1} → statement M

@@ -17,11 +17,11 @@ abbrev μ-loop : tie.MeasureT-loop
 loop-holds : tie.Need-loop-holds Inv-loop μ-loop
 loop-holds c = (omega arith, pins-none (c .before .before .args .net) (c .before .before .args .g) (c .before .before .args .row .sources) (c .before .before .args .row .counts) (search needs) (search needs))
 
-mul-store-pin : tie.Need-mul-store-pin Inv-loop μ-loop
-mul-store-pin c = omega arith
+mul-at : tie.Need-mul-at Inv-loop μ-loop
+mul-at c = omega arith
 
-add-store-pin : tie.Need-add-store-pin Inv-loop μ-loop
-add-store-pin c = omega arith
+add-at : tie.Need-add-at Inv-loop μ-loop
+add-at c = omega arith
 
 array-read-wide : tie.Need-array-read-wide Inv-loop μ-loop
 array-read-wide c = omega arith
@@ -29,14 +29,23 @@ array-read-wide c = omega arith
 wide-requires : tie.Need-wide-requires Inv-loop μ-loop
 wide-requires c κs = search needs
 
+mul-out : tie.Need-mul-out Inv-loop μ-loop
+mul-out c = omega arith
+
+element-write-out : tie.Need-element-write-out Inv-loop μ-loop
+element-write-out c = search needs
+
 array-read-wide-2 : tie.Need-array-read-wide-2 Inv-loop μ-loop
 array-read-wide-2 c = omega arith
 
 wide-requires-2 : tie.Need-wide-requires-2 Inv-loop μ-loop
 wide-requires-2 c κs = search needs
 
-store-pin-requires : tie.Need-store-pin-requires Inv-loop μ-loop
-store-pin-requires c κs = omega arith
+mul-out-2 : tie.Need-mul-out-2 Inv-loop μ-loop
+mul-out-2 c = omega arith
+
+element-write-out-2 : tie.Need-element-write-out-2 Inv-loop μ-loop
+element-write-out-2 c = search needs
 
 add-j : tie.Need-add-j Inv-loop μ-loop
 add-j c = omega arith
@@ -45,12 +54,10 @@ loop-less : tie.Need-loop-less Inv-loop μ-loop
 loop-less c = omega arith
 
 loop-again : tie.Need-loop-again Inv-loop μ-loop
-loop-again c = (omega arith, rw (c .store-pin .ensures, c .before .before .wide .ensures, c .before .wide2 .ensures) (pins-one (c .before .before .before .before .before .before .before .args .net) (c .before .before .before .before .before .before .before .args .g) (c .before .before .before .before .before .before .before .args .row .sources) (c .before .before .before .before .before .before .before .args .row .counts) (c .before .before .before .before .loop .j) (c .before .before .before .before .loop .out) (c .before .before .before .before .loop .inv .1) (omega arith) (omega arith)))
+loop-again c = (omega arith, rw (c .before .wide .ensures, c .wide2 .ensures) (pins-one (c .before .before .before .before .before .before .args .net) (c .before .before .before .before .before .before .args .g) (c .before .before .before .before .before .before .args .row .sources) (c .before .before .before .before .before .before .args .row .counts) (c .before .before .before .loop .j) (c .before .before .before .loop .out) (c .before .before .before .loop .inv .1) (omega arith) (omega arith)))
 
 returns : tie.Need-returns Inv-loop μ-loop
-returns c =
-    let end : c .before .loop .j ≡ 6 = omega arith in
-    rw end at (c .before .loop .inv .1)
+returns c = let end : c .before .loop .j ≡ 6 = omega arith in rw end at (c .before .loop .inv .1)
 
 pub store-pins-spec : {M : Type 1} → statement M
 store-pins-spec =
@@ -59,13 +66,16 @@ store-pins-spec =
     Inv-loop
     μ-loop
     loop-holds
-    mul-store-pin
-    add-store-pin
+    mul-at
+    add-at
     array-read-wide
     wide-requires
+    mul-out
+    element-write-out
     array-read-wide-2
     wide-requires-2
-    store-pin-requires
+    mul-out-2
+    element-write-out-2
     add-j
     loop-less
     loop-again
