@@ -1,6 +1,6 @@
 // One visit of a gate: its label raised to what every labelling reaches, unless nothing can change or it would pass its ceiling.
-use limits::PINS;
 use circuit::Sizes;
+use limits::PINS;
 use query::question;
 use signed::minus;
 use signed::no_higher;
