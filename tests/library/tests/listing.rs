@@ -66,6 +66,27 @@ fn refusals() {
     assert_eq!(same(2, 0, &[1, 1, 1, 1, 0, 0, 2, 0, 0]), "refused 11\n");
 }
 
+/// Labels, chosen cuts, lags and periods of 20,000 nets that have a cover.
+#[test]
+fn labels_and_cuts() {
+    std::thread::scope(|scope| {
+        for seed in [11, 12] {
+            scope.spawn(move || {
+                let mut random = Random::new(seed);
+                let mut covers = 0;
+                while covers < 10_000 {
+                    let gates = random.within(1, 14);
+                    let shape = Shape::any(&mut random, gates, 4);
+                    let net = encode(&random_net(&mut random, &shape));
+                    let k = random.within(4, 6) as u8;
+                    let text = same(k, random.pick(&[0, 0, 1, 2, 3]), &net);
+                    covers += usize::from(text.starts_with("period"));
+                }
+            });
+        }
+    });
+}
+
 #[test]
 fn random_nets() {
     let mut random = Random::new(7);
