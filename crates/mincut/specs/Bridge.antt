@@ -29,6 +29,9 @@ holds-netIn a width border first heads nexts inside = record {
   lists = λ g h. pins-netIn a (a .inputs + g) g refl h;
 }
 
+pub gate-of : {C : Circuit} {N : Net} → Holds C N → (g : ℕ) → g < C .gates → IsGate N (C .inputs + g)
+gate-of H g h = record { low = omega (arith, H .inputs); high = omega (arith, H .inputs, H .gates, h) }
+
 -- ---- numbers and copies
 abbrev pub decode : Circuit → ℕ → Copy
 decode C x = copy (x / C .width) (x % C .width)

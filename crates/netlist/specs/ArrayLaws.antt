@@ -79,14 +79,16 @@ module _ (a : Arrays) where
   unfolding netIn
   size-netIn = ap (λ (n : ℕ). a .inputs + n) gates-netIn
 
-  -- the pins of gate g of the net, which is node inputs + g
-  pub pins-netIn : (v g : ℕ) → v ≡ a .inputs + g → g < a .gates → pins (netIn a) v ≡ pinsIn (a .sources) (a .counts) (stride * g) (getD (a .pins) g 0)
+  -- gate g of the net, which is node inputs + g, and its pins
+  pub gate-netIn : (v g : ℕ) → v ≡ a .inputs + g → g < a .gates → gate (netIn a) v ≡ gateAt (a .pins) (a .sources) (a .counts) (a .tables) g
   unfolding netIn gate
-  pins-netIn v g e h =
+  gate-netIn v g e h =
       let i : v - a .inputs ≡ g = omega arith in
-      ap (λ (x : Gate). x .pins) (ap (λ (n : ℕ). getD (gatesIn (a .pins) (a .sources) (a .counts) (a .tables) 0 (a .gates)) n nothing) i
-      ∙ getD-gatesIn (a .pins) (a .sources) (a .counts) (a .tables) 0 (a .gates) g nothing h)
-      ∙ ap (λ (n : ℕ). pinsIn (a .sources) (a .counts) (stride * n) (getD (a .pins) n 0)) (zero-add g)
+      ap (λ (n : ℕ). getD (gatesIn (a .pins) (a .sources) (a .counts) (a .tables) 0 (a .gates)) n nothing) i
+      ∙ getD-gatesIn (a .pins) (a .sources) (a .counts) (a .tables) 0 (a .gates) g nothing h ∙ ap (gateAt (a .pins) (a .sources) (a .counts) (a .tables)) (zero-add g)
+
+  pub pins-netIn : (v g : ℕ) → v ≡ a .inputs + g → g < a .gates → pins (netIn a) v ≡ pinsIn (a .sources) (a .counts) (stride * g) (getD (a .pins) g 0)
+  pins-netIn v g e h = ap (λ (x : Gate). x .pins) (gate-netIn v g e h)
 
   pub isGate-netIn : (v g : ℕ) → v ≡ a .inputs + g → g < a .gates → IsGate (netIn a) v
   isGate-netIn v g e h =

@@ -64,7 +64,7 @@ deep : List Copy → List ℕ
 deep [] = []
 deep (y ∷ L) = cond (notZero (y .back)) (y .back ∷ deep L) (deep L)
 
-leafMap-small : (L : List Copy) → leafMap L < 2 ^ length L
+pub leafMap-small : (L : List Copy) → leafMap L < 2 ^ length L
 unfolding leafMap
 leafMap-small [] = omega arith
 leafMap-small (y ∷ L) =

@@ -25,16 +25,13 @@ use Rattle.labelling.specs.Lower.{input-or-gate}
 use Rattle.labelling.specs.Pins.{pin-lemma, pin-input}
 use Rattle.labelling.specs.Forced.{Falling, leaf-allowed, reach-separates}
 use Rattle.circuit.specs.Circuit.{Circuit}
-use Rattle.mincut.specs.Bridge.{Holds}
+use Rattle.mincut.specs.Bridge.{Holds, gate-of}
 use Rattle.query.specs.Question.{labelIn, Asks, Takes, Separated, Answers, Written}
 use Rattle.query.specs.Meaning.{wiresOf}
 use Rattle.roots.specs.Choosing.{Asking, Keyed}
 
 pub holds-of : (C : Circuit) {N : Net} → Holds (wiresOf C) N → Holds C N
 holds-of C H = record { inputs = H .inputs; gates = H .gates; lists = H .lists }
-
-pub gate-of : {C : Circuit} {N : Net} → Holds C N → (g : ℕ) → g < C .gates → IsGate N (C .inputs + g)
-gate-of H g h = record { low = omega (arith, H .inputs); high = omega (arith, H .inputs, H .gates, h) }
 
 -- **The least labelling does not fall along pins.**
 least-falling : {N : Net} {k φ : ℕ} {lab : ℕ → ℤ} → Sound N → Least N k φ lab → Falling N φ lab

@@ -20,7 +20,8 @@ use Rattle.query.specs.Question.{labelIn, Answers, Written}
 use Rattle.query.specs.Meaning.{wiresOf}
 use Rattle.roots.specs.Choosing.{Asking, Places, Chooses, Keyed, Reads, RootsTold}
 use Rattle.roots.specs.Marking.{IsAt, Among, Marks, left, left-falls, marks-none}
-use Rattle.roots.specs.KeyCut.{gate-of, told-few, told-leaves, Beside, put, put-beside, put-at, copies-same}
+use Rattle.mincut.specs.Bridge.{gate-of}
+use Rattle.roots.specs.KeyCut.{told-few, told-leaves, Beside, put, put-beside, put-at, copies-same}
 
 pub places-kept : {G : ℕ} {marks sizes nodes backs marks′ sizes′ nodes′ backs′ : List ℕ} → Places G marks sizes nodes backs
     → length marks′ ≡ length marks → length sizes′ ≡ length sizes → length nodes′ ≡ length nodes → length backs′ ≡ length backs → Places G marks′ sizes′ nodes′ backs′

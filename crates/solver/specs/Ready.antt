@@ -2,15 +2,15 @@
 use mathlib.Core.Path.{_≡_, refl, sym, ap, subst, _∙_}
 use mathlib.Core.List.{List, [], _∷_, _++_}
 use Prim.Native.Nat.{ℕ, zero, suc, _+_, _-_, _*_, _≤_, _<_}
-use native.Mathlib.Nat.{mul-le-mul, mul-le-mul-left, mul-le-mul-right, zero-add}
+use native.Mathlib.Nat.{mul-le-mul, mul-le-mul-left, mul-le-mul-right}
 use native.Mathlib.Decide.{decLt}
 use native.Mathlib.Omega.{arith}
 use lib.IntN.{ℤ, pos}
 use lib.ListN.{length, getD, take, drop, replicate, length-replicate, List·getD-append}
 use lib.Seq.{length-take-le, take-at, getD-take}
-use Rattle.netlist.specs.Net.{Net, Gate, IsGate, gate, nothing}
+use Rattle.netlist.specs.Net.{Net, Gate}
 use Rattle.netlist.specs.Arrays.{Arrays, stride, pinsIn, gatesIn, netIn}
-use Rattle.netlist.specs.ArrayLaws.{getD-gatesIn, gateAt, outputs-netIn}
+use Rattle.netlist.specs.ArrayLaws.{gate-netIn, gateAt, outputs-netIn}
 use Rattle.netlist.specs.Wired.{Wired, netIn-wired}
 use Rattle.netlist.specs.Checks.{Passed}
 use Rattle.limits.specs.Limits.{mostPeriod, mostCount, mostCopies, mostTable, mostNodes, mostPlaces, mostReach}
@@ -36,17 +36,9 @@ use Rattle.solver.specs.Planned.{Covered, Planned, Planning, Roomy, Engi
 use Rattle.solver.specs.Entries.{withLabels, entries-in}
 use Rattle.sequences.specs.Zeros.{zeros}
 
--- gate g of a net kept in arrays
-gate-netIn : (a : Arrays) (g : ℕ) → g < a .gates → gate (netIn a) (a .inputs + g) ≡ gateAt (a .pins) (a .sources) (a .counts) (a .tables) g
-unfolding netIn gate
-gate-netIn a g h =
-    let i : a .inputs + g - a .inputs ≡ g = omega arith in
-    ap (λ (n : ℕ). getD (gatesIn (a .pins) (a .sources) (a .counts) (a .tables) 0 (a .gates)) n nothing) i
-    ∙ getD-gatesIn (a .pins) (a .sources) (a .counts) (a .tables) 0 (a .gates) g nothing h ∙ ap (gateAt (a .pins) (a .sources) (a .counts) (a .tables)) (zero-add g)
-
 -- the tables of a net kept in arrays
 pub tabled-netIn : (a : Arrays) → Tabled (netIn a) (a .inputs) (a .gates) (a .tables)
-tabled-netIn a = record { table = λ g h. ap (λ (x : Gate). x .table) (gate-netIn a g h) }
+tabled-netIn a = record { table = λ g h. ap (λ (x : Gate). x .table) (gate-netIn a (a .inputs + g) g refl h) }
 
 -- the same cover with labels that agree on the gates
 covered-with : {N : Net} {k target : ℕ} {a : Kept} {ls : List ℤ} → ((u : ℕ) → u < a .inputs + a .gates → getD (a .labels) u (pos 0) ≡ getD ls u (pos 0))

@@ -26,7 +26,7 @@ use Rattle.labelling.specs.Forced.{Falling, separation-cut}
 use Rattle.limits.specs.Limits.{mostCopies}
 use Rattle.signed.specs.Range.{Small, room}
 use Rattle.circuit.specs.Circuit.{Circuit, circuit}
-use Rattle.mincut.specs.Bridge.{Holds}
+use Rattle.mincut.specs.Bridge.{Holds, gate-of}
 use Rattle.query.specs.Question.{labelIn, Answers, Separated}
 
 -- What the sweep may assume of a net: its wiring is the circuit's, it passed the checks, the border leaves room for its cuts, and each gate g has a path to an
@@ -127,9 +127,6 @@ pub record Visited (C : Circuit) (k φ : ℕ) (tops : List ℕ) (ls ls′ : List
   pub refuted : r ≡ 2 → Bounds C k φ tops ls → Refuted C k φ tops
 
 -- gates and pins of a net with this wiring
-gate-of : {C : Circuit} {N : Net} → Holds C N → (g : ℕ) → g < C .gates → IsGate N (C .inputs + g)
-gate-of {C} h g l = let a = h .inputs in let b = h .gates in record { low = omega arith; high = omega arith }
-
 place-of : {C : Circuit} {N : Net} → Holds C N → (v : ℕ) → IsGate N v → (g : ℕ) × (g < C .gates) × (v ≡ C .inputs + g)
 place-of {C} h v i = let a = h .inputs in let b = h .gates in let l = i .low in let u = i .high in (v - C .inputs, omega arith, omega arith)
 

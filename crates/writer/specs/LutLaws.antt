@@ -14,6 +14,7 @@ use Rattle.netlist.specs.ArrayLaws.{length-copiesFrom}
 use Rattle.netlist.specs.Copies.{Copy, copy}
 use Rattle.netlist.specs.Tables.{asNumber}
 use Rattle.tables.specs.Words.{asNumber-small}
+use Rattle.records.specs.RoundTrip.{leafMap-small}
 use Rattle.records.specs.CoverBytes.{toBytes, notZero, leafMap, depths, isZero, lagBytes, lutBytes}
 use Rattle.netbytes.specs.Walk.{tableBytes}
 use Rattle.writer.specs.Writing.{leafBytes, valueBytes, lutOf}
@@ -128,26 +129,17 @@ map-more backs at n j h =
     let f : suc (at + j) ≡ at + suc j = omega arith in
     rw (e, ← f) refl
 
-leafMap-low : (L : List Copy) → leafMap L < 2 ^ length L
-unfolding leafMap
-leafMap-low [] = omega arith
-leafMap-low (y ∷ L) =
-    let a = asNumber-small (notZero (y .back)) in
-    let b = leafMap-low L in
-    let c = pow-suc 2 (length L) in
-    omega arith
-
 -- at most six leaves give a map below 64
-pub leafMap-small : (nodes backs : List ℕ) (at n : ℕ) → n ≤ 6 → leafMap (copiesFrom nodes backs at n) < 64
-leafMap-small nodes backs at n h =
-    let a = leafMap-low (copiesFrom nodes backs at n) in
+pub map-below : (nodes backs : List ℕ) (at n : ℕ) → n ≤ 6 → leafMap (copiesFrom nodes backs at n) < 64
+map-below nodes backs at n h =
+    let a = leafMap-small (copiesFrom nodes backs at n) in
     let b = length-copiesFrom nodes backs at n in
     let c : 2 ^ length (copiesFrom nodes backs at n) ≤ 2 ^ 6 = lib.Pow.pow-mono {i = length (copiesFrom nodes backs at n)} {j = 6} (omega arith) in
     omega arith
 
 pub map-small : (backs : List ℕ) (at n j : ℕ) → n ≤ 6 → mapFrom backs at n j < 64
 unfolding mapFrom
-map-small backs at n j h = leafMap-small [] backs (at + j) (n - j) (omega arith)
+map-small backs at n j h = map-below [] backs (at + j) (n - j) (omega arith)
 
 -- ---- the table
 

@@ -17,7 +17,7 @@ use Rattle.signed.specs.RangeLaws.{back}
 use Rattle.writer.specs.Writing.{Wrote, LutAsked, leafBytes, valueBytes}
 use Rattle.writer.specs.Behind.{wrote-behind, wrote-within, wrote-fits, room-behind}
 use Rattle.writer.specs.LagLaws.{lag-fits, flag-small}
-use Rattle.writer.specs.LutLaws.{headBytes, lut-bytes, leafMap-small}
+use Rattle.writer.specs.LutLaws.{headBytes, lut-bytes, map-below}
 use Rattle.writer.proofs.write_lut.Statement.{statement}
 use Rattle.writer.proofs.write_lut.Tie as tie
 
@@ -28,7 +28,7 @@ mapOf backs at n lag = leafMap (copiesFrom [] backs at n) + cond (isZero lag) 0 
 module _ {root : ℕ} {nodes backs : List ℕ} {at n : ℕ} {lag : ℤ} {table : ℕ} {area : List ℕ} (p : LutAsked root nodes backs at n lag table area) where
   map-byte : mapOf backs at n lag < 256
   unfolding mapOf
-  map-byte = let a = leafMap-small [] backs at n (p .few) in let b = flag-small lag in omega arith
+  map-byte = let a = map-below [] backs at n (p .few) in let b = flag-small lag in omega arith
 
   mapped : {m f : ℕ} → m ≡ leafMap (copiesFrom [] backs at n) → f ≡ cond (isZero (toZ w64 (ofZ w64 lag))) 0 64 → m + f ≡ mapOf backs at n lag
   unfolding mapOf
