@@ -5,7 +5,7 @@ use mathlib.Core.List.{List, []}
 use Prim.Native.Nat.{ℕ, _+_, _≤_, _<_}
 use native.Mathlib.Omega.{arith}
 use lib.ListN.{length, drop}
-use Rattle.limits.specs.Limits.{mostLuts, mostLeaves}
+use Rattle.limits.specs.Limits.{mostPeriod, mostLuts, mostLeaves}
 use Rattle.netlist.specs.Net.{Net, size}
 use Rattle.netbytes.specs.Reading.{andThen, between, got, refused}
 use Rattle.netbytes.specs.Readers.{then-goes, then-stops, byte-got}
@@ -24,10 +24,10 @@ use Rattle.candidate.specs.FieldLaws.{went, stopped}
 use Rattle.candidate.specs.FactLaws.{luts-facts, well-held}
 
 -- a number of LUTs or a period that was read is in its range
-pub period-range : (p : ℕ) (t u : List ℕ) → fieldByte Period 0 0 t ≡ got p u → (1 ≤ p) × (p ≤ 32)
+pub period-range : (p : ℕ) (t u : List ℕ) → fieldByte Period 0 0 t ≡ got p u → (1 ≤ p) × (p ≤ mostPeriod)
 period-range p t u e = between-true 1 32 p (byte-got 13 13 (between 1 32) t p u e)
 
-pub count-range : (n : ℕ) (t u : List ℕ) → fieldByte Luts 0 0 t ≡ got n u → (1 ≤ n) × (n ≤ 32)
+pub count-range : (n : ℕ) (t u : List ℕ) → fieldByte Luts 0 0 t ≡ got n u → (1 ≤ n) × (n ≤ mostLuts)
 count-range n t u e = between-true 1 32 n (byte-got 13 13 (between 1 32) t n u e)
 
 module _ (s : List ℕ) (I G k : ℕ) where
@@ -73,7 +73,7 @@ module _ (s : List ℕ) (I G k : ℕ) where
 
         pub cover-goes : length s ≤ y .at → k ≤ 6
             → length (y .luts .roots) ≡ mostLuts → length (y .luts .sizes) ≡ mostLuts → length (y .luts .nodes) ≡ mostLeaves → length (y .luts .backs) ≡ mostLeaves
-            → length (y .luts .lags) ≡ 32 → length (y .luts .tables) ≡ 32 → CoverRead s I G k (y .luts)
+            → length (y .luts .lags) ≡ mostLuts → length (y .luts .tables) ≡ mostLuts → CoverRead s I G k (y .luts)
         cover-goes h six lr ls ln lb ll lt =
             let c = y .luts in
             let number : c .luts ≡ w .luts = r .same .luts in

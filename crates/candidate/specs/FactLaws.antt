@@ -10,6 +10,7 @@ use lib.ListN.{length, getD}
 use lib.Signed.{mag}
 use lib.IntN.{ℤ, pos, negsuc}
 use borrow.Author.Tests.{ltb-true, ltb-false, leb-true}
+use Rattle.limits.specs.Limits.{depthRoom}
 use Rattle.sequences.specs.Member.{here, there}
 use Rattle.netlist.specs.Tables.{bit}
 use Rattle.netlist.specs.Arrays.{stride, copyAt}
@@ -126,7 +127,7 @@ module _ (nodes k : ℕ) where
 module _ (I G k n : ℕ) (a : Held) (f : Each (LutFacts (I + G) k I) (lutsIn a n))
     (lr : n ≤ length (a .roots)) (ls : n ≤ length (a .sizes)) (ln : stride * n ≤ length (a .nodes)) (lb : stride * n ≤ length (a .backs))
     (ll : n ≤ length (a .lags)) (lt : n ≤ length (a .tables)) (six : k ≤ 6)
-    (small : (m : ℕ) → m < stride * n → getD (a .backs) m 0 < 65536) where
+    (small : (m : ℕ) → m < stride * n → getD (a .backs) m 0 < depthRoom) where
   at : (i : ℕ) → i < n → LutFacts (I + G) k I (lutAt a i)
   at i h = f (lutAt a i) (in-lutsIn a n i h)
 

@@ -11,7 +11,7 @@ use lib.IntN.{ℤ, pos}
 use lib.ListN.{length, getD, drop, set, length-set}
 use lib.Seq.{getD-set-same, getD-set-other}
 use borrow.Author.Count.{below-more}
-use Rattle.limits.specs.Limits.{mostLeaves}
+use Rattle.limits.specs.Limits.{mostLeaves, mostLuts, mostPins, depthRoom}
 use Rattle.netlist.specs.Arrays.{stride, copyAt, copiesFrom}
 use Rattle.netlist.specs.Copies.{Copy, copy}
 use Rattle.covers.specs.Key.{Entry}
@@ -46,7 +46,7 @@ module _ (w : Candidate) (i : ℕ) (S D : List ℕ) where
     backs-long = lb;
   }
 
-  pub leaves-one : (j : ℕ) (z : Candidate) → LeavesStored w i S D j z → i < 32 → j < 6 → LeavesStored w i S D (j + 1) (withLeaf z (6 * i + j) (getD S j 0) (getD D j 0))
+  pub leaves-one : (j : ℕ) (z : Candidate) → LeavesStored w i S D j z → i < mostLuts → j < mostPins → LeavesStored w i S D (j + 1) (withLeaf z (6 * i + j) (getD S j 0) (getD D j 0))
   leaves-one j z so hi hj =
       let ln = so .nodes-long in
       let lb = so .backs-long in
@@ -113,8 +113,8 @@ module _ {A : Type 0} (l m : List A) (i : ℕ) (a d : A) (e : l ≡ m) where
   set-there j h = getD-set-other l i j a d (omega arith) ∙ ap (λ (x : List A). getD x j d) e
 
 module _ (w : Candidate) (i : ℕ) (row : Row) (z : Candidate) (so : LeavesStored w i (row .nodes) (row .backs) 6 z)
-    (hi : i < 32) (six : row .size ≤ 6) (few : narrow w i)
-    (lr : length (w .roots) ≡ 32) (ls : length (w .sizes) ≡ 32) (ll : length (w .lags) ≡ 32) (lt : length (w .tables) ≡ 32) where
+    (hi : i < mostLuts) (six : row .size ≤ 6) (few : narrow w i)
+    (lr : length (w .roots) ≡ mostLuts) (ls : length (w .sizes) ≡ mostLuts) (ll : length (w .lags) ≡ mostLuts) (lt : length (w .tables) ≡ mostLuts) where
   y : Candidate
   y = withLut z i (row .root) (row .size) (row .lag) (row .table)
 
@@ -147,10 +147,10 @@ module _ (w : Candidate) (i : ℕ) (row : Row) (z : Candidate) (so : LeavesStore
   still-few : (j : ℕ) → j < i + 1 → getD (set (z .sizes) i (row .size)) j 0 ≤ 6
   still-few = below-more _ _ (λ j h. rw (old-size j h) (few j h)) (rw new-size six)
 
-  still-small : shallow w i → Shallow (row .backs) → (m : ℕ) → m < stride * (i + 1) → getD (z .backs) m 0 < 65536
+  still-small : shallow w i → Shallow (row .backs) → (m : ℕ) → m < stride * (i + 1) → getD (z .backs) m 0 < depthRoom
   still-small old new m h = go (decLt m (stride * i))
     where
-      go : Dec (m < stride * i) → getD (z .backs) m 0 < 65536
+      go : Dec (m < stride * i) → getD (z .backs) m 0 < depthRoom
       go (yes l) = let e = ap (λ (c : Copy). c .back) (so .below m l) in let o = old m l in omega arith
       go (no n) =
           let place : stride * i + (m - stride * i) ≡ m = omega arith in

@@ -11,6 +11,7 @@ use lib.Dec.{eqb}
 use lib.IntN.{ℤ, pos, _+ℤ_, _-ℤ_}
 use lib.ListN.{length, getD}
 use lib.Signed.{mag, _≤ℤ_}
+use Rattle.limits.specs.Limits.{mostInputs, mostGates}
 use Rattle.integers.specs.Parts.{ints, +-parts, sub-parts}
 use Rattle.sequences.specs.Member.{_∈_}
 use Rattle.netlist.specs.Net.{Net, Pin, size, IsGate}
@@ -80,7 +81,7 @@ in-leaf a i y m =
 
 -- ---- what check 13 leaves true suffices
 
-pub wellHeld-wired : {I G k n : ℕ} (a : Held) → WellHeld I G k n a → I ≤ 16 → G ≤ 32 → k ≤ stride → n ≤ most → Wired I G (a .roots) (a .sizes) (a .nodes) (a .backs) (a .lags) n
+pub wellHeld-wired : {I G k n : ℕ} (a : Held) → WellHeld I G k n a → I ≤ mostInputs → G ≤ mostGates → k ≤ stride → n ≤ most → Wired I G (a .roots) (a .sizes) (a .nodes) (a .backs) (a .lags) n
 wellHeld-wired a w i g k f = record {
   inputs = i;
   gates = g;

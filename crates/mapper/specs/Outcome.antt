@@ -7,7 +7,7 @@ use lib.ListN.{length, drop, replicate}
 use Rattle.netlist.specs.Net.{Net}
 use Rattle.netlist.specs.Arrays.{netIn}
 use Rattle.netlist.specs.Checks.{Passed}
-use Rattle.limits.specs.Limits.{coverArea, scratchArea}
+use Rattle.limits.specs.Limits.{scratchArea, coverArea, mostGates, mostPlaces}
 use Rattle.netbytes.specs.Reading.{Result, got, refused}
 use Rattle.netbytes.specs.Walk.{netReader}
 use Rattle.labelling.specs.Labels.{Reachable}
@@ -170,7 +170,7 @@ settled-small (settling.unreachable e P h n) = omega arith
 settled-small (settling.covered e P c) = omega arith
 
 -- what settling asks of the arrays
-pub zero-room : (G : ℕ) → G ≤ 32 → Roomy G (replicate 32 0) (replicate 32 0) (replicate 192 0) (replicate 192 0) (replicate 32 0)
+pub zero-room : (G : ℕ) → G ≤ mostGates → Roomy G (replicate mostGates 0) (replicate mostGates 0) (replicate mostPlaces 0) (replicate mostPlaces 0) (replicate mostGates 0)
 zero-room G h = record {
   atMarks = h;
   unmarked = λ g l. zeros 32 g;

@@ -16,7 +16,7 @@ use Rattle.netlist.specs.Arrays.{stride, netIn, copyAt}
 use Rattle.netlist.specs.ArrayLaws.{in-copiesFrom, pinAt}
 use Rattle.netlist.specs.Wired.{Wired, netIn-wired, wired-gate, gate-wired, pin-wired}
 use Rattle.netlist.specs.Checks.{Passed}
-use Rattle.limits.specs.Limits.{mostPeriod, coverArea, mostNodes, mostPlaces}
+use Rattle.limits.specs.Limits.{mostNodes, mostGates, mostPlaces, mostPeriod, coverArea}
 use Rattle.covers.specs.Key.{Entry, entries}
 use Rattle.covers.specs.Period.{leastPeriod, leastPeriod-is, leastPeriod-unique, leastPeriod-bound}
 use Rattle.records.specs.CoverBytes.{coverBytes}
@@ -55,11 +55,11 @@ writable-at (next w ws) (there m) = writable-at ws m
 -- the lengths of the arrays
 pub record Long (a : Kept) : Type 0 where
   pub atLabels : length (a .labels) ≡ mostNodes
-  pub atMarks : length (a .marks) ≡ 32
-  pub atSizes : length (a .sizes) ≡ 32
+  pub atMarks : length (a .marks) ≡ mostGates
+  pub atSizes : length (a .sizes) ≡ mostGates
   pub atNodes : length (a .nodes) ≡ mostPlaces
   pub atBacks : length (a .backs) ≡ mostPlaces
-  pub atTables : length (a .tables) ≡ 32
+  pub atTables : length (a .tables) ≡ mostGates
 
 module _ {k target : ℕ} {w : Wiring} (s : Settling k target w) {a : Kept} (i : a .inputs ≡ w .inputs) (g : a .gates ≡ w .gates) (l : Long a)
     (P : Passed (netIn (arraysOf w)) k) (c : Covered (netIn (arraysOf w)) k target a) where

@@ -9,6 +9,7 @@ use lib.Count.{ones, ones-le, onesIn}
 use lib.Dec.{leb, ltb, lit≤}
 use lib.ListN.{length, getD}
 use borrow.Author.Tests.{ltb-true, leb-true}
+use Rattle.limits.specs.Limits.{mostInputs, mostGates, mostOutputs}
 use Rattle.sequences.specs.Member.{_∈_, in-getD}
 use Rattle.netlist.specs.Net.{Net, Pin, Gate, size, gate, pins, nothing, IsGate, IsNode}
 use Rattle.netlist.specs.Checks.{Sound, Fits}
@@ -39,11 +40,11 @@ pub record GateFacts (k nodes : ℕ) (g : Gate) : Type 0 where
 -- what the walk guarantees of a net
 pub record NetFacts (k : ℕ) (N : Net) : Type 0 where
   pub inputs-low : 1 ≤ N .inputs
-  pub inputs-high : N .inputs ≤ 16
+  pub inputs-high : N .inputs ≤ mostInputs
   pub gates-low : 1 ≤ length (N .gates)
-  pub gates-high : length (N .gates) ≤ 32
+  pub gates-high : length (N .gates) ≤ mostGates
   pub outputs-low : 1 ≤ length (N .outputs)
-  pub outputs-high : length (N .outputs) ≤ 16
+  pub outputs-high : length (N .outputs) ≤ mostOutputs
   pub gate : Each (GateFacts k (size N)) (N .gates)
   pub output : Each (PinFacts (size N)) (N .outputs)
 

@@ -4,6 +4,7 @@ use Prim.Native.Nat.{ℕ, zero, suc, _+_, _*_, _≤_, _<_}
 use lib.IntN.{ℤ, pos}
 use lib.ListN.{length, getD}
 use lib.Signed.{mag}
+use Rattle.limits.specs.Limits.{depthRoom}
 use Rattle.netlist.specs.Arrays.{stride, copiesFrom}
 use Rattle.netlist.specs.Copies.{Copy, Rising}
 use Rattle.covers.specs.Key.{Entry}
@@ -52,5 +53,5 @@ pub record WellHeld (I G k n : ℕ) (a : Held) : Type 0 where
   pub few : (i : ℕ) → i < n → getD (a .sizes) i 0 ≤ k
   pub rising : (i : ℕ) → i < n → Rising (leavesAt a i)
   pub node : (i j : ℕ) → i < n → j < getD (a .sizes) i 0 → getD (a .nodes) (stride * i + j) 0 < I + G
-  pub back : (i j : ℕ) → i < n → j < getD (a .sizes) i 0 → getD (a .backs) (stride * i + j) 0 < 65536
+  pub back : (i j : ℕ) → i < n → j < getD (a .sizes) i 0 → getD (a .backs) (stride * i + j) 0 < depthRoom
   pub lag : (i : ℕ) → i < n → mag (getD (a .lags) i (pos 0)) ≤ 128

@@ -18,7 +18,7 @@ use Rattle.netlist.specs.Copies.{Copy, copy, Before, Rising}
 use Rattle.netlist.specs.Tables.{bit, asNumber}
 use Rattle.tables.specs.Words.{asNumber-small, bit-low, half}
 use Rattle.covers.specs.Key.{Entry}
-use Rattle.limits.specs.Limits.{mostPeriod, mostLuts}
+use Rattle.limits.specs.Limits.{depthRoom, mostPeriod, mostLuts}
 use Rattle.netbytes.specs.Reading.{Result, Reader, andThen, check, byte, times, atEnd, between, got, refused}
 use Rattle.netbytes.specs.Walk.{tableBytes, tableByte, fromBytes, first, rest}
 use Rattle.records.specs.CoverBytes.{toBytes, notZero, leafMap, depths, isZero, signedByte, lagBytes, lutBytes, allLutBytes, coverBytes, Record, coverByte, fromSigned, leafMapOk, depthReader, leavesFrom, before, risingLeaves, lutReader, lutsReader, coverReader}
@@ -125,14 +125,14 @@ rising-true (a ∷ b ∷ L) r = rw (before-true (r .0 b (here refl))) (rising-tr
         ap (λ (t : Bool). ltb (a .node) (b .node) || t) (rw (eq-eqb (a .node) (b .node) e) (lt-ltb (a .back) (b .back) h)) ∙ or-true (ltb (a .node) (b .node))
 
 -- a stored d reads back
-depth-back : (d : ℕ) → d < 65536 → notZero d ≡ true → (t : List ℕ) → depthReader (toBytes 2 d ++ t) ≡ got d t
+depth-back : (d : ℕ) → d < depthRoom → notZero d ≡ true → (t : List ℕ) → depthReader (toBytes 2 d ++ t) ≡ got d t
 unfolding depthReader toBytes
 depth-back d small e t =
     let q : d % 256 + 256 * (d / 256 % 256) ≡ d = omega arith in
     subst (λ (n : ℕ). check (notZero n) 13 n t ≡ got d t) (sym q) (check-goes 13 d t e)
 
 -- so do all
-depths-back : (L : List Copy) (s : List ℕ) → ((y : Copy) → y ∈ L → y .back < 65536) → times (length (deep L)) depthReader (depths L ++ s) ≡ got (deep L) s
+depths-back : (L : List Copy) (s : List ℕ) → ((y : Copy) → y ∈ L → y .back < depthRoom) → times (length (deep L)) depthReader (depths L ++ s) ≡ got (deep L) s
 unfolding deep depths times
 depths-back [] s h = refl
 depths-back (y ∷ L) s h = go (notZero (y .back)) refl (depths-back L s (λ z m. h z (there m)))
@@ -236,7 +236,7 @@ pub record Writable (nodes k least : ℕ) (e : Entry) : Type 0 where
   pub six : length (e .leaves) ≤ 6
   pub rising : Rising (e .leaves)
   pub inside : (y : Copy) → y ∈ e .leaves → y .node < nodes
-  pub depth : (y : Copy) → y ∈ e .leaves → y .back < 65536
+  pub depth : (y : Copy) → y ∈ e .leaves → y .back < depthRoom
   pub lag : SmallLag (e .lag)
   pub table : e .table < 2 ^ (2 ^ length (e .leaves))
 

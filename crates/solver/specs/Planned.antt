@@ -7,7 +7,7 @@ use lib.ListN.{length, getD, replicate}
 use Rattle.netlist.specs.Net.{Net, IsGate}
 use Rattle.netlist.specs.Arrays.{stride, pinsIn, netIn}
 use Rattle.netlist.specs.Checks.{Passed}
-use Rattle.limits.specs.Limits.{leastK, mostK, mostPeriod, mostTable, mostPlaces}
+use Rattle.limits.specs.Limits.{mostGates, mostPlaces, mostOutputs, leastK, mostK, mostPeriod, mostTable}
 use Rattle.labelling.specs.Labels.{Reachable}
 use Rattle.labelling.specs.Pins.{OutPath}
 use Rattle.covers.specs.Covers.{LeastPeriod}
@@ -56,12 +56,12 @@ asWiring inputs gates outputs pins sources counts tables outs delays = record {
 
 -- the lengths of a wiring's arrays
 pub record Lengths (w : Wiring) : Type 0 where
-  pub atPins : length (w .pins) ≡ 32
+  pub atPins : length (w .pins) ≡ mostGates
   pub atSources : length (w .sources) ≡ mostPlaces
   pub atCounts : length (w .counts) ≡ mostPlaces
-  pub atTables : length (w .tables) ≡ 32
-  pub atOuts : length (w .«out_sources») ≡ 16
-  pub atDelays : length (w .«out_counts») ≡ 16
+  pub atTables : length (w .tables) ≡ mostGates
+  pub atOuts : length (w .«out_sources») ≡ mostOutputs
+  pub atDelays : length (w .«out_counts») ≡ mostOutputs
 
 -- A net read and checked: first has a pin of each gate, order its gates, tops the registers on some path to an output, and 1.
 pub record Planning (k target : ℕ) (w : Wiring) (first tops order : List ℕ) : Type 0 where

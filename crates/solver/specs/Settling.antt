@@ -11,7 +11,7 @@ use Rattle.netlist.specs.Arrays.{stride, netIn, pinsIn}
 use Rattle.netlist.specs.ArrayLaws.{outputs-netIn}
 use Rattle.netlist.specs.Wired.{Wired, netIn-wired}
 use Rattle.netlist.specs.Checks.{Sound, Fits, Loopless, AllReached, AllLeading, Passed}
-use Rattle.limits.specs.Limits.{leastK, mostK, mostPeriod}
+use Rattle.limits.specs.Limits.{leastK, mostK, mostPeriod, mostGates}
 use Rattle.labelling.specs.Labels.{Reachable}
 use Rattle.records.specs.Kept.{Kept}
 use Rattle.reader.specs.Answer.{arraysOf}
@@ -144,5 +144,5 @@ module _ {k target : ℕ} {w : Wiring} (s : Settling k target w) where
   settled-cover u q n = covered refl (u .passes) (q .some (omega arith))
 
 -- the first G places of an array
-pub part-length : (G : ℕ) (l : List ℕ) → G ≤ 32 → length l ≡ 32 → G ≤ length l
+pub part-length : (G : ℕ) (l : List ℕ) → G ≤ mostGates → length l ≡ mostGates → G ≤ length l
 part-length G l h e = omega arith

@@ -5,6 +5,7 @@ use native.Mathlib.Omega.{arith}
 use lib.IntN.{ℤ, pos, _+ℤ_, _-ℤ_}
 use mir.Syntax.{w64}
 use mir.Val.{SFits, toZ, ofZ}
+use Rattle.limits.specs.Limits.{depthRoom}
 use Rattle.integers.specs.Parts.{+-parts, sub-parts}
 use Rattle.integers.specs.Lag.{lag}
 use Rattle.records.specs.RoundTrip.{SmallLag, up, down}
@@ -92,12 +93,12 @@ counted-plus {m} {k} {y} {z} {a} {b} h v w e =
     }
 
 -- the registers of a connection, and those of the others
-pub within-moved : {m : ℕ} (d : ℕ) (own other rest : ℤ) → d < 65536 → Within 128 own → Within 128 other → Within m rest → Within (65792 + m) (((pos d +ℤ own) -ℤ other) +ℤ rest)
+pub within-moved : {m : ℕ} (d : ℕ) (own other rest : ℤ) → d < depthRoom → Within 128 own → Within 128 other → Within m rest → Within (65792 + m) (((pos d +ℤ own) -ℤ other) +ℤ rest)
 within-moved {m} d own other rest h v w r =
     within-more (65792 + m) (omega arith)
     (within-plus ((pos d +ℤ own) -ℤ other) rest (within-minus (pos d +ℤ own) other (within-plus (pos d) own (within-pos d 65535 (omega arith)) v) w) r)
 
-pub counted-moved : {m d : ℕ} {x y z a b e r : ℤ} → d < 65536 → m ≤ room → Counted 128 x a → Counted 128 y b → Counted m z e
+pub counted-moved : {m d : ℕ} {x y z a b e r : ℤ} → d < depthRoom → m ≤ room → Counted 128 x a → Counted 128 y b → Counted m z e
     → r ≡ (((pos d +ℤ toZ w64 (ofZ w64 a)) -ℤ toZ w64 (ofZ w64 b)) +ℤ toZ w64 (ofZ w64 e)) → Counted (65792 + m) (((pos d +ℤ x) -ℤ y) +ℤ z) r
 counted-moved {m} {d} {x} {y} {z} {a} {b} {e} h l u v w q =
     let s = rw (stored a (omega arith) (u .within), stored b (omega arith) (v .within), stored e (omega arith) (w .within)) at q in

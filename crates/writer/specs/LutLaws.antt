@@ -9,6 +9,7 @@ use native.Mathlib.Omega.{arith}
 use borrow.Author.Tests.{ne-eqb}
 use lib.IntN.{ℤ}
 use lib.ListN.{length, length-map, getD, length-append}
+use Rattle.limits.specs.Limits.{depthRoom}
 use Rattle.netlist.specs.Arrays.{copyAt, copiesFrom}
 use Rattle.netlist.specs.ArrayLaws.{length-copiesFrom}
 use Rattle.netlist.specs.Copies.{Copy, copy}
@@ -64,7 +65,7 @@ pub depths-none : (d : ℕ) → d ≡ 0 → depths (copy 0 d ∷ []) ≡ []
 unfolding depths
 depths-none d e = rw e refl
 
-pub depths-two : (d : ℕ) → (d ≡ 0 → ⊥) → d < 65536 → depths (copy 0 d ∷ []) ≡ d % 256 ∷ d / 256 ∷ []
+pub depths-two : (d : ℕ) → (d ≡ 0 → ⊥) → d < depthRoom → depths (copy 0 d ∷ []) ≡ d % 256 ∷ d / 256 ∷ []
 unfolding depths toBytes
 depths-two d n h =
     let e : d / 256 % 256 ≡ d / 256 = omega arith in
