@@ -16,7 +16,8 @@ use Rattle.circuit.specs.Circuit.{Circuit}
 use Rattle.query.specs.Question.{labelIn}
 use Rattle.visits.specs.Visits.{Suits, wiring, Fine, Ceilings}
 use Rattle.labels.specs.Sweeps.{Sized, Ordered, Labelled}
-use Rattle.period.specs.Search.{Period, sized-less, ceilings-less}
+use Rattle.period.specs.Search.{Period}
+use Rattle.period.specs.SearchLaws.{sized-less, ceilings-less}
 
 -- arrays for labels, outputs, ceilings and order; a target and gates within the limits
 pub record PeriodAsked (I G W B : ℕ) (ps so co : List ℕ) (ls : List ℤ) (tops order os oc : List ℕ) (n target k : ℕ) : Type 0 where

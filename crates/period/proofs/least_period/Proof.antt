@@ -1,4 +1,5 @@
-use Rattle.period.specs.Search.{NoneBelow, sized-less, sized-few, ceilings-less, none-first, none-next, period-found, period-last}
+use Rattle.period.specs.Search.{NoneBelow}
+use Rattle.period.specs.SearchLaws.{sized-less, sized-few, ceilings-less, none-first, none-next, period-found, period-last}
 use Rattle.visits.specs.Visits.{wiring}
 use Rattle.query.specs.Question.{AtRest}
 use Rattle.circuit.specs.Circuit.{circuit}

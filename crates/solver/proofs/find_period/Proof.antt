@@ -1,6 +1,6 @@
 -- `solver::find_period` meets its contract: the least period, or the target, or that it is not reachable.
 use native.Mathlib.Omega.{arith}
-use Rattle.period.specs.Search.{sized-less, ceilings-less}
+use Rattle.period.specs.SearchLaws.{sized-less, ceilings-less}
 use Rattle.solver.specs.Found.{found-least, found-target, found-none}
 use mathlib.Core.Path.{refl}
 use borrow.Author.Needs.{needs}
