@@ -12,7 +12,7 @@ use Rattle.netbytes.specs.Readers.{then-goes, then-stops, byte-got}
 use Rattle.netbytes.specs.Sound.{between-true}
 use Rattle.records.specs.CoverBytes.{coverReader, lutsReader}
 use Rattle.records.specs.Held.{lutsIn, WellHeld}
-use Rattle.reader.specs.NetLaws.{end-done, end-over}
+use Rattle.fields.specs.FieldLaws.{end-done, end-over}
 use Rattle.candidate.specs.declared.Candidate.{Candidate}
 use Rattle.candidate.specs.declared.Field.the-variants.{Period, Luts}
 use Rattle.candidate.specs.declared.Part.{Part}

@@ -17,7 +17,7 @@ use Rattle.netbytes.specs.Readers.{then-goes, then-stops, byte-got}
 use Rattle.netbytes.specs.Sound.{between-true}
 use Rattle.netbytes.specs.Walk.{tableBytes, fromBytes, first}
 use Rattle.records.specs.CoverBytes.{coverByte, depthReader, leavesFrom, risingLeaves, fromSigned, lutReader}
-use Rattle.reader.specs.RowLaws.{take-alike}
+use Rattle.fields.specs.ListLaws.{take-alike}
 use Rattle.candidate.specs.declared.Field.the-variants.{Root, Size, Map, Leaf, Lag, Table}
 use Rattle.candidate.specs.declared.Head.{Head}
 use Rattle.candidate.specs.declared.Leaves.{Leaves}

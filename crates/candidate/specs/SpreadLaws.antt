@@ -15,7 +15,7 @@ use Rattle.netlist.specs.Tables.{bit}
 use Rattle.netbytes.specs.Maps.{half-pow}
 use Rattle.netbytes.specs.Walk.{first, rest}
 use Rattle.records.specs.CoverBytes.{leavesFrom}
-use Rattle.reader.specs.RowLaws.{first-drop, rest-drop, Alike}
+use Rattle.fields.specs.ListLaws.{first-drop, rest-drop, Alike}
 use Rattle.candidate.specs.declared.SpreadSoFar.{SpreadSoFar}
 use Rattle.candidate.specs.Contracts.{Spreading, Spread}
 use Rattle.candidate.specs.ItemLaws.{shallow-none, shallow-set}

@@ -16,12 +16,12 @@ ghost use Rattle.records.specs.CoverBytes.{before, fromSigned, risingLeaves};
 ghost use Rattle.candidate.specs.Fields.{allowedOf, fieldByte};
 ghost use Rattle.candidate.specs.Reads.{CoverRead};
 ghost use Rattle.candidate.specs.Contracts.{outcome, ItemsRead, DepthRead, DepthsRead, Spreading, Spread, HeadRead, LeavesRead, TailRead, LutRead, LeavesStored, LutStored, LutsRead, Empty, narrow, withLeaf};
-use reader::count_of;
-use reader::has;
-use reader::number;
-use reader::table_byte;
-use reader::table_bytes;
-use reader::wide;
+use fields::count_of;
+use fields::has;
+use fields::number;
+use fields::table_byte;
+use fields::table_bytes;
+use fields::wide;
 use signed::minus;
 use signed::whole;
 

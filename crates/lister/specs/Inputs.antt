@@ -13,7 +13,7 @@ use Rattle.netbytes.specs.Walk.{first, rest}
 use Rattle.records.specs.Listing.{refusalText}
 use Rattle.records.specs.Outcomes.{checkNet}
 use Rattle.records.specs.Program.{listChecked, listing, listingProgram}
-use Rattle.reader.specs.FieldLaws.{in-range, below-range, above-range}
+use Rattle.fields.specs.FieldLaws.{in-range, below-range, above-range}
 
 module _ (k target : ℕ) (net : List ℕ) where
   -- the listing, once k is tested

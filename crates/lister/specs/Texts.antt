@@ -17,10 +17,11 @@ use Rattle.records.specs.Kept.{Kept}
 use Rattle.records.specs.Listing.{refusalText}
 use Rattle.records.specs.Outcomes.{Checked, passes, fails, checkNet, mapped}
 use Rattle.records.specs.Program.{listMapped, listChecked}
-use Rattle.reader.specs.Answer.{outcome, arraysOf, resultOf}
+use Rattle.fields.specs.Verdicts.{outcome}
+use Rattle.fields.specs.declared.Verdict.{Verdict}
+use Rattle.fields.specs.declared.Verdict.the-variants.{Read, Refused}
+use Rattle.reader.specs.Answer.{arraysOf, resultOf}
 use Rattle.reader.specs.WalkFacts.{read-gives, read-facts}
-use Rattle.reader.specs.declared.Verdict.{Verdict}
-use Rattle.reader.specs.declared.Verdict.the-variants.{Read, Refused}
 use Rattle.reader.specs.declared.Walk.{Walk}
 use Rattle.reader.specs.declared.Wiring.{Wiring}
 use Rattle.writer.specs.Writing.{Wrote}

@@ -1,4 +1,5 @@
 // The listing: from the bytes read (k, the target, the net) to the text printed.
+use fields::Verdict;
 use inputs::byte_at;
 use inputs::number;
 use inputs::wide;
@@ -9,7 +10,6 @@ use limits::NODES;
 use limits::PERIOD;
 use limits::PLACES;
 use limits::TABLE;
-use reader::Verdict;
 use reader::Wiring;
 use reader::read_net;
 use solver::settle;

@@ -12,7 +12,7 @@ use Rattle.limits.specs.Limits.{leastK, mostK, mostPeriod, coverArea, scratchAr
 use Rattle.netbytes.specs.Reading.{between}
 use Rattle.netbytes.specs.Sound.{between-true}
 use Rattle.records.specs.Outcomes.{Answer, turnedBack, MapOutcome, mapSizes, mapSized, mapOutcome, mapChecked, checkNet, cleared}
-use Rattle.reader.specs.FieldLaws.{in-range, below-range, above-range}
+use Rattle.fields.specs.FieldLaws.{in-range, below-range, above-range}
 use Rattle.mapper.specs.Mapping.{MapsTo}
 
 module _ (k target : ℕ) (area scratch : List ℕ) where

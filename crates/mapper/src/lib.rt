@@ -1,4 +1,5 @@
 // Map: the key of the examination. A net, k and a target; a cover in the cover area, or a refusal.
+use fields::Verdict;
 use inputs::narrow;
 use inputs::wide;
 use limits::AREA;
@@ -9,7 +10,6 @@ use limits::NODES;
 use limits::PERIOD;
 use limits::PLACES;
 use limits::SCRATCH;
-use reader::Verdict;
 use reader::Wiring;
 use reader::read_net;
 use scratch::clear_first;

@@ -9,10 +9,11 @@ use Rattle.limits.specs.Limits.{leastK, mostK, scratchArea}
 use Rattle.netbytes.specs.Walk.{netReader}
 use Rattle.netbytes.specs.Sound.{walk-sound, walk-fits}
 use Rattle.records.specs.Outcomes.{Answer, turnedBack}
-use Rattle.reader.specs.Answer.{outcome, arraysOf, resultOf}
+use Rattle.fields.specs.Verdicts.{outcome}
+use Rattle.fields.specs.declared.Verdict.{Verdict}
+use Rattle.fields.specs.declared.Verdict.the-variants.{Read, Refused}
+use Rattle.reader.specs.Answer.{arraysOf, resultOf}
 use Rattle.reader.specs.WalkFacts.{read-gives, read-facts}
-use Rattle.reader.specs.declared.Verdict.{Verdict}
-use Rattle.reader.specs.declared.Verdict.the-variants.{Read, Refused}
 use Rattle.reader.specs.declared.Walk.{Walk}
 use Rattle.marker.specs.Marking.{Marking, MarksTo, MarksNet}
 use Rattle.marker.specs.Outcome.{marks-refused}

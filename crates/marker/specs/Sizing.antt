@@ -12,7 +12,7 @@ use Rattle.limits.specs.Limits.{leastK, mostK, scratchArea}
 use Rattle.netbytes.specs.Reading.{between}
 use Rattle.netbytes.specs.Sound.{between-true}
 use Rattle.records.specs.Outcomes.{Answer, turnedBack, MarkOutcome, markSizes, markSized, markOutcome, cleared}
-use Rattle.reader.specs.FieldLaws.{in-range, below-range, above-range}
+use Rattle.fields.specs.FieldLaws.{in-range, below-range, above-range}
 use Rattle.marker.specs.Marking.{MarksTo}
 
 module _ (k : ℕ) (scratch : List ℕ) where

@@ -2,6 +2,7 @@
 use candidate::Candidate;
 use candidate::read_cover;
 use cutcheck::check_luts;
+use fields::Verdict;
 use inputs::narrow;
 use inputs::wide;
 use limits::GATES;
@@ -11,7 +12,6 @@ use limits::NODES;
 use limits::PLACES;
 use limits::SCRATCH;
 use linkcheck::check_links;
-use reader::Verdict;
 use reader::Wiring;
 use reader::read_net;
 use scratch::clear_first;

@@ -1,18 +1,11 @@
 -- Definitions: the walk's answer as the reader's result.
-use mathlib.Core.List.{List, []}
-use Prim.Native.Nat.{ℕ}
+use mathlib.Core.List.{[]}
 use Rattle.netlist.specs.Net.{Net}
 use Rattle.netlist.specs.Arrays.{Arrays, netIn}
-use Rattle.netbytes.specs.Reading.{Result, got, refused}
-use Rattle.reader.specs.declared.Verdict.{Verdict}
-use Rattle.reader.specs.declared.Verdict.the-variants.{Read, Refused}
+use Rattle.netbytes.specs.Reading.{Result}
+use Rattle.fields.specs.Verdicts.{outcome}
 use Rattle.reader.specs.declared.Wiring.{Wiring}
 use Rattle.reader.specs.declared.Walk.{Walk}
-
--- a value and the bytes behind it, or the number of the refusal
-abbrev pub outcome : {A : Type 0} → Verdict → A → List ℕ → Result A
-outcome Read a s = got a s
-outcome (Refused n) a s = refused n
 
 -- the arrays of a net as the walk keeps it
 abbrev pub arraysOf : Wiring → Arrays

@@ -1,10 +1,5 @@
 pub mod Answer
-pub mod Fields
-pub mod FieldLaws
 pub mod Contracts
-pub mod RowLaws
-pub mod SpreadLaws
-pub mod GateLaws
 pub mod StoreLaws
 pub mod NetLaws
 pub mod WalkFacts

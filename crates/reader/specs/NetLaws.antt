@@ -1,53 +1,27 @@
--- Laws of reading an output, the three numbers and the whole net, one for each way out.
-use mathlib.Core.Path.{_≡_, refl, sym, ap, ap₂, _∙_}
-use mathlib.Core.List.{List, [], _∷_}
+-- Laws of reading the three numbers and the whole net, one for each way out.
+use mathlib.Core.Path.{_≡_, sym, ap, ap₂, _∙_}
+use mathlib.Core.List.{List, []}
 use Prim.Native.Nat.{ℕ, _+_, _≤_, _<_}
 use native.Mathlib.Omega.{arith}
-use lib.ListN.{length, getD, take, drop, drop-of-length-le}
-use lib.Seq.{drop-cons}
+use lib.ListN.{length, drop}
 use Rattle.netlist.specs.Net.{Gate}
 use Rattle.netlist.specs.Arrays.{netIn, gatesIn}
 use Rattle.netbytes.specs.Reading.{andThen, times, atEnd, between, got, refused}
-use Rattle.netbytes.specs.Walk.{netReader, outputReader, first}
-use Rattle.reader.specs.declared.Field.the-variants.{Inputs, Gates, Outputs, OutputMap, Source, Count}
-use Rattle.reader.specs.declared.Verdict.{Verdict}
-use Rattle.reader.specs.declared.Verdict.the-variants.{Read, Refused}
+use Rattle.netbytes.specs.Walk.{netReader, outputReader}
+use Rattle.netbytes.specs.Readers.{then-goes, then-stops, byte-got}
+use Rattle.netbytes.specs.Sound.{between-true}
+use Rattle.netbytes.specs.Stages.{fromInputs, fromGates, fromSizes, fromGateList, fromOutputList, net-stages}
+use Rattle.fields.specs.declared.Field.the-variants.{Inputs, Gates, Outputs}
+use Rattle.fields.specs.declared.Verdict.{Verdict}
+use Rattle.fields.specs.declared.Verdict.the-variants.{Read, Refused}
+use Rattle.fields.specs.Fields.{fieldByte}
+use Rattle.fields.specs.Verdicts.{onward}
+use Rattle.fields.specs.FieldLaws.{went, stopped, end-done, end-over}
 use Rattle.reader.specs.declared.Wiring.{Wiring}
 use Rattle.reader.specs.declared.Sizes.{Sizes}
 use Rattle.reader.specs.declared.Part.{Part}
-use Rattle.netbytes.specs.Readers.{then-goes, then-stops, byte-got}
-use Rattle.netbytes.specs.Sound.{between-true}
-use Rattle.netbytes.specs.Stages.{fromOutMap, fromOutSource, fromOutCounts, output-stages, fromInputs, fromGates, fromSizes, fromGateList, fromOutputList, net-stages}
-use Rattle.reader.specs.FieldLaws.{went, stopped}
-use Rattle.reader.specs.Fields.{fieldByte}
-use Rattle.reader.specs.RowLaws.{take-alike}
 use Rattle.reader.specs.Answer.{arraysOf}
-use Rattle.reader.specs.Contracts.{onward, gatesOf, outputsOf, GatesRead, OutputsRead, SizesRead}
-
-first-getD : (l : List ℕ) → first l ≡ getD l 0 0
-first-getD [] = refl
-first-getD (a ∷ l) = refl
-
--- the one count of an output, or 0
-pub first-taken : (n : ℕ) (l : List ℕ) → ((i : ℕ) → n ≤ i → getD l i 0 ≡ 0) → first (take n l) ≡ getD l 0 0
-first-taken n l h = first-getD (take n l) ∙ take-alike n l h 0
-
-module _ (nodes : ℕ) (t : List ℕ) where
-  pub out-map-stops : {n : ℕ} → fieldByte OutputMap 0 t ≡ refused n → outputReader nodes t ≡ refused n
-  out-map-stops e = output-stages nodes t ∙ then-stops (fromOutMap nodes) e
-
-  module _ (m : ℕ) (u : List ℕ) (e : fieldByte OutputMap 0 t ≡ got m u) where
-    pub out-source-stops : {n : ℕ} → fieldByte Source nodes u ≡ refused n → outputReader nodes t ≡ refused n
-    out-source-stops f = output-stages nodes t ∙ then-goes (fromOutMap nodes) e ∙ then-stops (fromOutSource m) f
-
-    module _ (source : ℕ) (w : List ℕ) (f : fieldByte Source nodes u ≡ got source w) where
-      pub out-counts-stop : {n : ℕ} → times m (fieldByte Count 0) w ≡ refused n → outputReader nodes t ≡ refused n
-      out-counts-stop g = output-stages nodes t ∙ then-goes (fromOutMap nodes) e ∙ then-goes (fromOutSource m) f ∙ then-stops (fromOutCounts source) g
-
-      pub out-goes : (c : ℕ) (l z : List ℕ) → first l ≡ c → times m (fieldByte Count 0) w ≡ got l z → outputReader nodes t ≡ got (record { src = source; count = c }) z
-      out-goes c l z h g =
-          output-stages nodes t ∙ then-goes (fromOutMap nodes) e ∙ then-goes (fromOutSource m) f ∙ then-goes (fromOutCounts source) g
-          ∙ ap (λ (x : ℕ). got (record { src = source; count = x }) z) h
+use Rattle.reader.specs.Contracts.{gatesOf, outputsOf, GatesRead, OutputsRead, SizesRead}
 
 module _ (s : List ℕ) where
   stop-sizes : {n : ℕ} (r : Sizes) → ((k : ℕ) → netReader k s ≡ refused n)
@@ -85,13 +59,6 @@ module _ (s : List ℕ) where
         gates = between-true 1 32 g (byte-got 4 5 (between 1 32) t g u f) .1;
         outputs = between-true 1 16 o (byte-got 4 5 (between 1 16) u o (drop at s) h) .1;
       }
-
--- no byte behind the last output, or some
-pub end-done : {A : Type 0} (n : ℕ) (a : A) (s : List ℕ) (at : ℕ) → length s ≤ at → atEnd n a (drop at s) ≡ got a []
-end-done n a s at h = ap (atEnd n a) (drop-of-length-le s h)
-
-pub end-over : {A : Type 0} (n : ℕ) (a : A) (s : List ℕ) (at : ℕ) → at < length s → atEnd n a (drop at s) ≡ refused n
-end-over n a s at h = ap (atEnd n a) (drop-cons s at 0 h)
 
 -- the arrays have the three numbers
 pub start-net : (k : ℕ) (s : List ℕ) (i g o : ℕ) (t : List ℕ) (w : Wiring) → netReader k s ≡ fromSizes k i g o t → w .inputs ≡ i → w .gates ≡ g → w .outputs ≡ o

@@ -14,15 +14,16 @@ use Rattle.netlist.specs.Arrays.{pinsIn, gatesIn, stride}
 use Rattle.netlist.specs.ArrayLaws.{pinAt, gateAt}
 use Rattle.netbytes.specs.Reading.{times, got, refused}
 use Rattle.netbytes.specs.Walk.{gateReader, outputReader}
-use Rattle.reader.specs.declared.Verdict.{Verdict}
-use Rattle.reader.specs.declared.Verdict.the-variants.{Read, Refused}
-use Rattle.reader.specs.declared.Wiring.{Wiring}
-use Rattle.reader.specs.declared.GateRow.{GateRow}
-use Rattle.reader.specs.Answer.{outcome}
-use Rattle.reader.specs.FieldLaws.{went, stopped}
 use Rattle.netbytes.specs.Readers.{timesAfter, turn-none, turn-one, turn-stops, turn-ends}
-use Rattle.reader.specs.RowLaws.{pinsIn-same, pinsIn-more}
-use Rattle.reader.specs.Contracts.{rowGate, withPin, withOutput, gatesOf, outputsOf, Same, PinsStored, narrow, GateStored, Kept}
+use Rattle.fields.specs.declared.Verdict.{Verdict}
+use Rattle.fields.specs.declared.Verdict.the-variants.{Read, Refused}
+use Rattle.fields.specs.Verdicts.{outcome}
+use Rattle.fields.specs.FieldLaws.{went, stopped}
+use Rattle.rows.specs.declared.GateRow.{GateRow}
+use Rattle.rows.specs.RowLaws.{pinsIn-same, pinsIn-more}
+use Rattle.rows.specs.Contracts.{rowGate}
+use Rattle.reader.specs.declared.Wiring.{Wiring}
+use Rattle.reader.specs.Contracts.{withPin, withOutput, gatesOf, outputsOf, Same, PinsStored, narrow, GateStored, Kept}
 
 pub same-refl : (w : Wiring) → Same w w
 same-refl w = record { inputs = refl; gates = refl; outputs = refl }

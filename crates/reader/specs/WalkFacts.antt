@@ -11,11 +11,12 @@ use Rattle.netlist.specs.ArrayLaws.{pinAt, gateAt, length-pinsIn, in-pinsIn, ge
 use Rattle.netbytes.specs.Reading.{got}
 use Rattle.netbytes.specs.Walk.{netReader}
 use Rattle.netbytes.specs.Sound.{PinFacts, GateFacts, NetFacts, walk-facts}
-use Rattle.reader.specs.declared.Verdict.{Verdict}
-use Rattle.reader.specs.declared.Verdict.the-variants.{Read}
+use Rattle.fields.specs.declared.Verdict.{Verdict}
+use Rattle.fields.specs.declared.Verdict.the-variants.{Read}
+use Rattle.fields.specs.Verdicts.{outcome}
 use Rattle.reader.specs.declared.Wiring.{Wiring}
 use Rattle.reader.specs.declared.Walk.{Walk}
-use Rattle.reader.specs.Answer.{outcome, arraysOf, resultOf}
+use Rattle.reader.specs.Answer.{arraysOf, resultOf}
 
 -- "I is 1..16, G 1..32, outputs O 1..16", checks 6 and 7, and the tables' lengths, as facts about the arrays
 pub record WalkFacts (k : ℕ) (w : Wiring) : Type 0 where

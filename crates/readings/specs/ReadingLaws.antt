@@ -11,9 +11,10 @@ use Rattle.netlist.specs.ArrayLaws.{gates-netIn, inputs-netIn, outputs-netIn, l
 use Rattle.netbytes.specs.Reading.{Result, got, refused}
 use Rattle.netbytes.specs.Walk.{netReader}
 use Rattle.records.specs.Listing.{decimal, newline, refusalText}
-use Rattle.reader.specs.Answer.{outcome, arraysOf, resultOf}
-use Rattle.reader.specs.declared.Verdict.{Verdict}
-use Rattle.reader.specs.declared.Verdict.the-variants.{Read, Refused}
+use Rattle.fields.specs.Verdicts.{outcome}
+use Rattle.fields.specs.declared.Verdict.{Verdict}
+use Rattle.fields.specs.declared.Verdict.the-variants.{Read, Refused}
+use Rattle.reader.specs.Answer.{arraysOf, resultOf}
 use Rattle.reader.specs.declared.Walk.{Walk}
 use Rattle.writer.specs.Writing.{Wrote}
 use Rattle.text.specs.PutLaws.{wrote-as}

@@ -1,9 +1,9 @@
 // The reader's answers as lines: a batch of cases, each k, the net's length in two bytes and the net.
+use fields::Verdict;
 use inputs::byte_at;
 use inputs::net_length;
 use inputs::number;
 use inputs::place_behind;
-use reader::Verdict;
 use reader::read_net;
 use text::put_byte;
 use text::put_field;

@@ -1,7 +1,7 @@
 -- `candidate::allowed` meets its contract: each field and its range.
 use mathlib.Core.Path.{refl}
 use native.Mathlib.Omega.{arith}
-use Rattle.reader.specs.FieldLaws.{in-range, below-range, above-range}
+use Rattle.fields.specs.FieldLaws.{in-range, below-range, above-range}
 use Rattle.candidate.specs.FieldLaws.{size-some, some-not-zero, none-zero}
 use borrow.Author.Needs.{needs}
 use Rattle.candidate.proofs.allowed.Statement.{statement}

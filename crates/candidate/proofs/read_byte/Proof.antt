@@ -2,7 +2,7 @@
 use mathlib.Core.Path.{sym, _∙_}
 use native.Mathlib.Omega.{arith}
 use denote.Ref.{now}
-use Rattle.reader.specs.FieldLaws.{byte-end, byte-ok, byte-bad}
+use Rattle.fields.specs.FieldLaws.{byte-end, byte-ok, byte-bad}
 use Rattle.candidate.specs.Fields.{allowedOf}
 use borrow.Author.Needs.{needs}
 use Rattle.candidate.proofs.read_byte.Statement.{statement}

@@ -6,8 +6,7 @@ use lib.ListN.{drop, take, getD}
 use native.Mathlib.Omega.{arith}
 use borrow.Author.Tests.{not-true, not-false}
 use Rattle.netbytes.specs.Walk.{tableBytes}
-use Rattle.reader.specs.NetLaws.{first-taken}
-use Rattle.reader.specs.RowLaws.{fromBytes-take}
+use Rattle.fields.specs.ListLaws.{first-taken, fromBytes-take}
 use mir.Syntax.{w64}
 use mir.Val.{toZ, ofZ}
 use Rattle.signed.specs.RangeLaws.{back, fits-of}

@@ -4,8 +4,7 @@ use mathlib.Core.Path.{_∙_}
 use native.Mathlib.Omega.{arith}
 use lib.ListN.{drop}
 use Rattle.netbytes.specs.Stages.{fromSizes}
-use Rattle.reader.specs.FieldLaws.{stopping}
-use Rattle.reader.specs.GateLaws.{onward-went, onward-stopped}
+use Rattle.fields.specs.FieldLaws.{stopping, onward-went, onward-stopped}
 use Rattle.reader.specs.NetLaws.{start-net, gates-refused, outputs-refused, bytes-over, net-read}
 use borrow.Author.Needs.{needs}
 use Rattle.reader.proofs.read_net.Statement.{statement}

@@ -1,7 +1,7 @@
 -- `reader::read_sizes` meets its contract: one law for each way out.
 use denote.Ref.{now}
 use lib.ListN.{drop}
-use Rattle.reader.specs.FieldLaws.{went, stopped}
+use Rattle.fields.specs.FieldLaws.{went, stopped}
 use Rattle.reader.specs.NetLaws.{inputs-stop, gates-number-stops, outputs-number-stops, sizes-go}
 use borrow.Author.Needs.{needs}
 use Rattle.reader.proofs.read_sizes.Statement.{statement}

@@ -1,0 +1,5 @@
+pub mod Verdicts
+pub mod Fields
+pub mod FieldLaws
+pub mod ListLaws
+pub mod Contracts

@@ -1,0 +1,5 @@
+pub mod Contracts
+pub mod RowLaws
+pub mod SpreadLaws
+pub mod GateLaws
+pub mod OutputLaws
