@@ -10,12 +10,12 @@ use Rattle.sequences.specs.Member.{_∈_, here, there, not-in-nil, in-equal, in
 use Rattle.netlist.specs.Net.{Net}
 use Rattle.netlist.specs.Wired.{Wired}
 use Rattle.netlist.specs.Copies.{Copy, copy}
-use Rattle.netlist.specs.CopyLaws.{copy-path}
 use Rattle.cones.specs.Ranks.{Ranked}
-use Rattle.netlist.specs.Arrays.{copyAt}
-use Rattle.cone.specs.Lists.{Wires, sourceAt, Bounded, Visit, Room, members, most, copiesIn}
-use Rattle.cone.specs.ListLaws.{length-copiesIn, getD-copiesIn, in-copiesIn}
-use Rattle.cone.specs.Walking.{Walked, Closed, Refuted, walked-more, refuted-input, refuted-full, pin-feeds, closed-pins, node-gate, input-no-gate}
+use Rattle.copies.specs.Lists.{Wires, sourceAt, Bounded, Room, members, most, copiesIn}
+use Rattle.copies.specs.ListLaws.{length-copiesIn, member}
+use Rattle.copies.specs.PinLaws.{pin-feeds}
+use Rattle.cone.specs.Steps.{Visit}
+use Rattle.cone.specs.Walking.{Walked, Closed, Refuted, walked-more, refuted-input, refuted-full, closed-pins, node-gate, input-no-gate}
 
 -- pin j of the copy b registers back of gate g is fed from C or a leaf
 abbrev pub Met : List ℕ → List ℕ → List Copy → List Copy → ℕ → ℕ → ℕ → Type 0
@@ -194,34 +194,6 @@ sweep-closed {L = L} {C′ = C′} s e N w x m =
     subst (Closed N L C′) (r .2 (copy 0 0)) (s .closed N w (r .0) (omega (arith, r .1)))
 
 -- ---- the list in its arrays
-
--- the copy at place i of the list
-pub record Member (I G : ℕ) (nodes backs : List ℕ) (len i : ℕ) : Type 0 where
-  pub low : I ≤ getD nodes i 0
-  pub gate : getD nodes i 0 - I < G
-  pub near : getD backs i 0 + most ≤ most * len
-  pub this : copy (I + (getD nodes i 0 - I)) (getD backs i 0) ≡ copyAt nodes backs i
-  pub at : getD (copiesIn nodes backs len) i (copy 0 0) ≡ copy (I + (getD nodes i 0 - I)) (getD backs i 0)
-  pub inside : i < length (copiesIn nodes backs len)
-
-pub member : {I G : ℕ} (nodes backs : List ℕ) (len i : ℕ) → Bounded I G (copiesIn nodes backs len) → i < len → Member I G nodes backs len i
-member {I} {G} nodes backs len i b h = record {
-  low = low;
-  gate = omega (arith, low, b .high (copyAt nodes backs i) m);
-  near = omega (arith, b .near (copyAt nodes backs i) m, length-copiesIn nodes backs len);
-  this = this;
-  at = getD-copiesIn nodes backs len i (copy 0 0) h ∙ sym this;
-  inside = omega (arith, length-copiesIn nodes backs len);
-}
-  where
-    m : copyAt nodes backs i ∈ copiesIn nodes backs len
-    m = in-copiesIn nodes backs len i h
-
-    low : I ≤ getD nodes i 0
-    low = b .low (copyAt nodes backs i) m
-
-    this : copy (I + (getD nodes i 0 - I)) (getD backs i 0) ≡ copyAt nodes backs i
-    this = copy-path (let l = low in omega arith) refl
 
 -- the walk when the copies below place n are done with
 pub record Turn (I G : ℕ) (ps sources counts : List ℕ) (L C : List Copy) (us ds : List ℕ) (len n : ℕ) : Type 0 where

@@ -1,7 +1,5 @@
-pub mod Lists
-pub mod ListLaws
+pub mod Steps
+pub mod StepLaws
 pub mod Walking
 pub mod Growing
-pub mod Ordering
 pub mod Told
-pub mod Words

@@ -13,11 +13,13 @@ use Rattle.netlist.specs.Copies.{Copy, copy, Feeds, IsCone, IsLeaves, IsCut, Ri
 use Rattle.cones.specs.Ranks.{Ranked}
 use Rattle.netlist.specs.Arrays.{copyAt, copiesFrom}
 use Rattle.sequences.specs.Tests.{First}
-use Rattle.cone.specs.Lists.{copiesIn, Wires, Touched, Bounded, Room, Leaves, Given, members, most, SourcesFirst}
-use Rattle.cone.specs.ListLaws.{length-copiesIn, in-copiesIn, copiesIn-in, found-in, missing}
-use Rattle.cone.specs.Walking.{Walked, Closed, Refuted, walked-root, walked-cone, walked-leaves, refuted-root, closed-all, refuted-cut, pin-feeds, feeds-pin}
-use Rattle.cone.specs.Growing.{Sweep, Grown, member, sweep-closed}
-use Rattle.cone.specs.Ordering.{Arranged, mixed-bounded, mixed-cone, mixed-leaves}
+use Rattle.copies.specs.Lists.{copiesIn, Bounded, Room, members, most, SourcesFirst}
+use Rattle.copies.specs.ListLaws.{length-copiesIn, in-copiesIn, copiesIn-in, found-in, missing, member}
+use Rattle.copies.specs.PinLaws.{pin-feeds, feeds-pin}
+use Rattle.copies.specs.Ordering.{Arranged, mixed-bounded, mixed-cone, mixed-leaves}
+use Rattle.cone.specs.Steps.{Touched, Leaves}
+use Rattle.cone.specs.Walking.{Walked, Closed, Refuted, walked-root, walked-cone, walked-leaves, refuted-root, closed-all, refuted-cut}
+use Rattle.cone.specs.Growing.{Sweep, Grown, sweep-closed}
 use Rattle.cone.specs.declared.Told.the-variants.{Cut, NoCut}
 use Rattle.cone.specs.declared.Cone.{Cone}
 
@@ -152,11 +154,6 @@ module _ {I G : ℕ} {ps sources counts ln lb : List ℕ} {n g : ℕ} where
 -- ---- for callers
 
 module _ {I G : ℕ} {ps sources counts ln lb : List ℕ} {n g : ℕ} {r : Cone} (t : Walk I G ps sources counts ln lb n g r) (e : r .verdict ≡ Cut) where
-  -- what a table over the cone asks
-  pub cone-given : {tables : List ℕ} → Wires I G ps sources counts → G ≤ length tables → n ≤ 6 → n ≤ length ln → n ≤ length lb
-      → Given I G ps sources counts tables ln lb n (r .nodes) (r .backs) (r .len)
-  cone-given w h k a b = record { wires = w; tables = h; few = k; leafNodes = a; leafBacks = b; room = t .room e; bounded = t .bounded e }
-
   -- the leaves are a cut
   pub cone-cut : (N : Net) (k : ℕ) → Wired N I G ps sources counts → Rising (copiesIn ln lb n) → n ≤ k → IsCut N k (I + g) (copiesIn ln lb n)
   cone-cut N k w rising h = record {

@@ -1,5 +1,5 @@
 -- The walk from a root to its leaves: what the list of met copies keeps, what ends the walk, and what the end means.
-use mathlib.Core.Path.{_≡_, refl, sym, ap, _∙_, subst}
+use mathlib.Core.Path.{refl, sym, subst}
 use mathlib.Core.List.{List, [], _∷_, _++_}
 use mathlib.Core.Logic.{_⊎_, inl, inr}
 use Prim.Native.Nat.{ℕ, _+_, _*_, _≤_, _<_}
@@ -8,17 +8,15 @@ use native.Mathlib.Omega.{arith}
 use lib.ListN.{length, getD, length-append}
 use Rattle.sequences.specs.Member.{_∈_, here, there, not-in-nil, in-equal, Within, in-append-left, in-append-cases}
 use Rattle.sequences.specs.Distinct.{Distinct, distinct-nil, distinct-cons, distinct-append}
-use Rattle.netlist.specs.Net.{Net, Pin, IsGate}
-use Rattle.netlist.specs.Arrays.{stride}
-use Rattle.netlist.specs.ArrayLaws.{pinAt}
-use Rattle.netlist.specs.Wired.{Wired, wired-gate, wired-pin, pin-wired}
+use Rattle.netlist.specs.Net.{Net, IsGate}
+use Rattle.netlist.specs.Wired.{Wired}
 use Rattle.netlist.specs.Copies.{Copy, copy, Feeds, Leads, IsCone, IsLeaves, IsCut, Rising}
-use Rattle.netlist.specs.CopyLaws.{copy-path}
 use Rattle.cones.specs.Basics.{member?}
 use Rattle.cones.specs.Part.{leads-mono}
 use Rattle.cones.specs.Ranks.{Ranked}
 use Rattle.cones.specs.Copies.{few-members}
-use Rattle.cone.specs.Lists.{sourceAt}
+use Rattle.copies.specs.Lists.{sourceAt}
+use Rattle.copies.specs.PinLaws.{feeds-pin}
 
 -- ---- what the list of met copies keeps
 
@@ -167,25 +165,9 @@ refuted-cut r k c = r (c .cone) (c .isCone) (c .isLeaves)
 -- ---- feeding by pins
 
 module _ {N : Net} {I G : ℕ} {ps sources counts : List ℕ} (w : Wired N I G ps sources counts) where
-  -- pin j of gate g feeds each copy of it
-  pub pin-feeds : (g b j : ℕ) → g < G → j < getD ps g 0 → Feeds N (sourceAt sources counts g b j) (copy (I + g) b)
-  pin-feeds g b j h k = record {
-    gate = wired-gate w g h;
-    pin = pinAt sources counts (stride * g + j);
-    isPin = wired-pin w g j h k;
-    source = refl;
-    depth = refl;
-  }
-
-  -- and nothing else does
-  pub feeds-pin : (g b : ℕ) (y : Copy) → g < G → Feeds N y (copy (I + g) b) → (j : ℕ) × (j < getD ps g 0) × (sourceAt sources counts g b j ≡ y)
-  feeds-pin g b y h f =
-      let r = pin-wired w g h (f .pin) (f .isPin) in
-      (r .0, r .1, copy-path (sym (ap (λ (p : Pin). p .src) (r .2)) ∙ sym (f .source)) (sym (ap (λ (p : Pin). b + p .count) (r .2)) ∙ sym (f .depth)))
-
   pub closed-pins : (L C : List Copy) (g b : ℕ) → g < G → ((j : ℕ) → j < getD ps g 0 → (sourceAt sources counts g b j ∈ C) ⊎ (sourceAt sources counts g b j ∈ L)) → Closed N L C (copy (I + g) b)
   closed-pins L C g b h each y f =
-      let r = feeds-pin g b y h f in
+      let r = feeds-pin w g b y h f in
       subst (λ (c : Copy). (c ∈ C) ⊎ (c ∈ L)) (r .2) (each (r .0) (r .1))
 
   pub node-gate : (u : ℕ) → I ≤ u → u < I + G → IsGate N u

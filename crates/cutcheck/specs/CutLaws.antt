@@ -22,10 +22,10 @@ use Rattle.covers.specs.Key.{Entry}
 use Rattle.records.specs.Held.{Held, held, lutAt, lutsIn}
 use Rattle.records.specs.HeldLaws.{lutsIn-in, in-lutsIn}
 use Rattle.records.specs.Marking.{CutsRight, TableRight, TablesRight}
-use Rattle.cone.specs.Lists.{copiesIn}
-use Rattle.cone.specs.ListLaws.{length-copiesIn}
+use Rattle.copies.specs.Lists.{copiesIn}
+use Rattle.copies.specs.ListLaws.{length-copiesIn}
 use Rattle.cone.specs.Told.{Walk, cone-cut}
-use Rattle.cone.specs.Words.{Tabled, TableOver}
+use Rattle.conetable.specs.Words.{Tabled, TableOver}
 use Rattle.cone.specs.declared.Told.the-variants.{Cut, NoCut}
 use Rattle.cone.specs.declared.Cone.{Cone}
 use Rattle.luts.specs.LutLaws.{lut-cut, behind, copies-part}

@@ -14,8 +14,8 @@ use Rattle.cones.specs.Ranks.{Ranked}
 use Rattle.covers.specs.Key.{Entry}
 use Rattle.records.specs.Held.{held, lutsIn}
 use Rattle.records.specs.Marking.{CutsRight, TablesRight}
-use Rattle.cone.specs.Lists.{Wires}
-use Rattle.cone.specs.Words.{Tabled}
+use Rattle.copies.specs.Lists.{Wires}
+use Rattle.conetable.specs.Words.{Tabled}
 use Rattle.luts.specs.Luts.{LutTable}
 use Rattle.cutcheck.specs.declared.Tried.{Tried}
 

@@ -1,14 +1,14 @@
 // Checks 14 and 15 of a candidate's LUTs: leaves that are cuts of their roots, tables that are right.
 use cone::Told;
-use cone::table;
 use cone::walk;
+use conetable::table;
 use limits::LUTS;
 use limits::PINS;
 ghost use mathlib.Core.Path.{_≡_};
 ghost use Prim.Native.Nat.{ℕ, _+_, _*_, _≤_, _<_};
 ghost use lib.ListN.{length, getD};
 ghost use Rattle.limits.specs.Limits.{mostLuts, mostPins};
-ghost use Rattle.cone.specs.Lists.{Wires, copiesIn};
+ghost use Rattle.copies.specs.Lists.{Wires, copiesIn};
 ghost use Rattle.cutcheck.specs.Cuts.{Cutting, LutTried, TriedAt, CutsTried, Compared, CutsTold};
 
 // Whether leaves are no cut, and the table where they are one.

@@ -16,7 +16,7 @@ use mir.Val.{SFits, toZ, ofZ}
 use Rattle.integers.specs.Parts.{up, dn, ints, +-parts}
 use Rattle.signed.specs.RangeLaws.{back, fits-of}
 use Rattle.sequences.specs.Tests.{Tells}
-use Rattle.cone.specs.ListLaws.{tells-yes, tells-no}
+use Rattle.copies.specs.ListLaws.{tells-yes, tells-no}
 use Rattle.linkcheck.specs.Places.{placeFrom, placeIn, Found, base, raise, raisedAt, levelOf, leafIn, LutFed, LutsFed, LeafLong, LutLong, LongAt, NoneLong, Marked, Marks, most, LeafAsked, Wired}
 
 -- ---- the search

@@ -16,9 +16,9 @@ use Rattle.cones.specs.Order.{levels}
 use Rattle.cones.specs.Part.{cone-determined}
 use Rattle.cones.specs.Reach.{reachOf, reach}
 use Rattle.tables.specs.Values.{table-same}
-use Rattle.cone.specs.Lists.{copiesIn}
+use Rattle.copies.specs.Lists.{copiesIn}
 use Rattle.cone.specs.Told.{Walk}
-use Rattle.cone.specs.Words.{TableOver}
+use Rattle.conetable.specs.Words.{TableOver}
 use Rattle.cone.specs.declared.Told.the-variants.{Cut, NoCut}
 use Rattle.cone.specs.declared.Cone.{Cone}
 use Rattle.luts.specs.Luts.{LutTable, GateTable, Tabulated}

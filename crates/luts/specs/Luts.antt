@@ -10,8 +10,8 @@ use Rattle.netlist.specs.Arrays.{stride, copiesFrom}
 use Rattle.netlist.specs.Wired.{Wired}
 use Rattle.netlist.specs.Tables.{tableOf}
 use Rattle.cones.specs.Ranks.{Ranked}
-use Rattle.cone.specs.Lists.{Wires}
-use Rattle.cone.specs.Words.{Tabled}
+use Rattle.copies.specs.Lists.{Wires}
+use Rattle.conetable.specs.Words.{Tabled}
 
 -- r is the table of the LUT of gate g with leaves L, for every net with this wiring and these tables where L is a cut.
 pub record LutTable (I G : ℕ) (ps so co ts : List ℕ) (L : List Copy) (g r : ℕ) : Type 0 where

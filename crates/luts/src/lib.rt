@@ -1,13 +1,13 @@
 // The tables of the LUTs of a cover, each over the cone between a root and its leaves.
 use cone::Told;
-use cone::table;
 use cone::walk;
+use conetable::table;
 use limits::PINS;
 ghost use mathlib.Core.Path.{_≡_};
 ghost use Prim.Native.Nat.{ℕ, _+_, _*_, _≤_, _<_};
 ghost use lib.ListN.{length, getD};
 ghost use Rattle.limits.specs.Limits.{mostPins};
-ghost use Rattle.cone.specs.Lists.{Wires, copiesIn};
+ghost use Rattle.copies.specs.Lists.{Wires, copiesIn};
 ghost use Rattle.luts.specs.Luts.{LutTable, GateTable, Tabulates, Tabulated};
 
 // The table of the LUT of gate g over its n leaves; 0 where they are no cut.

@@ -18,7 +18,7 @@ use Rattle.covers.specs.Key.{Key, Root, Entry, entries}
 use Rattle.covers.specs.KeyOf.{keyOf, entryOf, root-gate}
 use Rattle.covers.specs.KeyUnique.{numbers-unique}
 use Rattle.records.specs.Kept.{Kept, kept, entryAt, entriesFrom, entriesIn}
-use Rattle.cone.specs.Words.{Tabled}
+use Rattle.conetable.specs.Words.{Tabled}
 use Rattle.mincut.specs.Bridge.{Holds}
 use Rattle.query.specs.Question.{labelIn}
 use Rattle.query.specs.Forcing.{wires}

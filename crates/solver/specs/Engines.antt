@@ -11,7 +11,7 @@ use Rattle.netlist.specs.Net.{Net}
 use Rattle.netlist.specs.Arrays.{stride}
 use Rattle.netlist.specs.Wired.{Wired}
 use Rattle.limits.specs.Limits.{mostPeriod, mostCopies, mostTable, mostList}
-use Rattle.cone.specs.Lists.{Wires}
+use Rattle.copies.specs.Lists.{Wires}
 use Rattle.circuit.specs.Circuit.{circuit}
 use Rattle.mincut.specs.Bridge.{Holds}
 use Rattle.query.specs.Question.{AtRest}

@@ -22,8 +22,8 @@ use Rattle.signed.specs.Range.{room, Small}
 use Rattle.reader.specs.Answer.{arraysOf}
 use Rattle.reader.specs.WalkFacts.{WalkFacts}
 use Rattle.reader.specs.declared.Wiring.{Wiring}
-use Rattle.cone.specs.Lists.{Wires}
-use Rattle.cone.specs.Words.{Tabled}
+use Rattle.copies.specs.Lists.{Wires}
+use Rattle.conetable.specs.Words.{Tabled}
 use Rattle.circuit.specs.Circuit.{circuit, Layout}
 use Rattle.circuit.specs.Chains.{Chains}
 use Rattle.circuit.specs.Links.{LinkAsked, Linked, chains}

@@ -6,8 +6,8 @@ use denote.Ref.{now}
 use Prim.Native.Nat.{ℕ, _-_, _≤_, _<_}
 use native.Mathlib.Omega.{arith}
 use Rattle.netlist.specs.Arrays.{copyAt}
-use Rattle.cone.specs.Lists.{Touched}
-use Rattle.cone.specs.ListLaws.{tells-all, tells-not}
+use Rattle.copies.specs.ListLaws.{tells-all, tells-not}
+use Rattle.cone.specs.Steps.{Touched}
 use Rattle.cone.proofs.all_touched.Statement.{statement}
 use Rattle.cone.proofs.all_touched.Tie as tie
 

@@ -4,8 +4,9 @@ use denote.Ref.{now}
 use mathlib.Core.Path.{refl}
 use Prim.Native.Nat.{_-_, _≤_}
 use native.Mathlib.Omega.{arith}
-use Rattle.cone.specs.Lists.{Room, copiesIn}
-use Rattle.cone.specs.ListLaws.{length-copiesIn, place, room-next}
+use Rattle.copies.specs.Lists.{Room, copiesIn}
+use Rattle.copies.specs.ListLaws.{length-copiesIn, place}
+use Rattle.cone.specs.StepLaws.{room-next}
 use Rattle.cone.specs.Growing.{Growth, Expanded, growth-none, growth-next, growth-stop, growth-at}
 use Rattle.cone.proofs.expand.Statement.{statement}
 use Rattle.cone.proofs.expand.Tie as tie

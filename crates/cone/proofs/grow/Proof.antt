@@ -3,8 +3,9 @@ use borrow.Author.Needs.{needs}
 use denote.Ref.{now}
 use Prim.Native.Nat.{_-_}
 use native.Mathlib.Omega.{arith}
-use Rattle.cone.specs.Lists.{copiesIn, members}
-use Rattle.cone.specs.Growing.{Turn, member, turn-first, turn-next, turn-stop, turn-last}
+use Rattle.copies.specs.Lists.{copiesIn, members}
+use Rattle.copies.specs.ListLaws.{member}
+use Rattle.cone.specs.Growing.{Turn, turn-first, turn-next, turn-stop, turn-last}
 use Rattle.cone.proofs.grow.Statement.{statement}
 use Rattle.cone.proofs.grow.Tie as tie
 

@@ -6,8 +6,8 @@ use mathlib.Core.Path.{_≡_}
 use Prim.Native.Nat.{ℕ, _-_, _≤_, _<_}
 use native.Mathlib.Omega.{arith}
 use Rattle.netlist.specs.Copies.{copy}
-use Rattle.cone.specs.Lists.{sourceAt}
-use Rattle.cone.specs.ListLaws.{tells-some, tells-none}
+use Rattle.copies.specs.Lists.{sourceAt}
+use Rattle.copies.specs.ListLaws.{tells-some, tells-none}
 use Rattle.cone.proofs.is_fed.Statement.{statement}
 use Rattle.cone.proofs.is_fed.Tie as tie
 

@@ -5,7 +5,7 @@ use Prim.Native.Nat.{_+_}
 use native.Mathlib.Omega.{arith}
 use lib.ListN.{getD}
 use Rattle.netlist.specs.Copies.{copy}
-use Rattle.cone.specs.ListLaws.{tells-node, tells-back}
+use Rattle.copies.specs.ListLaws.{tells-node, tells-back}
 use Rattle.cone.proofs.is_source.Statement.{statement}
 use Rattle.cone.proofs.is_source.Tie as tie
 

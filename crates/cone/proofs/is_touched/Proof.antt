@@ -6,9 +6,8 @@ use Prim.Native.Nat.{ℕ, _-_, _≤_, _<_}
 use native.Mathlib.Omega.{arith}
 use lib.ListN.{getD}
 use Rattle.netlist.specs.Copies.{copy}
-use Rattle.cone.specs.Lists.{Fed}
-use Rattle.cone.specs.ListLaws.{tells-some, tells-none, place}
-use Rattle.cone.specs.Growing.{member}
+use Rattle.copies.specs.ListLaws.{tells-some, tells-none, place, member}
+use Rattle.cone.specs.Steps.{Fed}
 use Rattle.cone.proofs.is_touched.Statement.{statement}
 use Rattle.cone.proofs.is_touched.Tie as tie
 

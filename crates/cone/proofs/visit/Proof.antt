@@ -3,7 +3,7 @@ use borrow.Author.Needs.{needs}
 use denote.Ref.{now}
 use native.Mathlib.Omega.{arith}
 use Rattle.netlist.specs.Copies.{copy}
-use Rattle.cone.specs.ListLaws.{visit-leaf, visit-input, visit-listed, visit-full, visit-add}
+use Rattle.cone.specs.StepLaws.{visit-leaf, visit-input, visit-listed, visit-full, visit-add}
 use Rattle.cone.proofs.visit.Statement.{statement}
 use Rattle.cone.proofs.visit.Tie as tie
 

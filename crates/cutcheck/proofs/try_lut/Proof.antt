@@ -1,12 +1,12 @@
 -- `cutcheck::try_lut` meets its contract: the walk's cone gives the cut and its table, or no cut has these leaves.
-use Rattle.cone.specs.Told.{cone-given}
+use Rattle.conetable.specs.Words.{cone-given}
 use Rattle.cutcheck.specs.CutLaws.{tried-none, tried-cut}
 use borrow.Author.Needs.{needs}
 use Rattle.cutcheck.proofs.try_lut.Statement.{statement}
 use Rattle.cutcheck.proofs.try_lut.Tie as tie
 use Rattle.cutcheck.proofs.try_lut.Reads as reads
 use Rattle.cutcheck.proofs.try_lut.Lts as lts
-use Rattle.cone.proofs.table.Reads as table-reads
+use Rattle.conetable.proofs.table.Reads as table-reads
 use Rattle.cone.proofs.walk.Reads as walk-reads
 
 -- src/lib.rt:33:9

@@ -4,7 +4,7 @@ use mathlib.Core.Path.{_≡_, refl, _∙_}
 use Prim.Native.Nat.{ℕ, _-_, _≤_, _<_}
 use native.Mathlib.Omega.{arith}
 use lib.ListN.{length, getD, length-set}
-use Rattle.cone.specs.ListLaws.{each-set}
+use Rattle.copies.specs.ListLaws.{each-set}
 use Rattle.linkcheck.specs.Places.{LutLong, Marked, Marks, most}
 use Rattle.linkcheck.proofs.round.Statement.{statement}
 use Rattle.linkcheck.proofs.round.Tie as tie

@@ -1,13 +1,13 @@
 -- `luts::lut_table` meets its contract: the walk's cone gives the table, or no cut has these leaves.
 use borrow.Author.Needs.{needs}
 use denote.Ref.{now}
-use Rattle.cone.specs.Told.{cone-given}
+use Rattle.conetable.specs.Words.{cone-given}
 use Rattle.luts.specs.LutLaws.{lut-cut, lut-none}
 use Rattle.luts.proofs.lut_table.Statement.{statement}
 use Rattle.luts.proofs.lut_table.Tie as tie
 use Rattle.luts.proofs.lut_table.Reads as reads
 use Rattle.luts.proofs.lut_table.Lts as lts
-use Rattle.cone.proofs.table.Reads as table-reads
+use Rattle.conetable.proofs.table.Reads as table-reads
 use Rattle.cone.proofs.walk.Reads as walk-reads
 
 -- src/lib.rt:27:9
