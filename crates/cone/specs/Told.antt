@@ -5,6 +5,7 @@ use Prim.Native.Nat.{ℕ, _+_, _-_, _*_, _≤_, _<_}
 use native.Mathlib.Nat.{mul-le-mul}
 use native.Mathlib.Omega.{arith}
 use lib.ListN.{length, getD}
+use Rattle.limits.specs.Limits.{mostGates, mostPins}
 use Rattle.sequences.specs.Member.{_∈_, here, there, not-in-nil, in-equal}
 use Rattle.netlist.specs.Net.{Net}
 use Rattle.netlist.specs.Checks.{Loopless}
@@ -91,7 +92,7 @@ start-list us ds v = refl
 pub start-room : (us ds : List ℕ) → length us ≡ members → length ds ≡ members → Room us ds 1
 start-room us ds e f = record { nodes = e; backs = f; some = omega arith; fits = omega arith }
 
-pub start-leaves : (G : ℕ) (ln lb : List ℕ) (n : ℕ) → G ≤ 32 → n ≤ 6 → n ≤ length ln → n ≤ length lb → Leaves G ln lb n (n * G)
+pub start-leaves : (G : ℕ) (ln lb : List ℕ) (n : ℕ) → G ≤ mostGates → n ≤ mostPins → n ≤ length ln → n ≤ length lb → Leaves G ln lb n (n * G)
 start-leaves G ln lb n g h p q = record { nodes = p; backs = q; product = refl; small = mul-le-mul h g }
 
 pub start-bounded : (I G v : ℕ) (C : List Copy) → C ≡ copy v 0 ∷ [] → I ≤ v → v < I + G → Bounded I G C

@@ -3,7 +3,7 @@ use mathlib.Core.Path.{_≡_}
 use mathlib.Core.List.{List, [], _∷_, _++_}
 use Prim.Native.Nat.{ℕ, _+_, _*_, _≤_, _<_}
 use lib.ListN.{length, getD, drop, set}
-use Rattle.limits.specs.Limits.{mostPlaces}
+use Rattle.limits.specs.Limits.{mostPlaces, mostInputs, mostGates, mostOutputs}
 use Rattle.netlist.specs.Net.{Gate, Pin}
 use Rattle.netlist.specs.Arrays.{pinsIn, gatesIn, stride}
 use Rattle.netlist.specs.ArrayLaws.{pinAt}
@@ -99,13 +99,13 @@ pub record OutputsRead (s : List ℕ) (at : ℕ) (w : Wiring) (r : Part) : Type 
 
 -- the numbers are in their ranges
 pub record Sized (w : Wiring) : Type 0 where
-  pub inputs : w .inputs ≤ 16
-  pub gates : w .gates ≤ 32
-  pub outputs : w .outputs ≤ 16
+  pub inputs : w .inputs ≤ mostInputs
+  pub gates : w .gates ≤ mostGates
+  pub outputs : w .outputs ≤ mostOutputs
 
 -- the three numbers are read: the net is what the readers behind them make of it
 pub record SizesRead (s : List ℕ) (r : Sizes) : Type 0 where
   pub result : (k : ℕ) → netReader k s ≡ onward (r .verdict) (fromSizes k (r .inputs) (r .gates) (r .outputs) (drop (r .at) s))
-  pub inputs : r .inputs ≤ 16
-  pub gates : r .gates ≤ 32
-  pub outputs : r .outputs ≤ 16
+  pub inputs : r .inputs ≤ mostInputs
+  pub gates : r .gates ≤ mostGates
+  pub outputs : r .outputs ≤ mostOutputs

@@ -8,7 +8,7 @@ use native.Mathlib.Omega.{arith}
 use lib.ListN.{length, getD, drop, set, length-set}
 use lib.Seq.{getD-set-same, getD-set-other}
 use borrow.Author.Count.{below-more}
-use Rattle.limits.specs.Limits.{mostPlaces}
+use Rattle.limits.specs.Limits.{mostPlaces, mostGates, mostPins, mostOutputs}
 use Rattle.netlist.specs.Net.{Gate, Pin}
 use Rattle.netlist.specs.Arrays.{pinsIn, gatesIn, stride}
 use Rattle.netlist.specs.ArrayLaws.{pinAt, gateAt}
@@ -43,7 +43,7 @@ module _ (w : Wiring) (g : ℕ) (S C : List ℕ) where
     counts-long = lc;
   }
 
-  pub pins-one : (j : ℕ) (z : Wiring) → PinsStored w g S C j z → g < 32 → j < 6 → PinsStored w g S C (j + 1) (withPin z (6 * g + j) (getD S j 0) (getD C j 0))
+  pub pins-one : (j : ℕ) (z : Wiring) → PinsStored w g S C j z → g < mostGates → j < mostPins → PinsStored w g S C (j + 1) (withPin z (6 * g + j) (getD S j 0) (getD C j 0))
   pins-one j z so hg hj =
       let ls = so .sources-long in
       let lc = so .counts-long in
@@ -97,7 +97,7 @@ withGate w g pins table = record {
 }
 
 module _ (w : Wiring) (g : ℕ) (row : GateRow) (z : Wiring) (so : PinsStored w g (row .sources) (row .counts) 6 z)
-    (hg : g < 32) (six : row .pins ≤ 6) (few : narrow w g) (lp : length (w .pins) ≡ 32) (lt : length (w .tables) ≡ 32) where
+    (hg : g < mostGates) (six : row .pins ≤ mostPins) (few : narrow w g) (lp : length (w .pins) ≡ mostGates) (lt : length (w .tables) ≡ mostGates) where
   ps : List ℕ
   ps = set (z .pins) g (row .pins)
 
@@ -211,11 +211,11 @@ pub record OutputsSoFar (s : List ℕ) (at : ℕ) (w z : Wiring) (next o : ℕ) 
       ≡ timesAfter (outputsOf z o) (w .outputs - o) (outputReader (w .inputs + w .gates)) (drop next s)
   pub most : o ≤ w .outputs
   pub kept : Kept w z
-  pub sources-long : length (z .«out_sources») ≡ 16
-  pub counts-long : length (z .«out_counts») ≡ 16
+  pub sources-long : length (z .«out_sources») ≡ mostOutputs
+  pub counts-long : length (z .«out_counts») ≡ mostOutputs
 
 module _ (s : List ℕ) (at : ℕ) (w : Wiring) where
-  pub outputs-none : length (w .«out_sources») ≡ 16 → length (w .«out_counts») ≡ 16 → OutputsSoFar s at w w at 0
+  pub outputs-none : length (w .«out_sources») ≡ mostOutputs → length (w .«out_counts») ≡ mostOutputs → OutputsSoFar s at w w at 0
   unfolding pinsIn
   outputs-none ls lc = record {
     result = turn-none (w .outputs) (outputReader (w .inputs + w .gates)) (drop at s);
@@ -226,7 +226,7 @@ module _ (s : List ℕ) (at : ℕ) (w : Wiring) where
   }
 
   module _ (z : Wiring) (next o : ℕ) (so : OutputsSoFar s at w z next o) (h : o < w .outputs) where
-    pub outputs-one : (v : Verdict) (source count after : ℕ) → w .outputs ≤ 16
+    pub outputs-one : (v : Verdict) (source count after : ℕ) → w .outputs ≤ mostOutputs
         → outputReader (w .inputs + w .gates) (drop next s) ≡ outcome v (record { src = source; count = count }) (drop after s) → v ≡ Read
         → OutputsSoFar s at w (withOutput z o source count) after (o + 1)
     outputs-one v source count after high e r =

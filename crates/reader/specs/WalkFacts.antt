@@ -4,6 +4,7 @@ use mathlib.Core.List.{List, []}
 use Prim.Native.Nat.{ℕ, _+_, _*_, _^_, _≤_, _<_}
 use native.Mathlib.Nat.{zero-add}
 use lib.ListN.{length, getD}
+use Rattle.limits.specs.Limits.{mostInputs, mostGates, mostOutputs, mostPins, mostCount}
 use Rattle.sequences.specs.Member.{in-getD}
 use Rattle.netlist.specs.Net.{Gate, size, nothing}
 use Rattle.netlist.specs.Arrays.{netIn, pinsIn, gatesIn, stride}
@@ -21,19 +22,19 @@ use Rattle.reader.specs.Answer.{arraysOf, resultOf}
 -- "I is 1..16, G 1..32, outputs O 1..16", checks 6 and 7, and the tables' lengths, as facts about the arrays
 pub record WalkFacts (k : ℕ) (w : Wiring) : Type 0 where
   pub inputs-low : 1 ≤ w .inputs
-  pub inputs-high : w .inputs ≤ 16
+  pub inputs-high : w .inputs ≤ mostInputs
   pub gates-low : 1 ≤ w .gates
-  pub gates-high : w .gates ≤ 32
+  pub gates-high : w .gates ≤ mostGates
   pub outputs-low : 1 ≤ w .outputs
-  pub outputs-high : w .outputs ≤ 16
+  pub outputs-high : w .outputs ≤ mostOutputs
   pub pins-low : (g : ℕ) → g < w .gates → 1 ≤ getD (w .pins) g 0
-  pub pins-high : (g : ℕ) → g < w .gates → getD (w .pins) g 0 ≤ 6
+  pub pins-high : (g : ℕ) → g < w .gates → getD (w .pins) g 0 ≤ mostPins
   pub pins-fit : (g : ℕ) → g < w .gates → getD (w .pins) g 0 ≤ k
   pub source : (g j : ℕ) → g < w .gates → j < getD (w .pins) g 0 → getD (w .sources) (stride * g + j) 0 < w .inputs + w .gates
-  pub count : (g j : ℕ) → g < w .gates → j < getD (w .pins) g 0 → getD (w .counts) (stride * g + j) 0 ≤ 3
+  pub count : (g j : ℕ) → g < w .gates → j < getD (w .pins) g 0 → getD (w .counts) (stride * g + j) 0 ≤ mostCount
   pub table : (g : ℕ) → g < w .gates → getD (w .tables) g 0 < 2 ^ (2 ^ getD (w .pins) g 0)
   pub out-source : (o : ℕ) → o < w .outputs → getD (w .«out_sources») o 0 < w .inputs + w .gates
-  pub out-count : (o : ℕ) → o < w .outputs → getD (w .«out_counts») o 0 ≤ 3
+  pub out-count : (o : ℕ) → o < w .outputs → getD (w .«out_counts») o 0 ≤ mostCount
 
 module _ (k : ℕ) (w : Wiring) (f : NetFacts k (netIn (arraysOf w))) where
   nodes : size (netIn (arraysOf w)) ≡ w .inputs + w .gates

@@ -4,6 +4,7 @@ use mathlib.Core.List.{List, _++_}
 use Prim.Native.Nat.{ℕ, _-_, _≤_, _<_}
 use lib.Count.{ones}
 use lib.ListN.{length, drop}
+use Rattle.limits.specs.Limits.{mostPins}
 use Rattle.netlist.specs.Net.{Gate}
 use Rattle.netlist.specs.Arrays.{pinsIn}
 use Rattle.netbytes.specs.Walk.{gateReader, outputReader, pinsFrom}
@@ -51,7 +52,7 @@ rowGate g = record { pins = pinsIn (g .sources) (g .counts) 0 (g .pins); table =
 -- a gate is read as a row
 pub record GateRead (s : List ℕ) (at k nodes : ℕ) (g : GateRow) : Type 0 where
   pub result : gateReader k nodes (drop at s) ≡ outcome (g .verdict) (rowGate g) (drop (g .at) s)
-  pub most : g .pins ≤ 6
+  pub most : g .pins ≤ mostPins
 
 -- an output is read
 abbrev pub OutputRead : List ℕ → ℕ → ℕ → OutputRow → Type 0
