@@ -40,7 +40,7 @@ wiresOf C = wires (C .inputs) (C .gates) (C .width) (C .border) (C .pins) (C .so
 abbrev pub marked : Circuit → List ℕ → Circuit
 marked C marks = circuit (C .inputs) (C .gates) (C .width) (C .border) (C .pins) (C .first) (C .sources) (C .counts) (C .heads) (C .nexts) marks
 
-holds-wires : {C : Circuit} {N : Net} → Holds C N → Holds (wiresOf C) N
+pub holds-wires : {C : Circuit} {N : Net} → Holds C N → Holds (wiresOf C) N
 holds-wires H = record { inputs = H .inputs; gates = H .gates; lists = H .lists }
 
 pub holds-marked : {C : Circuit} {N : Net} (marks : List ℕ) → Holds C N → Holds (marked C marks) N
@@ -53,7 +53,7 @@ asks-marked marks q = record { labels = q .labels; small = q .small; shift = q .
 pub answers-marked : {C : Circuit} {ls : List ℤ} {φ k g : ℕ} {h : ℤ} {r : ℕ} (marks : List ℕ) → Answers C ls φ k g h r → Answers (marked C marks) ls φ k g h r
 answers-marked {C} marks a = record { none = λ N H. a .none N (holds-marked (C .inside) H); some = λ N H. a .some N (holds-marked (C .inside) H) }
 
-layout-marked : {C : Circuit} {marks : List ℕ} → Layout C → total C ≤ length marks → ((x : ℕ) → 0 < getD marks x 0 → Inner (wiresOf C) x) → Layout (marked C marks)
+pub layout-marked : {C : Circuit} {marks : List ℕ} → Layout C → total C ≤ length marks → ((x : ℕ) → 0 < getD marks x 0 → Inner (wiresOf C) x) → Layout (marked C marks)
 layout-marked L p f = record {
   wide = L .wide;
   pins = L .pins;
@@ -141,10 +141,10 @@ module _ {W : Circuit} {T : Target} {most : ℕ} {marks members : List ℕ} {m :
   pub part-inside : m ≤ length members
   part-inside = omega (arith, G .few, G .space, limit)
 
-  part-length : length (take m members) ≡ m
+  pub part-length : length (take m members) ≡ m
   part-length = length-take-le m members part-inside
 
-  part-at : (i : ℕ) → i < m → getD (take m members) i 0 ≡ getD members i 0
+  pub part-at : (i : ℕ) → i < m → getD (take m members) i 0 ≡ getD members i 0
   part-at i h = getD-take m members i 0 h
 
   pub listed-of : Listed marks (take m members) 0
@@ -199,7 +199,7 @@ rest-again {C} {marks = marks} a p z q s c f = record {
 -- ---- the forced set of a net
 module _ {W : Circuit} {T : Target} {most most′ : ℕ} {marks members : List ℕ} {m : ℕ} {N : Net} (B : Ground W (T .labels) (T .phi) most′)
     (G : Growing W T most marks members m) (closed : (x : ℕ) → 0 < getD marks x 0 → AllSettled W T x marks) (H : Holds W N) where
-  in-copies : (x : ℕ) → 0 < getD marks x 0 → decode W x ∈ copiesOf G
+  pub in-copies : (x : ℕ) → 0 < getD marks x 0 → decode W x ∈ copiesOf G
   unfolding copiesOf
   in-copies x h =
       let r = G .all x h in
@@ -226,7 +226,7 @@ module _ {W : Circuit} {T : Target} {most most′ : ℕ} {marks members : List �
     complete = λ c f. let r = complete f in in-equal (r .2) (in-copies (r .0) (r .1));
   }
 
-  forced-leads : {c : Copy} → Forced N (T .root) (LowOf T) c → Leads N (copiesOf G) (copy (T .root) 0) c
+  pub forced-leads : {c : Copy} → Forced N (T .root) (LowOf T) c → Leads N (copiesOf G) (copy (T .root) 0) c
   forced-leads (Forced.root e) = Leads.stop e
   forced-leads (Forced.behind x f h n) = Leads.step x (forced-set .complete x f) h (forced-leads f)
 

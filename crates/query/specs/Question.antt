@@ -60,6 +60,21 @@ pub record Answers (C : Circuit) (ls : List ℤ) (φ k g : ℕ) (h : ℤ) (r : �
   pub none : (N : Net) → Holds C N → Ranked N → Loopless N → k * reachOf N ≤ C .border → k < r → ¬ LowCut N k φ (labelIn ls) (C .inputs + g) h
   pub some : (N : Net) → Holds C N → Ranked N → Loopless N → k * reachOf N ≤ C .border → r ≤ k → Separated N (C .inputs + g) φ (labelIn ls) h (C .border) k r
 
+-- A separation of the forced set with at most k leaves.
+pub record Parted (N : Net) (v φ : ℕ) (lab : ℕ → ℤ) (h : ℤ) (border k : ℕ) : Type 0 where
+  pub set : List Copy
+  pub cone : List Copy
+  pub leaves : List Copy
+  pub forced : ForcedSet N v (Low φ lab h) set
+  pub separation : Separation N v set border cone
+  pub isLeaves : IsLeaves N cone leaves
+  pub few : length leaves ≤ k
+
+-- What an answer r to the question whether there is one means: above k, gate v has no k-cut so low; else there is one.
+pub record Decides (C : Circuit) (ls : List ℤ) (φ k g : ℕ) (h : ℤ) (r : ℕ) : Type 0 where
+  pub none : (N : Net) → Holds C N → Ranked N → Loopless N → k * reachOf N ≤ C .border → k < r → ¬ LowCut N k φ (labelIn ls) (C .inputs + g) h
+  pub some : (N : Net) → Holds C N → Ranked N → Loopless N → k * reachOf N ≤ C .border → r ≤ k → Parted N (C .inputs + g) φ (labelIn ls) h (C .border) k
+
 -- Two arrays with room for k leaves, and a net without loops that has this wiring.
 pub record Takes (C : Circuit) (k : ℕ) (nodes backs : List ℕ) : Type 0 where
   pub net : Net

@@ -1,14 +1,16 @@
 // The cut question: the forced set of a gate and a threshold by a work list, and its nearest minimum cut.
 ghost use mathlib.Core.Path.{_≡_};
 ghost use mathlib.Core.Bool.{true, false};
-ghost use Prim.Native.Nat.{_+_, _-_, _*_, _/_, _%_, _<_};
+ghost use Prim.Native.Nat.{_+_, _-_, _*_, _/_, _%_, _≤_, _<_};
 ghost use Rattle.netlist.specs.Copies.{copy};
 ghost use Rattle.labelling.specs.Labels.{Low};
 ghost use Rattle.circuit.specs.Circuit.{circuit, feedingAt};
 ghost use Rattle.mincut.specs.Rounds.{Cleared, CutAsked};
-ghost use Rattle.query.specs.Question.{labelIn, AtRest, Asks, Answers, Takes, Written};
+ghost use Rattle.query.specs.Question.{labelIn, AtRest, Asks, Answers, Decides, Takes, Written};
+ghost use Rattle.query.specs.Few.{OneMore, OutsideAsked, PinsOutside, FewAsked, FewTold};
 ghost use Rattle.query.specs.Meaning.{CutSeen, LeavesAsked, LeavesTold, LeavesSeen};
-ghost use Rattle.query.specs.Forcing.{wires, target, Added, AddAsked, LowAsked, PinAsked, PinTold, MemberAsked, MemberTold, GrowAsked, GrowTold, ForceAsked, ForceTold, Listed, Unmarked};
+ghost use Rattle.limits.specs.Limits.{mostCopies};
+ghost use Rattle.query.specs.Forcing.{wires, pinsAt, target, Added, AddAsked, LowAsked, PinAsked, PinTold, MemberAsked, MemberTold, GrowAsked, GrowTold, ForceAsked, ForceTold, Listed, Unmarked};
 use circuit::Sizes;
 use mincut::clear;
 use mincut::leaves;
@@ -248,7 +250,71 @@ fn separate(
     r
 }
 
-// The fewest leaves of a separation of the forced set of gate g and threshold h, or a number above k where there is no k-cut so low.
+// c, and 1 more where copy y is not forced.
+fn one_more(inside: &[u8], y: usize, c: usize) -> usize
+    requires { do ⌜ y < (← ⟦inside.len()⟧) ⌝ }
+    requires { ⌜ c ≤ 2 * mostCopies ⌝ }
+    ensures { λ r. ⌜ OneMore (now (inside .entry)) y c r ⌝ }
+{
+    if inside[y] > 0 {
+        return c;
+    }
+    c + 1
+}
+
+// c, and 1 more for each pin of the member x that reads a copy which is not forced.
+fn outside(
+    s: Sizes,
+    pins: &[usize],
+    sources: &[usize],
+    counts: &[usize],
+    inside: &[u8],
+    x: usize,
+    c: usize,
+) -> usize
+    requires { ⌜ OutsideAsked (wires (s .inputs) (s .gates) (s .width) (s .border) (now pins) (now sources) (now counts)) (now inside) x ⌝ }
+    requires { ⌜ c ≤ mostCopies ⌝ }
+    ensures { λ r. ⌜ PinsOutside (wires (s .inputs) (s .gates) (s .width) (s .border) (now (pins .entry)) (now (sources .entry)) (now (counts .entry))) (now (inside .entry)) x (pinsAt (wires (s .inputs) (s .gates) (s .width) (s .border) (now (pins .entry)) (now (sources .entry)) (now (counts .entry))) x) c r ⌝ }
+{
+    let n = pins_of(s, pins, x);
+    let mut out = c;
+    let mut j = 0;
+    while j < n {
+        let y = source(s, sources, counts, x, j);
+        out = one_more(inside, y, out);
+        j += 1;
+    }
+    out
+}
+
+// Whether at most k pins of the members read copies that are not forced.
+fn few_outside(
+    s: Sizes,
+    pins: &[usize],
+    sources: &[usize],
+    counts: &[usize],
+    inside: &[u8],
+    members: &[usize],
+    k: usize,
+) -> bool
+    requires { ⌜ FewAsked (wires (s .inputs) (s .gates) (s .width) (s .border) (now pins) (now sources) (now counts)) (now inside) (now members) ⌝ }
+    requires { ⌜ k ≤ mostCopies ⌝ }
+    ensures { λ r. ⌜ (r ≡ true → FewTold (wires (s .inputs) (s .gates) (s .width) (s .border) (now (pins .entry)) (now (sources .entry)) (now (counts .entry))) (now (inside .entry)) (now (members .entry)) k) ⌝ }
+{
+    let mut c = 0;
+    let mut i = 0;
+    while i < members.len() {
+        let x = members[i];
+        c = outside(s, pins, sources, counts, inside, x, c);
+        if k < c {
+            return false;
+        }
+        i += 1;
+    }
+    true
+}
+
+// Whether gate g has a k-cut no higher than h: a number of at most k where it has one, else a number above k. Where the forced set reads few copies, it is a cut by itself.
 pub fn question(
     s: Sizes,
     pins: &[usize],
@@ -270,7 +336,7 @@ pub fn question(
     requires { ⌜ AtRest (circuit (s .inputs) (s .gates) (s .width) (s .border) (now pins) (now first) (now sources) (now counts) (now heads) (now nexts) (now inside)) (now table) (now list) (now members) ⌝ }
     requires { ⌜ Asks (circuit (s .inputs) (s .gates) (s .width) (s .border) (now pins) (now first) (now sources) (now counts) (now heads) (now nexts) (now inside)) (now labels) phi k g ⌝ }
     ensures rest { λ _. ⌜ AtRest (circuit (s .inputs) (s .gates) (s .width) (s .border) (now (pins .entry)) (now (first .entry)) (now (sources .entry)) (now (counts .entry)) (now (heads .entry)) (now (nexts .entry)) (now (inside .exit))) (now (table .exit)) (now (list .exit)) (now (members .exit)) ⌝ }
-    ensures answer { λ r. ⌜ Answers (circuit (s .inputs) (s .gates) (s .width) (s .border) (now (pins .entry)) (now (first .entry)) (now (sources .entry)) (now (counts .entry)) (now (heads .entry)) (now (nexts .entry)) (now (inside .entry))) (now (labels .entry)) phi k g h r ⌝ }
+    ensures answer { λ r. ⌜ Decides (circuit (s .inputs) (s .gates) (s .width) (s .border) (now (pins .entry)) (now (first .entry)) (now (sources .entry)) (now (counts .entry)) (now (heads .entry)) (now (nexts .entry)) (now (inside .entry))) (now (labels .entry)) phi k g h r ⌝ }
 {
     let most = k * s.gates;
     let f = force(
@@ -290,6 +356,10 @@ pub fn question(
         let e = f - most;
         unforce(inside, &members[..e]);
         return k + 1;
+    }
+    if few_outside(s, pins, sources, counts, inside, &members[..f], k) {
+        unforce(inside, &members[..f]);
+        return k;
     }
     let r = separate(
         s,

@@ -19,13 +19,13 @@ use Rattle.signed.specs.Range.{Small, room}
 use Rattle.signed.specs.RangeLaws.{mag-parts, other-zero, back, fits-of, minus-mag}
 use Rattle.circuit.specs.Circuit.{Circuit, circuit, Layout}
 use Rattle.limits.specs.Limits.{mostCopies}
-use Rattle.query.specs.Question.{labelIn, Answers, Asks}
+use Rattle.query.specs.Question.{labelIn, Decides, Parted, Asks}
 use Rattle.visits.specs.Visits.{PinMax, higher, level, Bounds, bounds-p, bounds-more, past-top, wiring, heightAt, PinFits, Best, Raised, Fine, left, Visited, Ready}
 
 -- the answers speak of the wiring alone
-pub answers-wiring : {I G W B : ℕ} {ps first so co heads nexts inside : List ℕ} {ls : List ℤ} {φ k g r : ℕ} {h : ℤ}
-    → Answers (circuit I G W B ps first so co heads nexts inside) ls φ k g h r → Answers (wiring I G B ps so co) ls φ k g h r
-answers-wiring a = record {
+pub decides-wiring : {I G W B : ℕ} {ps first so co heads nexts inside : List ℕ} {ls : List ℤ} {φ k g r : ℕ} {h : ℤ}
+    → Decides (circuit I G W B ps first so co heads nexts inside) ls φ k g h r → Decides (wiring I G B ps so co) ls φ k g h r
+decides-wiring a = record {
   none = λ N H. a .none N (record { inputs = H .inputs; gates = H .gates; lists = H .lists });
   some = λ N H. a .some N (record { inputs = H .inputs; gates = H .gates; lists = H .lists });
 }
@@ -205,7 +205,7 @@ module _ (C : Circuit) (k φ : ℕ) (tops : List ℕ) (ls : List ℤ) (g : ℕ) 
       refuted = λ e b. past-top (set ls (C .inputs + g) p) g h (bounds-p ls g p h inside m b) (rw ((changed-set ls (C .inputs + g) p inside) .at) o);
     }
 
-    module _ (s : Small p) (ls′ : List ℤ) (rose : ℕ) (R : Raised ls ls′ (C .inputs + g) p rose) (q : ℕ) (a : Answers C ls′ φ k g p q) where
+    module _ (s : Small p) (ls′ : List ℤ) (rose : ℕ) (R : Raised ls ls′ (C .inputs + g) p rose) (q : ℕ) (a : Decides C ls′ φ k g p q) where
       cases : (rose ≡ 0) ⊎ (rose ≡ 1)
       cases = two-cases rose (R .bound)
 
@@ -239,7 +239,7 @@ module _ (C : Circuit) (k φ : ℕ) (tops : List ℕ) (ls : List ℤ) (g : ℕ) 
         fine = fine-of f s changed;
         bounds = bounded;
         same = λ e. R .there e .1;
-        quiet = λ e. level p q m (R .there e .0) few (λ N S. subst (λ (x : List ℤ). Rattle.query.specs.Question.Separated N (C .inputs + g) φ (labelIn x) p (C .border) k q) (R .there e .1)
+        quiet = λ e. level p m (R .there e .0) (λ N S. subst (λ (x : List ℤ). Parted N (C .inputs + g) φ (labelIn x) p (C .border) k) (R .there e .1)
             (a .some N (S .holds) (S .ranked) (S .loopless) (S .border) few));
         less = no-more u;
         falls = λ e. left-falls changed (R .lower e .0) u (C .gates) h;

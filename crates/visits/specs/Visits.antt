@@ -27,7 +27,7 @@ use Rattle.limits.specs.Limits.{mostCopies}
 use Rattle.signed.specs.Range.{Small, room}
 use Rattle.circuit.specs.Circuit.{Circuit, circuit}
 use Rattle.mincut.specs.Bridge.{Holds, gate-of}
-use Rattle.query.specs.Question.{labelIn, Answers, Separated}
+use Rattle.query.specs.Question.{labelIn, Decides, Parted}
 
 -- What the sweep may assume of a net: its wiring is the circuit's, it passed the checks, the border leaves room for its cuts, and each gate g has a path to an
 -- output with tops g − 1 registers.
@@ -54,8 +54,8 @@ pub record PinMax (C : Circuit) (ls : List ℤ) (φ g : ℕ) (p : ℤ) : Type 0 
 -- nothing can change at gate g: its label is above the pins' by 1, or it is the pins' and a separation with at most k leaves was found
 pub data Quiet (C : Circuit) (k φ : ℕ) (tops : List ℕ) (ls : List ℤ) (g : ℕ) : Type 0 where
   higher : (p : ℤ) → PinMax C ls φ g p → (p +ℤ pos 1) ≤ℤ labelIn ls (C .inputs + g) → Quiet C k φ tops ls g
-  level : (p : ℤ) (r : ℕ) → PinMax C ls φ g p → labelIn ls (C .inputs + g) ≡ p → r ≤ k
-      → ((N : Net) → Suits C k tops N → Separated N (C .inputs + g) φ (labelIn ls) p (C .border) k r) → Quiet C k φ tops ls g
+  level : (p : ℤ) → PinMax C ls φ g p → labelIn ls (C .inputs + g) ≡ p
+      → ((N : Net) → Suits C k tops N → Parted N (C .inputs + g) φ (labelIn ls) p (C .border) k) → Quiet C k φ tops ls g
 
 -- a lower bound for every net that suits
 abbrev pub Bounds : Circuit → ℕ → ℕ → List ℕ → List ℤ → Type 0
@@ -179,7 +179,7 @@ module _ {C : Circuit} {k φ : ℕ} {tops : List ℕ} where
   pub bounds-p : (ls : List ℤ) (g : ℕ) (p : ℤ) → g < C .gates → C .inputs + g < length ls → PinMax C ls φ g p → Bounds C k φ tops ls → Bounds C k φ tops (set ls (C .inputs + g) p)
   bounds-p ls g p l r m b = bounds-set ls g p l r b (λ N S. reaches-p S g l m (b N S))
 
-  pub bounds-more : (ls : List ℤ) (g q : ℕ) (p : ℤ) → g < C .gates → C .inputs + g < length ls → PinMax C ls φ g p → Answers C ls φ k g p q → k < q → Bounds C k φ tops ls
+  pub bounds-more : (ls : List ℤ) (g q : ℕ) (p : ℤ) → g < C .gates → C .inputs + g < length ls → PinMax C ls φ g p → Decides C ls φ k g p q → k < q → Bounds C k φ tops ls
       → Bounds C k φ tops (set ls (C .inputs + g) (p +ℤ pos 1))
   bounds-more ls g q p l r m a few b =
       bounds-set ls g (p +ℤ pos 1) l r b (λ N S. reaches-more S g l m (b N S) (a .none N (S .holds) (S .ranked) (S .loopless) (S .border) few))
@@ -196,7 +196,7 @@ module _ {C : Circuit} {k φ : ℕ} {tops : List ℕ} where
 
   quiet-falls : {ls : List ℤ} (g : ℕ) → Quiet C k φ tops ls g → (j : ℕ) → j < getD (C .pins) g 0 → pinHeight C ls φ g j ≤ℤ labelIn ls (C .inputs + g)
   quiet-falls {ls} g (higher p m h) j l = let a = m .above j l in omega (arith, ints, +-parts p (pos 1))
-  quiet-falls {ls} g (level p r m e few s) j l = let a = m .above j l in omega (arith, ints)
+  quiet-falls {ls} g (level p m e s) j l = let a = m .above j l in omega (arith, ints)
 
   falling : {N : Net} {ls : List ℤ} → Holds C N → ((g : ℕ) → g < C .gates → Quiet C k φ tops ls g) → Falling N φ (labelIn ls)
   falling {N} {ls} H q v i p m =
@@ -210,10 +210,10 @@ module _ {C : Circuit} {k φ : ℕ} {tops : List ℕ} where
   quiet-cut {N} {ls} S f g l (higher p m h) =
       Rattle.labelling.specs.Lower.recut (alone-cut N k φ (S .sound) (labelIn ls) (C .inputs + g) p (S .fits) (gate-of (S .holds) g l) (pins-reach k φ {ls = ls} (S .holds) (S .sound) g l m))
       (λ y i a. ≤ℤ-trans a h)
-  quiet-cut {N} {ls} S f g l (level p r m e few s) =
+  quiet-cut {N} {ls} S f g l (level p m e s) =
       let x = s N S in
       subst (LowCut N k φ (labelIn ls) (C .inputs + g)) (sym e)
-      (separation-cut N (C .inputs + g) φ (labelIn ls) p (x .set) (x .cone) (C .border) f (x .forced) (x .separation) k (x .isLeaves) (let c = x .count in omega arith))
+      (separation-cut N (C .inputs + g) φ (labelIn ls) p (x .set) (x .cone) (C .border) f (x .forced) (x .separation) k (x .isLeaves) (x .few))
 
   -- **Where all gates are quiet a lower bound is the least labelling.**
   pub quiet-least : {ls : List ℤ} → Bounds C k φ tops ls → ((g : ℕ) → g < C .gates → Quiet C k φ tops ls g) → (N : Net) → Suits C k tops N → Least N k φ (labelIn ls)
