@@ -210,3 +210,22 @@ pub fn of_family(family: usize, random: &mut Random, gates: usize, pins: usize) 
         }
     }
 }
+
+/// Document 01's nets, lines around the limits, the largest record and one net of each family, as records.
+pub fn hand_made() -> Vec<Vec<u8>> {
+    let mut nets = vec![
+        net_a(),
+        net_b(0),
+        net_b(1),
+        net_b(3),
+        net_b(4),
+        net_c(),
+        Vec::new(),
+    ];
+    nets.extend([line(1, 3), line(32, 0), line(32, 3), line(33, 0)].map(|net| encode(&net)));
+    nets.extend([and_line(5, 0, 0), and_line(15, 1, 3), largest_record()].map(|net| encode(&net)));
+    for family in 0..FAMILIES.len() {
+        nets.push(encode(&of_family(family, &mut Random::new(7), 6, 2)));
+    }
+    nets
+}

@@ -1,11 +1,11 @@
 //! The program `listing` over standard input and output, against the second mapper's text.
 
-use library::nets::{largest_record, net_a, net_b, net_c};
+use library::nets::{hand_made, largest_record, net_a, net_b, net_c};
 use library::programs;
 use second::damage::damaged_net;
 use second::encode::encode;
 use second::generate::{random_net, Shape};
-use second::listing::listing;
+use second::listing::{listing, GAVE_UP};
 use second::Random;
 
 fn printed(given: &[u8]) -> String {
@@ -64,6 +64,20 @@ fn refusals() {
     assert_eq!(same(2, 0, &[1, 1, 1, 1, 0, 1, 2, 0, 1]), "refused 9\n");
     assert_eq!(same(2, 0, &[1, 1, 1, 1, 1, 1, 1, 2, 0, 1]), "refused 10\n");
     assert_eq!(same(2, 0, &[1, 1, 1, 1, 0, 0, 2, 0, 0]), "refused 11\n");
+}
+
+/// The same of the nets made by hand, where the second mapper does not give up.
+#[test]
+fn labels_and_cuts_by_hand() {
+    for net in hand_made() {
+        for k in 2..=6 {
+            for target in [0, 1, 2, 3, 5, 8, 16, 32] {
+                if listing(k.into(), target.into(), &net) != GAVE_UP {
+                    same(k, target, &net);
+                }
+            }
+        }
+    }
 }
 
 /// Labels, chosen cuts, lags and periods of 20,000 nets that have a cover.

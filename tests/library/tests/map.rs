@@ -1,7 +1,7 @@
 //! The library's map against the second mapper's: answers, cover areas and scratch, whole.
 
 use library::compare::{cases, on_threads, seed, Sides, HUGE};
-use library::nets::{and_line, largest_record, line, net_a, net_b, net_c, of_family, FAMILIES};
+use library::nets::{hand_made, largest_record, net_a};
 use second::encode::encode;
 use second::jobs::{COVER_BYTES, SCRATCH_BYTES};
 use second::Random;
@@ -29,20 +29,7 @@ fn random_and_damaged_nets() {
 /// Every k from 0 to 8 with every target from 0 to 40 and the huge ones.
 #[test]
 fn hand_made_nets_with_all_k_and_targets() {
-    let mut nets = vec![
-        net_a(),
-        net_b(0),
-        net_b(1),
-        net_b(3),
-        net_b(4),
-        net_c(),
-        Vec::new(),
-    ];
-    nets.extend([line(1, 3), line(32, 0), line(32, 3), line(33, 0)].map(|net| encode(&net)));
-    nets.extend([and_line(5, 0, 0), and_line(15, 1, 3), largest_record()].map(|net| encode(&net)));
-    for family in 0..FAMILIES.len() {
-        nets.push(encode(&of_family(family, &mut Random::new(7), 6, 2)));
-    }
+    let nets = hand_made();
     let tally = on_threads(|thread, threads| {
         let mut random = Random::new(thread);
         let mut sides = Sides::new(&mut random);
