@@ -1,13 +1,7 @@
 pub mod Reads
-pub mod Fields
 pub mod Stages
 pub mod Contracts
-pub mod FieldLaws
-pub mod ItemLaws
-pub mod DepthLaws
-pub mod SpreadLaws
-pub mod RisingLaws
-pub mod LutLaws
 pub mod StoreLaws
 pub mod FactLaws
+pub mod RefusalLaws
 pub mod CoverLaws

@@ -1,3 +1,5 @@
 pub mod Circuit
+pub mod CircuitLaws
 pub mod Chains
 pub mod Links
+pub mod LinksLaws

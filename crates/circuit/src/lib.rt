@@ -1,6 +1,7 @@
 // The sizes of the expanded circuit, and the chains of the pins that read a node.
 use limits::PINS;
 ghost use Prim.Native.Nat.{_+_, _*_, _≤_};
+ghost use Rattle.limits.specs.Limits.{mostPins};
 ghost use Rattle.circuit.specs.Links.{Emptied, LinkAsked, PlaceAsked, Linked};
 
 // The copy u:d has the number u * width + d; copies with d above the border are terminals.
@@ -56,7 +57,7 @@ fn link_places(
 )
     requires { ⌜ LinkAsked nodes gates (now pins) (now sources) (now heads) (now nexts) ⌝ }
     requires { ⌜ Emptied (now heads) nodes ⌝ }
-    ensures { λ _. ⌜ Linked nodes gates (now (pins .entry)) (now (sources .entry)) (now (heads .exit)) (now (nexts .exit)) (6 * gates) ⌝ }
+    ensures { λ _. ⌜ Linked nodes gates (now (pins .entry)) (now (sources .entry)) (now (heads .exit)) (now (nexts .exit)) (mostPins * gates) ⌝ }
 {
     let mut p = 0;
     while p < PINS * gates {
@@ -75,7 +76,7 @@ pub fn link(
     nexts: &mut [usize],
 )
     requires { ⌜ LinkAsked nodes gates (now pins) (now sources) (now heads) (now nexts) ⌝ }
-    ensures { λ _. ⌜ Linked nodes gates (now (pins .entry)) (now (sources .entry)) (now (heads .exit)) (now (nexts .exit)) (6 * gates) ⌝ }
+    ensures { λ _. ⌜ Linked nodes gates (now (pins .entry)) (now (sources .entry)) (now (heads .exit)) (now (nexts .exit)) (mostPins * gates) ⌝ }
 {
     empty_heads(nodes, heads);
     link_places(nodes, gates, pins, sources, heads, nexts);

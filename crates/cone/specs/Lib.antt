@@ -2,4 +2,6 @@ pub mod Steps
 pub mod StepLaws
 pub mod Walking
 pub mod Growing
+pub mod GrowingLaws
 pub mod Told
+pub mod ToldLaws

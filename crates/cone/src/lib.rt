@@ -10,7 +10,7 @@ ghost use Rattle.limits.specs.Limits.{mostPins};
 ghost use Rattle.netlist.specs.Copies.{copy};
 ghost use Rattle.netlist.specs.Arrays.{copyAt};
 ghost use Rattle.sequences.specs.Tests.{Tells};
-ghost use Rattle.copies.specs.Lists.{copiesIn, Wires, members, most, Room, Bounded, Place};
+ghost use Rattle.copies.specs.Lists.{copiesIn, SmallWires, members, most, Room, Bounded, Place};
 ghost use Rattle.cone.specs.Steps.{Leaves, Visit, Fed, Touched};
 ghost use Rattle.cone.specs.Growing.{Expanded, Grown};
 ghost use Rattle.cone.specs.Told.{Walk};
@@ -82,7 +82,7 @@ fn expand(
     g: usize,
     back: usize,
 ) -> usize
-    requires { ⌜ Wires inputs gates (now pins) (now sources) (now counts) × Leaves gates (now «leaf_nodes») (now «leaf_backs») n limit × Room (now nodes) (now backs) len × Bounded inputs gates (copiesIn (now nodes) (now backs) len) × (g < gates) × (back + most ≤ most * len) ⌝ }
+    requires { ⌜ SmallWires inputs gates (now pins) (now sources) (now counts) × Leaves gates (now «leaf_nodes») (now «leaf_backs») n limit × Room (now nodes) (now backs) len × Bounded inputs gates (copiesIn (now nodes) (now backs) len) × (g < gates) × (back + most ≤ most * len) ⌝ }
     ensures { λ r. ⌜ Expanded inputs gates (now (pins .entry)) (now (sources .entry)) (now (counts .entry)) (copiesIn (now («leaf_nodes» .entry)) (now («leaf_backs» .entry)) n) (copiesIn (now (nodes .entry)) (now (backs .entry)) len) g back r (copiesIn (now (nodes .exit)) (now (backs .exit)) r) ⌝ }
 {
     let m = pins[g];
@@ -125,7 +125,7 @@ fn grow(
     nodes: &mut [usize],
     backs: &mut [usize],
 ) -> usize
-    requires { ⌜ Wires inputs gates (now pins) (now sources) (now counts) × Leaves gates (now «leaf_nodes») (now «leaf_backs») n limit × Room (now nodes) (now backs) 1 × Bounded inputs gates (copiesIn (now nodes) (now backs) 1) ⌝ }
+    requires { ⌜ SmallWires inputs gates (now pins) (now sources) (now counts) × Leaves gates (now «leaf_nodes») (now «leaf_backs») n limit × Room (now nodes) (now backs) 1 × Bounded inputs gates (copiesIn (now nodes) (now backs) 1) ⌝ }
     ensures { λ r. ⌜ Grown inputs gates (now (pins .entry)) (now (sources .entry)) (now (counts .entry)) (copiesIn (now («leaf_nodes» .entry)) (now («leaf_backs» .entry)) n) (copiesIn (now (nodes .entry)) (now (backs .entry)) 1) r (copiesIn (now (nodes .exit)) (now (backs .exit)) r) ⌝ }
 {
     let mut len = 1;
@@ -212,7 +212,7 @@ fn is_touched(
     node: usize,
     back: usize,
 ) -> bool
-    requires { ⌜ Wires inputs gates (now pins) (now sources) (now counts) × Room (now nodes) (now backs) len × Bounded inputs gates (copiesIn (now nodes) (now backs) len) ⌝ }
+    requires { ⌜ SmallWires inputs gates (now pins) (now sources) (now counts) × Room (now nodes) (now backs) len × Bounded inputs gates (copiesIn (now nodes) (now backs) len) ⌝ }
     ensures { λ r. ⌜ Tells r (Touched inputs (now (pins .entry)) (now (sources .entry)) (now (counts .entry)) (now (nodes .entry)) (now (backs .entry)) len (copy node back)) ⌝ }
 {
     let mut p = 0;
@@ -240,7 +240,7 @@ fn all_touched(
     backs: &[usize],
     len: usize,
 ) -> bool
-    requires { ⌜ Wires inputs gates (now pins) (now sources) (now counts) × (n ≤ length (now «leaf_nodes»)) × (n ≤ length (now «leaf_backs»)) × Room (now nodes) (now backs) len × Bounded inputs gates (copiesIn (now nodes) (now backs) len) ⌝ }
+    requires { ⌜ SmallWires inputs gates (now pins) (now sources) (now counts) × (n ≤ length (now «leaf_nodes»)) × (n ≤ length (now «leaf_backs»)) × Room (now nodes) (now backs) len × Bounded inputs gates (copiesIn (now nodes) (now backs) len) ⌝ }
     ensures { λ r. ⌜ Tells r ((i : ℕ) → i < n → Touched inputs (now (pins .entry)) (now (sources .entry)) (now (counts .entry)) (now (nodes .entry)) (now (backs .entry)) len (copyAt (now («leaf_nodes» .entry)) (now («leaf_backs» .entry)) i)) ⌝ }
 {
     let mut leaf = 0;
@@ -276,7 +276,7 @@ pub fn walk(
     n: usize,
     g: usize,
 ) -> Cone
-    requires { ⌜ Wires inputs gates (now pins) (now sources) (now counts) × (n ≤ mostPins) × (n ≤ length (now «leaf_nodes»)) × (n ≤ length (now «leaf_backs»)) × (g < gates) ⌝ }
+    requires { ⌜ SmallWires inputs gates (now pins) (now sources) (now counts) × (n ≤ mostPins) × (n ≤ length (now «leaf_nodes»)) × (n ≤ length (now «leaf_backs»)) × (g < gates) ⌝ }
     ensures { λ r. ⌜ Walk inputs gates (now (pins .entry)) (now (sources .entry)) (now (counts .entry)) (now («leaf_nodes» .entry)) (now («leaf_backs» .entry)) n g r ⌝ }
 {
     let mut nodes = [0usize; COPIES];

@@ -129,7 +129,7 @@ module _ {N : Net} (R : Ranked N) {k v : ℕ} {A B : Copy → Type 0} (K : Cut N
 
   limit-product : length (N .gates) ≤ mostGates → ((u : ℕ) → IsGate N u → (p : Pin) → p ∈ pins N u → p .count ≤ mostCount) → k ≤ mostK → k * reachOf N ≤ mostReach
   limit-product g c h =
-      let m : reachOf N ≤ 96 = omega (arith, reachOf-le N 3 c) in
+      let m : reachOf N ≤ mostGates * mostCount = omega (arith, reachOf-le N mostCount c) in
       mul-le-mul h m
 
   pub limit-reach : length (N .gates) ≤ mostGates → ((u : ℕ) → IsGate N u → (p : Pin) → p ∈ pins N u → p .count ≤ mostCount) → k ≤ mostK → (x : Copy) → x ∈ K .cone → x .back ≤ mostReach

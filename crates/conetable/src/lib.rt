@@ -9,7 +9,7 @@ ghost use lib.ListN.{length, getD};
 ghost use Rattle.limits.specs.Limits.{mostPins};
 ghost use Rattle.netlist.specs.Copies.{copy};
 ghost use Rattle.copies.specs.Lists.{copiesIn, members, most, Place, sourceAt};
-ghost use Rattle.conetable.specs.Words.{Given, Carries, WordAt, Settled, TableOver};
+ghost use Rattle.conetable.specs.Words.{Given, Carries, WordAt, WordsSettled, TableOver};
 
 // The word of a copy: a leaf's own, or a listed copy's from `words`.
 fn source_word(
@@ -49,7 +49,7 @@ fn gather(
     m: usize,
     base: usize,
 ) -> [u64; PINS]
-    requires { ⌜ ((n ≤ mostPins) × (n ≤ length (now «leaf_nodes»)) × (n ≤ length (now «leaf_backs»)) × (len ≤ length (now nodes)) × (len ≤ length (now backs)) × (len ≤ length (now words))) × ((j : ℕ) → j < m → Place (now sources) (now counts) g j) × (g ≤ members) × (m ≤ 6) × (base ≤ most * members) ⌝ }
+    requires { ⌜ ((n ≤ mostPins) × (n ≤ length (now «leaf_nodes»)) × (n ≤ length (now «leaf_backs»)) × (len ≤ length (now nodes)) × (len ≤ length (now backs)) × (len ≤ length (now words))) × ((j : ℕ) → j < m → Place (now sources) (now counts) g j) × (g ≤ members) × (m ≤ mostPins) × (base ≤ most * members) ⌝ }
     ensures { λ r. ⌜ (m ≤ length r) × ((j : ℕ) → j < m → Carries (copiesIn (now («leaf_nodes» .entry)) (now («leaf_backs» .entry)) n) (copiesIn (now (nodes .entry)) (now (backs .entry)) len) (now (words .entry)) (sourceAt (now (sources .entry)) (now (counts .entry)) g base j) (getD r j 0)) ⌝ }
 {
     let mut fed = [0u64; PINS];
@@ -127,7 +127,7 @@ fn settle(
     len: usize,
 ) -> [u64; COPIES]
     requires { ⌜ Given inputs gates (now pins) (now sources) (now counts) (now tables) (now «leaf_nodes») (now «leaf_backs») n (now nodes) (now backs) len ⌝ }
-    ensures { λ r. ⌜ (length r ≡ members) × Settled inputs gates (now (pins .entry)) (now (sources .entry)) (now (counts .entry)) (now (tables .entry)) (copiesIn (now («leaf_nodes» .entry)) (now («leaf_backs» .entry)) n) (now (nodes .entry)) (now (backs .entry)) len r (2 ^ n) len ⌝ }
+    ensures { λ r. ⌜ (length r ≡ members) × WordsSettled inputs gates (now (pins .entry)) (now (sources .entry)) (now (counts .entry)) (now (tables .entry)) (copiesIn (now («leaf_nodes» .entry)) (now («leaf_backs» .entry)) n) (now (nodes .entry)) (now (backs .entry)) len r (2 ^ n) len ⌝ }
 {
     let mut words = [0u64; COPIES];
     let mut p = 0;

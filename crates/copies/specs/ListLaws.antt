@@ -10,21 +10,16 @@ use borrow.Author.Tests.{eqb-true, eqb-false}
 use lib.Dec.{eqb}
 use lib.ListN.{length, getD, set, length-append, List·getD-append}
 use lib.Seq.{getD-set-same, getD-set-other, ext-getD, getD-append-seam}
+use Rattle.sequences.specs.TestLaws.{tells-no, tells-yes}
 use Rattle.sequences.specs.Member.{_∈_, in-getD, getD-in, in-equal}
 use Rattle.netlist.specs.Copies.{Copy, copy}
 use Rattle.netlist.specs.CopyLaws.{copy-path}
 use Rattle.netlist.specs.ArrayLaws.{length-copiesFrom, getD-copiesFrom}
 use Rattle.netlist.specs.Arrays.{copyAt}
 use Rattle.sequences.specs.Tests.{Tells, First}
-use Rattle.copies.specs.Lists.{copiesIn, Wires, Place, Bounded, most}
+use Rattle.copies.specs.Lists.{copiesIn, SmallWires, Place, Bounded, most}
 
--- ---- tests
-
-pub tells-no : {P : Type 0} → ¬ P → Tells false P
-tells-no n = record { holds = λ e. absurd (false≢true e); fails = λ e. n }
-
-pub tells-yes : {P : Type 0} → P → Tells true P
-tells-yes p = record { holds = λ e. p; fails = λ e. absurd (true≢false e) }
+-- ---- equal copies
 
 -- two copies of one node are the same if they are as far back
 pub tells-back : (x y : Copy) → x .node ≡ y .node → Tells (eqb (x .back) (y .back)) (x ≡ y)
@@ -36,30 +31,6 @@ tells-back x y e = go (eqb (x .back) (y .back)) refl
 
 pub tells-node : (x y : Copy) → ¬ (x .node ≡ y .node) → Tells false (x ≡ y)
 tells-node x y n = tells-no (λ p. n (ap (λ (c : Copy). c .node) p))
-
--- whether some number below n has P, and whether all have
-pub tells-some : (P : ℕ → Type 0) (n j : ℕ) → j < n → P j → Tells true ((i : ℕ) × (i < n) × P i)
-tells-some P n j h p = tells-yes (j, h, p)
-
-pub tells-none : (P : ℕ → Type 0) (n j : ℕ) → n ≤ j → ((i : ℕ) → i < j → ¬ P i) → Tells false ((i : ℕ) × (i < n) × P i)
-tells-none P n j h f = tells-no (λ q. f (q .0) (omega (arith, q .1)) (q .2))
-
-pub tells-all : (P : ℕ → Type 0) (n j : ℕ) → n ≤ j → ((i : ℕ) → i < j → P i) → Tells true ((i : ℕ) → i < n → P i)
-tells-all P n j h f = tells-yes (λ i k. f i (omega arith))
-
-pub tells-not : (P : ℕ → Type 0) (n j : ℕ) → j < n → ¬ P j → Tells false ((i : ℕ) → i < n → P i)
-tells-not P n j h p = tells-no (λ f. p (f j h))
-
--- ---- first
-
-pub first-here : (P : ℕ → Type 0) (n r : ℕ) → r < n → P r → ((j : ℕ) → j < r → ¬ P j) → First P n r
-first-here P n r h p b = record { bound = omega arith; found = λ k. p; before = b }
-
-pub first-none : (P : ℕ → Type 0) (n : ℕ) → ((j : ℕ) → j < n → ¬ P j) → First P n n
-first-none P n b = record { bound = omega arith; found = λ k. absurd (self k); before = b }
-  where
-    self : n < n → ⊥
-    self k = omega arith
 
 -- ---- copies in arrays
 
@@ -124,11 +95,11 @@ copiesIn-set nodes backs n u d h k =
 
 -- ---- places
 
-pub place : {I G : ℕ} {ps sources counts : List ℕ} (g j : ℕ) → Wires I G ps sources counts → g < G → j < getD ps g 0 → Place sources counts g j
+pub place : {I G : ℕ} {ps sources counts : List ℕ} (g j : ℕ) → SmallWires I G ps sources counts → g < G → j < getD ps g 0 → Place sources counts g j
 place g j w h k =
-    let a = w .pins g h in
-    let b = w .room in
-    let c = w .room′ in
+    let a = w .wires .pins g h in
+    let b = w .wires .room in
+    let c = w .wires .room′ in
     let d = w .gates in
     record { room = omega arith; room′ = omega arith; small = omega arith; count = w .count g j h k }
 

@@ -3,11 +3,12 @@ use mathlib.Core.Path.{_≡_}
 use mathlib.Core.List.{List}
 use Prim.Native.Nat.{ℕ, _+_, _-_, _*_, _≤_, _<_}
 use lib.ListN.{length, getD}
-use Rattle.limits.specs.Limits.{mostGates, mostCount, mostCopies}
+use Rattle.limits.specs.Limits.{mostInputs, mostGates, mostCount, mostCopies}
 use Rattle.sequences.specs.Member.{_∈_, Within}
 use Rattle.netlist.specs.Net.{Net}
 use Rattle.netlist.specs.Arrays.{stride, copyAt, copiesFrom}
 use Rattle.netlist.specs.Copies.{Copy, copy, Feeds}
+use Rattle.netlist.specs.Wired.{Wires}
 
 -- the first n copies
 unfoldable pub copiesIn : List ℕ → List ℕ → ℕ → List Copy
@@ -18,15 +19,11 @@ copiesIn nodes backs n = copiesFrom nodes backs 0 n
 abbrev pub most : ℕ
 most = mostCount
 
--- The wiring of G gates: at most `stride` pins a gate; each source is a node; few registers on a pin.
-pub record Wires (I G : ℕ) (ps sources counts : List ℕ) : Type 0 where
-  pub sizes : G ≤ length ps
-  pub room : stride * G ≤ length sources
-  pub room′ : stride * G ≤ length counts
-  pub inputs : I ≤ 65535
+-- a wiring within the limits: few inputs, few gates, few registers on a pin
+pub record SmallWires (I G : ℕ) (ps sources counts : List ℕ) : Type 0 where
+  pub wires : Wires I G ps sources counts
+  pub inputs : I ≤ mostInputs
   pub gates : G ≤ mostGates
-  pub pins : (g : ℕ) → g < G → getD ps g 0 ≤ stride
-  pub node : (g j : ℕ) → g < G → j < getD ps g 0 → getD sources (stride * g + j) 0 < I + G
   pub count : (g j : ℕ) → g < G → j < getD ps g 0 → getD counts (stride * g + j) 0 ≤ most
 
 -- the copy that feeds the copy of gate g, b registers back, at pin j

@@ -7,7 +7,7 @@ ghost use lib.ListN.{length};
 ghost use Rattle.netlist.specs.Copies.{copy};
 ghost use Rattle.netlist.specs.Arrays.{copyAt};
 ghost use Rattle.sequences.specs.Tests.{Tells, First};
-ghost use Rattle.copies.specs.Lists.{copiesIn, Wires, members, most, Room, Bounded, Place, Mixed, Swapped, Early, Ready, ReadyCopy};
+ghost use Rattle.copies.specs.Lists.{copiesIn, SmallWires, members, most, Room, Bounded, Place, Mixed, Swapped, Early, Ready, ReadyCopy};
 ghost use Rattle.copies.specs.Ordering.{Arranged};
 
 // Whether the copy at place j is this one.
@@ -122,7 +122,7 @@ fn next_ready(
     len: usize,
     m: usize,
 ) -> usize
-    requires { ⌜ Wires inputs gates (now pins) (now sources) (now counts) × Room (now nodes) (now backs) len × Bounded inputs gates (copiesIn (now nodes) (now backs) len) × (m ≤ len) ⌝ }
+    requires { ⌜ SmallWires inputs gates (now pins) (now sources) (now counts) × Room (now nodes) (now backs) len × Bounded inputs gates (copiesIn (now nodes) (now backs) len) × (m ≤ len) ⌝ }
     ensures { λ r. ⌜ First (λ q. (m ≤ q) × ReadyCopy inputs (now (pins .entry)) (now (sources .entry)) (now (counts .entry)) (now (nodes .entry)) (now (backs .entry)) len m (copyAt (now (nodes .entry)) (now (backs .entry)) q)) len r ⌝ }
 {
     let mut q = m;
@@ -147,7 +147,7 @@ fn select(
     backs: &mut [usize],
     len: usize,
 )
-    requires { ⌜ Wires inputs gates (now pins) (now sources) (now counts) × Room (now nodes) (now backs) len × Bounded inputs gates (copiesIn (now nodes) (now backs) len) ⌝ }
+    requires { ⌜ SmallWires inputs gates (now pins) (now sources) (now counts) × Room (now nodes) (now backs) len × Bounded inputs gates (copiesIn (now nodes) (now backs) len) ⌝ }
     ensures { λ _. ⌜ Arranged inputs gates (now (pins .entry)) (now (sources .entry)) (now (counts .entry)) (copiesIn (now (nodes .entry)) (now (backs .entry)) len) (copiesIn (now (nodes .exit)) (now (backs .exit)) len) ⌝ }
 {
     let mut m = 0;
@@ -172,7 +172,7 @@ pub fn arrange(
     backs: &mut [usize],
     len: usize,
 )
-    requires { ⌜ Wires inputs gates (now pins) (now sources) (now counts) × Room (now nodes) (now backs) len × Bounded inputs gates (copiesIn (now nodes) (now backs) len) ⌝ }
+    requires { ⌜ SmallWires inputs gates (now pins) (now sources) (now counts) × Room (now nodes) (now backs) len × Bounded inputs gates (copiesIn (now nodes) (now backs) len) ⌝ }
     ensures { λ _. ⌜ Arranged inputs gates (now (pins .entry)) (now (sources .entry)) (now (counts .entry)) (copiesIn (now (nodes .entry)) (now (backs .entry)) len) (copiesIn (now (nodes .exit)) (now (backs .exit)) len) ⌝ }
 {
     reverse(nodes, backs, len);

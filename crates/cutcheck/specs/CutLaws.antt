@@ -22,40 +22,25 @@ use Rattle.covers.specs.Key.{Entry}
 use Rattle.records.specs.Held.{Held, held, lutAt, lutsIn}
 use Rattle.records.specs.HeldLaws.{lutsIn-in, in-lutsIn}
 use Rattle.records.specs.Marking.{CutsRight, TableRight, TablesRight}
-use Rattle.copies.specs.Lists.{copiesIn}
-use Rattle.copies.specs.ListLaws.{length-copiesIn}
-use Rattle.cone.specs.Told.{Walk, cone-cut}
-use Rattle.conetable.specs.Words.{Tabled, TableOver}
-use Rattle.cone.specs.declared.Told.the-variants.{Cut, NoCut}
-use Rattle.cone.specs.declared.Cone.{Cone}
-use Rattle.luts.specs.LutLaws.{lut-cut, behind, copies-part}
-use Rattle.cutcheck.specs.Cuts.{LutTried, TriedAt, Cutting, Good, AllGood, CutsTried, Same, Compared, CutAs, noCut, wrong, right, CutsTold}
-use Rattle.cutcheck.specs.declared.Tried.{Tried}
+use Rattle.conetable.specs.Words.{Tabled}
+use Rattle.luts.specs.Luts.{Row}
+use Rattle.luts.specs.declared.Tried.{Tried}
+use Rattle.cutcheck.specs.Cuts.{Cutting, TriedAt, Good, AllGood, CutsTried, Same, Compared, CutAs, noCut, wrong, right, CutsTold}
 
 -- ---- one LUT
 
-module _ {I G : ℕ} {ps so co ts ln lb : List ℕ} {n g : ℕ} {c : Cone} (w : Walk I G ps so co ln lb n g c) where
-  pub tried-none : {t : ℕ} → c .verdict ≡ NoCut → LutTried I G ps so co ts (copiesIn ln lb n) g (record { none = true; table = t })
-  tried-none e = record { cut = λ q. absurd (true≢false q); table = λ q. absurd (true≢false q); none = λ q N d R k. w .none e N d R k }
-
-  pub tried-cut : {t : ℕ} → c .verdict ≡ Cut → TableOver I G ps so co ts (copiesIn ln lb n) (copiesIn (c .nodes) (c .backs) (c .len)) (I + g) t
-      → LutTried I G ps so co ts (copiesIn ln lb n) g (record { none = false; table = t })
-  tried-cut e t = record {
-    cut = λ q N d rising k h. cone-cut w e N k d rising (let l = length-copiesIn ln lb n in omega arith);
-    table = λ q. lut-cut w e t;
-    none = λ q. absurd (false≢true q);
-  }
-
--- the leaves in a part of the arrays
-module _ {I G : ℕ} {ps so co ts : List ℕ} (roots sizes nodes backs : List ℕ) where
-  pub tried-at : (i : ℕ) {r : Tried}
-      → LutTried I G ps so co ts (copiesIn (take (length nodes - stride * i) (drop (stride * i) nodes)) (take (length backs - stride * i) (drop (stride * i) backs)) (getD sizes i 0)) (getD roots i 0 - I) r
-      → TriedAt I G ps so co ts roots sizes nodes backs i r
-  tried-at i {r} t = subst (λ (L : List Copy). LutTried I G ps so co ts L (getD roots i 0 - I) r)
-      (ap₂ (λ (a b : List ℕ). copiesIn a b (getD sizes i 0)) (behind nodes (stride * i)) (behind backs (stride * i)) ∙ copies-part nodes backs (stride * i) (getD sizes i 0)) t
-
 module _ {I G : ℕ} {ps so co ts roots sizes nodes backs : List ℕ} where
   module _ {k n : ℕ} (a : Cutting I G ps so co ts roots sizes nodes backs k n) where
+    -- LUT i has its row
+    pub lut-row : (i : ℕ) → i < n → Row sizes nodes backs i
+    lut-row i h =
+        let f = a .few in
+        let m = a .most i h in
+        let s = a .atSizes in
+        let u = a .atNodes in
+        let b = a .atBacks in
+        record { atSizes = omega arith; few = omega arith; atNodes = omega arith; atBacks = omega arith }
+
     root-is : (i : ℕ) → i < n → I + (getD roots i 0 - I) ≡ getD roots i 0
     root-is i h = let l = a .low i h in omega arith
 

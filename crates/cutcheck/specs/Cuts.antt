@@ -14,14 +14,14 @@ use Rattle.cones.specs.Ranks.{Ranked}
 use Rattle.covers.specs.Key.{Entry}
 use Rattle.records.specs.Held.{held, lutsIn}
 use Rattle.records.specs.Marking.{CutsRight, TablesRight}
-use Rattle.copies.specs.Lists.{Wires}
+use Rattle.copies.specs.Lists.{SmallWires}
 use Rattle.conetable.specs.Words.{Tabled}
-use Rattle.luts.specs.Luts.{LutTable}
-use Rattle.cutcheck.specs.declared.Tried.{Tried}
+use Rattle.luts.specs.Luts.{LutTable, LutTried}
+use Rattle.luts.specs.declared.Tried.{Tried}
 
 -- the arrays of a net's gates and of n LUTs: roots are gates, leaves at most k and rising
 pub record Cutting (I G : ℕ) (ps so co ts roots sizes nodes backs : List ℕ) (k n : ℕ) : Type 0 where
-  pub wires : Wires I G ps so co
+  pub wires : SmallWires I G ps so co
   pub atTables : G ≤ length ts
   pub few : k ≤ stride
   pub atRoots : n ≤ length roots
@@ -33,13 +33,7 @@ pub record Cutting (I G : ℕ) (ps so co ts roots sizes nodes backs : List ℕ) 
   pub most : (i : ℕ) → i < n → getD sizes i 0 ≤ k
   pub rising : (i : ℕ) → i < n → Rising (copiesFrom nodes backs (stride * i) (getD sizes i 0))
 
--- whether the leaves L are a cut of gate g, and then the LUT's table, for every net with this wiring and these tables
-pub record LutTried (I G : ℕ) (ps so co ts : List ℕ) (L : List Copy) (g : ℕ) (r : Tried) : Type 0 where
-  pub cut : r .none ≡ false → (N : Net) → Wired N I G ps so co → Rising L → (k : ℕ) → length L ≤ k → IsCut N k (I + g) L
-  pub table : r .none ≡ false → LutTable I G ps so co ts L g (r .table)
-  pub none : r .none ≡ true → (N : Net) → Wired N I G ps so co → Ranked N → (k : ℕ) → ¬ IsCut N k (I + g) L
-
--- the same of LUT i
+-- what is known of the leaves of LUT i: whether they are a cut of its root, and then the table
 abbrev pub TriedAt : ℕ → ℕ → List ℕ → List ℕ → List ℕ → List ℕ → List ℕ → List ℕ → List ℕ → List ℕ → ℕ → Tried → Type 0
 TriedAt I G ps so co ts roots sizes nodes backs i r = LutTried I G ps so co ts (copiesFrom nodes backs (stride * i) (getD sizes i 0)) (getD roots i 0 - I) r
 

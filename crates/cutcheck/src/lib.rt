@@ -1,110 +1,11 @@
 // Checks 14 and 15 of a candidate's LUTs: leaves that are cuts of their roots, tables that are right.
-use cone::Told;
-use cone::walk;
-use conetable::table;
 use limits::LUTS;
-use limits::PINS;
+use luts::try_row;
 ghost use mathlib.Core.Path.{_≡_};
 ghost use Prim.Native.Nat.{ℕ, _+_, _*_, _≤_, _<_};
 ghost use lib.ListN.{length, getD};
-ghost use Rattle.limits.specs.Limits.{mostLuts, mostPins};
-ghost use Rattle.copies.specs.Lists.{Wires, copiesIn};
-ghost use Rattle.cutcheck.specs.Cuts.{Cutting, LutTried, TriedAt, CutsTried, Compared, CutsTold};
-
-// Whether leaves are no cut, and the table where they are one.
-struct Tried {
-    none: bool,
-    table: u64,
-}
-
-// The n leaves of gate g.
-fn try_lut(
-    inputs: usize,
-    gates: usize,
-    pins: &[usize],
-    sources: &[usize],
-    counts: &[usize],
-    tables: &[u64],
-    leaf_nodes: &[usize],
-    leaf_backs: &[usize],
-    n: usize,
-    g: usize,
-) -> Tried
-    requires { ⌜ Wires inputs gates (now pins) (now sources) (now counts) × (gates ≤ length (now tables)) × (n ≤ mostPins) × (n ≤ length (now «leaf_nodes»)) × (n ≤ length (now «leaf_backs»)) × (g < gates) ⌝ }
-    ensures { λ r. ⌜ LutTried inputs gates (now (pins .entry)) (now (sources .entry)) (now (counts .entry)) (now (tables .entry)) (copiesIn (now («leaf_nodes» .entry)) (now («leaf_backs» .entry)) n) g r ⌝ }
-{
-    let cone = walk(
-        inputs,
-        gates,
-        pins,
-        sources,
-        counts,
-        leaf_nodes,
-        leaf_backs,
-        n,
-        g,
-    );
-    let verdict = cone.verdict;
-    if let Told::NoCut = verdict {
-        return Tried {
-            none: true,
-            table: 0,
-        };
-    }
-    let t = table(
-        inputs,
-        gates,
-        pins,
-        sources,
-        counts,
-        tables,
-        leaf_nodes,
-        leaf_backs,
-        n,
-        g,
-        cone,
-    );
-    Tried {
-        none: false,
-        table: t,
-    }
-}
-
-// The leaves of LUT i.
-fn try_at(
-    inputs: usize,
-    gates: usize,
-    pins: &[usize],
-    sources: &[usize],
-    counts: &[usize],
-    tables: &[u64],
-    roots: &[usize],
-    sizes: &[usize],
-    nodes: &[usize],
-    backs: &[usize],
-    k: usize,
-    n: usize,
-    i: usize,
-) -> Tried
-    requires { ⌜ Cutting inputs gates (now pins) (now sources) (now counts) (now tables) (now roots) (now sizes) (now nodes) (now backs) k n × (i < n) × (n ≤ mostLuts) ⌝ }
-    ensures { λ r. ⌜ TriedAt inputs gates (now (pins .entry)) (now (sources .entry)) (now (counts .entry)) (now (tables .entry)) (now (roots .entry)) (now (sizes .entry)) (now (nodes .entry)) (now (backs .entry)) i r ⌝ }
-{
-    let at = PINS * i;
-    let size = sizes[i];
-    let g = roots[i] - inputs;
-    try_lut(
-        inputs,
-        gates,
-        pins,
-        sources,
-        counts,
-        tables,
-        &nodes[at..],
-        &backs[at..],
-        size,
-        g,
-    )
-}
+ghost use Rattle.limits.specs.Limits.{mostLuts};
+ghost use Rattle.cutcheck.specs.Cuts.{Cutting, CutsTried, Compared, CutsTold};
 
 // Whether some LUT's leaves are no cut. Where none are, right has the tables.
 fn no_cuts(
@@ -127,20 +28,19 @@ fn no_cuts(
 {
     let mut i = 0;
     while i < n {
-        let t = try_at(
+        let g = roots[i] - inputs;
+        let t = try_row(
             inputs,
             gates,
             pins,
             sources,
             counts,
             tables,
-            roots,
             sizes,
             nodes,
             backs,
-            k,
-            n,
             i,
+            g,
         );
         if t.none {
             return true;

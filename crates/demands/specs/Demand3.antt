@@ -17,7 +17,7 @@ use Rattle.covers.specs.Key.{Key, Entry, entries, asCover}
 use Rattle.covers.specs.Joined.{key?, key-met, key-meets, met-reachable}
 use Rattle.covers.specs.KeyOf.{keyOf}
 use Rattle.covers.specs.Period.{leastPeriod, leastPeriod-is, leastKey, leastPeriod-bound}
-use Rattle.limits.specs.Limits.{mostPeriod, scratchArea}
+use Rattle.limits.specs.Limits.{mostK, mostPeriod}
 use Rattle.netbytes.specs.Reading.{got, refused, Result}
 use Rattle.netbytes.specs.Walk.{netReader}
 use Rattle.netbytes.specs.Sound.{walk-facts, walk-gate, NetFacts}
@@ -66,7 +66,7 @@ wrote-key {N} {k} {φ} P l h h′ K area = record {
 }
 
 -- a net that the walk gave is within the limits
-pub limits : (net rest : List ℕ) (k : ℕ) (N : Net) → k ≤ 6 → netReader k net ≡ got N rest → WithinLimits N k
+pub limits : (net rest : List ℕ) (k : ℕ) (N : Net) → k ≤ mostK → netReader k net ≡ got N rest → WithinLimits N k
 limits net rest k N h e =
     let f = walk-facts k net N rest e .0 in
     record {

@@ -3,7 +3,8 @@ use mathlib.Core.Path.{_≡_}
 use mathlib.Core.List.{List}
 use Prim.Native.Nat.{ℕ, _≤_}
 use lib.Count.{ones}
-use lib.ListN.{getD, take, drop}
+use lib.ListN.{length, getD, take, drop}
+use Rattle.limits.specs.Limits.{mostItems}
 use Rattle.netbytes.specs.Reading.{times}
 use Rattle.netbytes.specs.Walk.{tableBytes}
 use Rattle.fields.specs.declared.Field.{Field}
@@ -15,13 +16,14 @@ use Rattle.fields.specs.Verdicts.{outcome}
 pub record ItemsRead (s : List ℕ) (at n : ℕ) (f : Field) (limit : ℕ) (r : Items) : Type 0 where
   pub result : times n (fieldByte f limit) (drop at s) ≡ outcome (r .verdict) (take n (r .values)) (drop (r .at) s)
   pub spare : (i : ℕ) → n ≤ i → getD (r .values) i 0 ≡ 0
+  pub long : length (r .values) ≡ mostItems
 
 -- the ones of a map
 pub record Count (map r : ℕ) : Type 0 where
   pub is : r ≡ ones map
-  pub most : r ≤ 8
+  pub most : r ≤ mostItems
 
 -- the table's length in bytes
 pub record TableBytes (pins r : ℕ) : Type 0 where
   pub is : r ≡ tableBytes pins
-  pub most : r ≤ 8
+  pub most : r ≤ mostItems

@@ -1,13 +1,14 @@
 -- Laws of one byte: its tests, reading it at a place of the bytes, and what a verdict tells.
 use mathlib.Core.Path.{_≡_, refl, sym, ap, ap₂, _∙_}
-use mathlib.Core.Bool.{Bool, true, false, _&&_}
+use mathlib.Core.Bool.{Bool, true, false, not, _&&_}
 use mathlib.Core.List.{List, []}
-use Prim.Native.Nat.{ℕ, _+_, _≤_, _<_}
+use Prim.Native.Nat.{ℕ, _+_, _%_, _≤_, _<_}
+use native.Mathlib.Omega.{arith}
 use native.Mathlib.Numerals.{add-one}
-use lib.Dec.{leb, ltb}
+use lib.Dec.{leb, ltb, eqb}
 use lib.ListN.{length, getD, drop, drop-of-length-le}
 use lib.Seq.{drop-cons}
-use borrow.Author.Tests.{le-leb, lt-leb, lt-ltb, le-ltb}
+use borrow.Author.Tests.{le-leb, lt-leb, lt-ltb, le-ltb, eq-eqb, ne-eqb}
 use Rattle.netbytes.specs.Reading.{Result, atEnd, between, byte, check, got, refused}
 use Rattle.netbytes.specs.Walk.{tableByte}
 use Rattle.fields.specs.declared.Verdict.{Verdict}
@@ -22,6 +23,27 @@ below-range low high b l = sym (ap (λ (x : Bool). x && leb b high) (lt-leb low 
 
 pub above-range : (low high b : ℕ) → low ≤ b → high < b → false ≡ between low high b
 above-range low high b l h = sym (ap₂ (λ (x y : Bool). x && y) (le-leb low b l) (lt-leb b high h))
+
+pub root-low : (least nodes b : ℕ) → b < least → false ≡ (leb least b && ltb b nodes)
+root-low least nodes b h = sym (ap (λ (x : Bool). x && ltb b nodes) (lt-leb least b h))
+
+pub root-in : (least nodes b : ℕ) → least ≤ b → ltb b nodes ≡ (leb least b && ltb b nodes)
+root-in least nodes b h = sym (ap (λ (x : Bool). x && ltb b nodes) (le-leb least b h))
+
+pub map-in : (limit b : ℕ) → b < 128 → ltb (b % 64) limit ≡ (ltb b 128 && ltb (b % 64) limit)
+map-in limit b h = sym (ap (λ (x : Bool). x && ltb (b % 64) limit) (lt-ltb b 128 h))
+
+pub map-over : (limit b : ℕ) → 128 ≤ b → false ≡ (ltb b 128 && ltb (b % 64) limit)
+map-over limit b h = sym (ap (λ (x : Bool). x && ltb (b % 64) limit) (le-ltb b 128 h))
+
+pub size-some : (limit b : ℕ) → 1 ≤ b → leb b limit ≡ between 1 limit b
+size-some limit b h = sym (ap (λ (x : Bool). x && leb b limit) (le-leb 1 b h))
+
+pub some-not-zero : (b : ℕ) → 1 ≤ b → true ≡ not (eqb b 0)
+some-not-zero b h = sym (ap not (ne-eqb b 0 (λ e. omega arith)))
+
+pub none-zero : (b : ℕ) → b ≡ 0 → false ≡ not (eqb b 0)
+none-zero b h = sym (ap not (eq-eqb b 0 h))
 
 -- a table byte of few pins, where n is 2 to the number of its bits
 module _ (m n b : ℕ) (e : tableByte m b ≡ ltb b n) where
@@ -76,3 +98,10 @@ module _ {A : Type 0} {r : Result A} {v : Verdict} (x : Result A) where
 
   pub onward-stopped : {n : ℕ} → r ≡ onward v x → v ≡ Refused n → r ≡ refused n
   onward-stopped e h = e ∙ ap (λ (y : Verdict). onward y x) h
+
+  pub onward-stopping : {n : ℕ} → r ≡ refused n → v ≡ Refused n → r ≡ onward v x
+  onward-stopping e h = e ∙ ap (λ (y : Verdict). onward y x) (sym h)
+
+-- no verdict is both
+pub not-both : {v : Verdict} {n : ℕ} → v ≡ Read → v ≡ Refused n → ⊥
+not-both {v} {n} p q = let z : _≡_ {A = ℕ} 0 1 = cc in omega arith

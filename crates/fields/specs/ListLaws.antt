@@ -5,6 +5,7 @@ use Prim.Native.Nat.{ℕ, zero, suc, _+_, _-_, _*_, _^_, _≤_, _<_, zero-le, su
 use native.Mathlib.Omega.{arith}
 use lib.ListN.{length, getD, take, drop, length-drop, drop-of-length-le}
 use lib.Seq.{drop-cons, getD-drop}
+use Rattle.limits.specs.Limits.{mostItems}
 use Rattle.sequences.specs.Member.{getD-in}
 use Rattle.netbytes.specs.Walk.{first, rest, fromBytes}
 use Rattle.netbytes.specs.Readers.{Each}
@@ -25,6 +26,15 @@ rest-drop (a ∷ l) (suc j) = rest-drop l j
 -- two lists with the same elements, 0 behind their ends
 abbrev pub Alike : List ℕ → List ℕ → Type 0
 Alike l m = (i : ℕ) → getD l i 0 ≡ getD m i 0
+
+pub first-alike : (l m : List ℕ) → Alike l m → first l ≡ first m
+first-alike l m h = first-drop l 0 ∙ h 0 ∙ sym (first-drop m 0)
+
+pub rest-alike : (l m : List ℕ) → Alike l m → Alike (rest l) (rest m)
+rest-alike [] [] h i = refl
+rest-alike [] (b ∷ m) h i = h (suc i)
+rest-alike (a ∷ l) [] h i = h (suc i)
+rest-alike (a ∷ l) (b ∷ m) h i = h (suc i)
 
 -- the zeros behind n elements may go
 pub take-alike : (n : ℕ) (l : List ℕ) → ((i : ℕ) → n ≤ i → getD l i 0 ≡ 0) → Alike (take n l) l
@@ -59,15 +69,15 @@ each-byte l h b m = let r = getD-in m in rw (← r .2 0) (h (r .0))
 -- the number of eight bytes, from place i on: the end, one byte more, and room for it
 pub record BytesFrom (l : List ℕ) (n i : ℕ) : Type 0 where
   pub is : n ≡ fromBytes (drop i l)
-  pub most : i ≤ 8
-  pub long : length l ≡ 8
+  pub most : i ≤ mostItems
+  pub long : length l ≡ mostItems
   pub bytes : (j : ℕ) → getD l j 0 < 256
 
 module _ (l : List ℕ) where
-  pub bytes-none : length l ≡ 8 → ((j : ℕ) → getD l j 0 < 256) → BytesFrom l 0 8
+  pub bytes-none : length l ≡ mostItems → ((j : ℕ) → getD l j 0 < 256) → BytesFrom l 0 mostItems
   unfolding fromBytes
   bytes-none e h =
-      let end : length l ≤ 8 = omega arith in
+      let end : length l ≤ mostItems = omega arith in
       record { is = sym (ap fromBytes (drop-of-length-le l end)); most = omega arith; long = e; bytes = h }
 
   module _ (n i : ℕ) (w : BytesFrom l n i) (p : 0 < i) where

@@ -100,32 +100,26 @@ pub record InVisited (G : Graph) (v v′ : View) (x r : ℕ) : Type 0 where
   pub idle : 0 < r → v .flow x ≡ 0 → Waits G v v′ x
   pub fed : 0 < r → (j : ℕ) → Fed G (v .flow) x j → Waits G v v′ (G .source x j)
 
--- The same for x marked in.
-pub record Entered (G : Graph) (v v′ : View) (x r : ℕ) : Type 0 where
+-- The same for x marked in, by some of its ways; they passed its mark on where P holds.
+pub record Tried (G : Graph) (v v′ : View) (x : ℕ) (P : Type 0) (r : ℕ) : Type 0 where
   pub grew : Grew v v′
   pub lost : r ≡ 0 → Lost G v v′
-  pub passed : r ≡ 0 → PassedIn G v′ x
+  pub passed : r ≡ 0 → P
   pub kept : 0 < r → FrameBut x v v′
   pub idle : 0 < r → v .flow x ≡ 0 → Waits G v v′ x
   pub fed : 0 < r → (j : ℕ) → Fed G (v .flow) x j → Waits G v v′ (G .source x j)
 
--- The same for the pins of x from i up to n alone.
-pub record PinsTried (G : Graph) (v v′ : View) (x i n r : ℕ) : Type 0 where
-  pub grew : Grew v v′
-  pub lost : r ≡ 0 → Lost G v v′
-  pub passed : r ≡ 0 → (j : ℕ) → i ≤ j → j < n → PinPassed G v′ x j
-  pub kept : 0 < r → FrameBut x v v′
-  pub idle : 0 < r → v .flow x ≡ 0 → Waits G v v′ x
-  pub fed : 0 < r → (j : ℕ) → Fed G (v .flow) x j → Waits G v v′ (G .source x j)
+-- by all of them
+abbrev pub Entered : Graph → View → View → ℕ → ℕ → Type 0
+Entered G v v′ x r = Tried G v v′ x (PassedIn G v′ x) r
 
--- The same out of x itself alone.
-pub record SelfTried (G : Graph) (v v′ : View) (x r : ℕ) : Type 0 where
-  pub grew : Grew v v′
-  pub lost : r ≡ 0 → Lost G v v′
-  pub passed : r ≡ 0 → 0 < v′ .flow x → 0 < v′ .out x
-  pub kept : 0 < r → FrameBut x v v′
-  pub idle : 0 < r → v .flow x ≡ 0 → Waits G v v′ x
-  pub fed : 0 < r → (j : ℕ) → Fed G (v .flow) x j → Waits G v v′ (G .source x j)
+-- by the pins from i up to n alone
+abbrev pub PinsTried : Graph → View → View → ℕ → ℕ → ℕ → ℕ → Type 0
+PinsTried G v v′ x i n r = Tried G v v′ x ((j : ℕ) → i ≤ j → j < n → PinPassed G v′ x j) r
+
+-- by x itself alone
+abbrev pub SelfTried : Graph → View → View → ℕ → ℕ → Type 0
+SelfTried G v v′ x r = Tried G v v′ x (0 < v′ .flow x → 0 < v′ .out x) r
 
 -- One entry more, which feeds the forced set.
 abbrev pub Gains : Graph → View → View → Type 0

@@ -7,7 +7,7 @@ use native.Mathlib.Decide.{ℕ-discrete}
 use Rattle.flow.specs.Graph.{Graph, Lawful}
 use Rattle.flow.specs.State.{Fed, Next, State, next-one}
 use Rattle.flow.specs.Steps.{opens, joins, turns, returns}
-use Rattle.flow.specs.Search.{View, Reached, inward, outward, Ready, Grew, PinPassed, PassedIn, PassedOut, Lost, Waits, Frame, FrameBut, OutVisited, OutLeft, InVisited, Entered, PinsTried, SelfTried, Gains, RootTried, MarkedIn, MarkedOut, FlowSet, positive-or-zero, grew-refl, grew-trans, marked-in-grew, marked-out-grew, flow-set-grew, reached-apart, reached-inner}
+use Rattle.flow.specs.Search.{View, Reached, inward, outward, Ready, Grew, PinPassed, PassedIn, PassedOut, Lost, Waits, Frame, FrameBut, OutVisited, OutLeft, InVisited, Tried, Entered, PinsTried, SelfTried, Gains, RootTried, MarkedIn, MarkedOut, FlowSet, positive-or-zero, grew-refl, grew-trans, marked-in-grew, marked-out-grew, flow-set-grew, reached-apart, reached-inner}
 
 -- two functions at one argument
 at : {f g : ℕ → ℕ} → f ≡ g → (z : ℕ) → f z ≡ g z
@@ -231,53 +231,62 @@ module _ {G : Graph} where
             ins z h p (yes q) = subst (PassedIn G v′) (sym q) (o .passed e)
             ins z h p (no n) = o .lost e .ins z h (m .inn .other z n ∙ p)
 
-  -- a pin of x brought a unit
-  pub entered-won : {v v′ : View} {x n r : ℕ} → 0 < r → PinsTried G v v′ x 0 n r → Entered G v v′ x r
-  entered-won p o = record {
-    grew = o .grew;
-    lost = o .lost;
-    passed = λ e. never e p;
-    kept = o .kept;
-    idle = o .idle;
-    fed = o .fed;
+  -- ---- the ways of x
+  -- nothing was searched
+  tried-none : {v : View} {x : ℕ} {P : Type 0} → Ready G v → P → Tried G v v x P 0
+  tried-none {v} r p = record {
+    grew = grew-refl v;
+    lost = λ e. lost-none r;
+    passed = λ e. p;
+    kept = λ h. absurd (omega (arith, h));
+    idle = λ h. absurd (omega (arith, h));
+    fed = λ h. absurd (omega (arith, h));
   }
 
-  -- no pin brought one, and x itself was tried
-  pub entered-self : {v v₁ v′ : View} {x r : ℕ} → PinsTried G v v₁ x 0 (G .pins x) 0 → SelfTried G v₁ v′ x r → Entered G v v′ x r
-  entered-self {v} {v₁} {v′} {x} o u = record {
+  -- a search out of y found nothing
+  tried-lost : {v v′ : View} {x y : ℕ} {P : Type 0} → OutVisited G v v′ y 0 → P → Tried G v v′ x P 0
+  tried-lost o p = record {
+    grew = o .grew;
+    lost = o .lost;
+    passed = λ e. p;
+    kept = λ h. absurd (omega (arith, h));
+    idle = λ h. absurd (omega (arith, h));
+    fed = λ h. absurd (omega (arith, h));
+  }
+
+  -- some ways without a unit, and further ones
+  tried-more : {v v₁ v′ : View} {x r : ℕ} {P Q R : Type 0} → (Grew v₁ v′ → P → Q → R) → Tried G v v₁ x P 0 → Tried G v₁ v′ x Q r → Tried G v v′ x R r
+  tried-more {v} {v₁} {v′} {x} f o u = record {
     grew = grew-trans (o .grew) (u .grew);
     lost = λ e. lost-trans l (u .lost e);
-    passed = λ e. record { pins = λ j h. pin-passed-grew G (u .grew) x j (o .passed refl j (omega arith) h); self = u .passed e };
+    passed = λ e. f (u .grew) (o .passed refl) (u .passed e);
     kept = λ h. frame-but-after l v′ (u .kept h);
     idle = λ h e. waits-after l v′ (u .idle h (at (l .same) x ∙ e));
-    fed = λ h j f. waits-after l v′ (u .fed h j (fed-after l f));
+    fed = λ h j g. waits-after l v′ (u .fed h j (fed-after l g));
   }
     where
       l : Lost G v v₁
       l = o .lost refl
 
+  tried-as : {v v′ : View} {x r : ℕ} {P Q : Type 0} → (r ≡ 0 → P → Q) → Tried G v v′ x P r → Tried G v v′ x Q r
+  tried-as f o = record { grew = o .grew; lost = o .lost; passed = λ e. f e (o .passed e); kept = o .kept; idle = o .idle; fed = o .fed }
+
+  -- a unit came by some way
+  pub tried-won : {v v′ : View} {x r : ℕ} {P Q : Type 0} → 0 < r → Tried G v v′ x P r → Tried G v v′ x Q r
+  tried-won h o = tried-as (λ e p. never e h) o
+
+  -- no pin brought one, and x itself was tried
+  pub entered-self : {v v₁ v′ : View} {x r : ℕ} → PinsTried G v v₁ x 0 (G .pins x) 0 → SelfTried G v₁ v′ x r → Entered G v v′ x r
+  entered-self {x} o u = tried-more (λ g p s. record { pins = λ j h. pin-passed-grew G g x j (p j (omega arith) h); self = s }) o u
+
   -- ---- x itself
   -- x carries nothing or is marked out
   pub self-skipped : {v : View} {x : ℕ} → Ready G v → (0 < v .flow x → 0 < v .out x) → SelfTried G v v x 0
-  self-skipped {v} r f = record {
-    grew = grew-refl v;
-    lost = λ e. lost-none r;
-    passed = λ e. f;
-    kept = λ p. absurd (omega (arith, p));
-    idle = λ p. absurd (omega (arith, p));
-    fed = λ p. absurd (omega (arith, p));
-  }
+  self-skipped r f = tried-none r f
 
   -- a search out of x found nothing
   pub self-lost : {v v′ : View} {x : ℕ} → OutVisited G v v′ x 0 → SelfTried G v v′ x 0
-  self-lost o = record {
-    grew = o .grew;
-    lost = o .lost;
-    passed = λ e h. o .marked;
-    kept = λ p. absurd (omega (arith, p));
-    idle = λ p. absurd (omega (arith, p));
-    fed = λ p. absurd (omega (arith, p));
-  }
+  self-lost o = tried-lost o (λ h. o .marked)
 
   -- it found a unit, and x gives its own back
   pub self-won : {v v₁ v′ : View} {x r : ℕ} → 0 < v .inn x → 0 < v .flow x → 0 < r → OutVisited G v v₁ x r → FlowSet v₁ v′ x 0 → SelfTried G v v′ x 1
@@ -293,24 +302,10 @@ module _ {G : Graph} where
   -- ---- the pins of x
   -- the source of pin i is forced or marked out
   pub pin-skipped : {v : View} {x i : ℕ} → Ready G v → PinPassed G v x i → PinsTried G v v x i (i + 1) 0
-  pin-skipped {v} {x} {i} r h = record {
-    grew = grew-refl v;
-    lost = λ e. lost-none r;
-    passed = λ e j p q. subst (PinPassed G v x) (sym (one p q)) h;
-    kept = λ p. absurd (omega (arith, p));
-    idle = λ p. absurd (omega (arith, p));
-    fed = λ p. absurd (omega (arith, p));
-  }
+  pin-skipped {v} {x} r h = tried-none r (λ j p q. subst (PinPassed G v x) (sym (one p q)) h)
 
   pub pin-lost : {v v′ : View} {x i : ℕ} → OutVisited G v v′ (G .source x i) 0 → PinsTried G v v′ x i (i + 1) 0
-  pin-lost {v} {v′} {x} {i} o = record {
-    grew = o .grew;
-    lost = o .lost;
-    passed = λ e j p q. subst (PinPassed G v′ x) (sym (one p q)) (inr (o .marked));
-    kept = λ p. absurd (omega (arith, p));
-    idle = λ p. absurd (omega (arith, p));
-    fed = λ p. absurd (omega (arith, p));
-  }
+  pin-lost {v} {v′} {x} o = tried-lost o (λ j p q. subst (PinPassed G v′ x) (sym (one p q)) (inr (o .marked)))
 
   pub pin-won : {v v₁ v′ : View} {x i r : ℕ} → Reached G (v .flow) inward x → 0 < v .inn x → i < G .pins x → 0 < r → OutVisited G v v₁ (G .source x i) r → FlowSet v₁ v′ x (suc i) → PinsTried G v v′ x i (i + 1) 1
   pin-won {v} {v₁} {v′} {x} {i} reached marked below p o m = record {
@@ -324,40 +319,20 @@ module _ {G : Graph} where
 
   -- no pin
   pub pins-none : {v : View} {x i : ℕ} → Ready G v → PinsTried G v v x i i 0
-  pins-none {v} r = record {
-    grew = grew-refl v;
-    lost = λ e. lost-none r;
-    passed = λ e j p q. absurd (omega (arith, p, q));
-    kept = λ p. absurd (omega (arith, p));
-    idle = λ p. absurd (omega (arith, p));
-    fed = λ p. absurd (omega (arith, p));
-  }
+  pins-none r = tried-none r (λ j p q. absurd (omega (arith, p, q)))
 
   -- pins without a unit, and further ones
   pub pins-more : {v v₁ v′ : View} {x i j n r : ℕ} → PinsTried G v v₁ x i j 0 → PinsTried G v₁ v′ x j n r → PinsTried G v v′ x i n r
-  pins-more {v} {v₁} {v′} {x} {i} {j} {n} {r} o u = record {
-    grew = grew-trans (o .grew) (u .grew);
-    lost = λ e. lost-trans l (u .lost e);
-    passed = λ e k p q. passed e k p q (positive-or-zero (j - k));
-    kept = λ h. frame-but-after l v′ (u .kept h);
-    idle = λ h e. waits-after l v′ (u .idle h (at (l .same) x ∙ e));
-    fed = λ h k f. waits-after l v′ (u .fed h k (fed-after l f));
-  }
+  pins-more {v₁ = v₁} {v′ = v′} {x = x} {i = i} {j = j} {n = n} o u = tried-more (λ g f s k p q. go g f s k p q (positive-or-zero (j - k))) o u
     where
-      l : Lost G v v₁
-      l = o .lost refl
-
-      passed : r ≡ 0 → (k : ℕ) → i ≤ k → k < n → (0 < j - k) ⊎ (j - k ≡ 0) → PinPassed G v′ x k
-      passed e k p q (inl h) = pin-passed-grew G (u .grew) x k (o .passed refl k p (omega (arith, h)))
-      passed e k p q (inr h) = u .passed e k (omega (arith, h)) q
-
-  -- a unit from some of the pins
-  pub pins-won : {v v′ : View} {x i j k n r : ℕ} → 0 < r → PinsTried G v v′ x i j r → PinsTried G v v′ x k n r
-  pins-won p o = record { grew = o .grew; lost = o .lost; passed = λ e. never e p; kept = o .kept; idle = o .idle; fed = o .fed }
+      go : Grew v₁ v′ → ((k : ℕ) → i ≤ k → k < j → PinPassed G v₁ x k) → ((k : ℕ) → j ≤ k → k < n → PinPassed G v′ x k) → (k : ℕ) → i ≤ k → k < n → (0 < j - k) ⊎ (j - k ≡ 0)
+          → PinPassed G v′ x k
+      go g f s k p q (inl h) = pin-passed-grew G g x k (f k p (omega (arith, h)))
+      go g f s k p q (inr h) = s k (omega (arith, h)) q
 
   -- none of some pins, which need not be told
   pub pins-fewer : {v v′ : View} {x i n j : ℕ} → PinsTried G v v′ x i n 0 → PinsTried G v v′ x j j 0
-  pins-fewer o = record { grew = o .grew; lost = o .lost; passed = λ e k p q. absurd (omega (arith, p, q)); kept = o .kept; idle = o .idle; fed = o .fed }
+  pins-fewer o = tried-as (λ e f k p q. absurd (omega (arith, p, q))) o
 
   -- ---- from the forced set
   pub root-skipped : {v : View} {x i : ℕ} → Ready G v → PinPassed G v x i → RootTried G v v x i (i + 1) 0

@@ -11,7 +11,7 @@ use Rattle.netbytes.specs.Walk.{first, rest}
 use Rattle.records.specs.Listing.{refusalText, excessText}
 use Rattle.records.specs.Outcomes.{Answer, accepted, turnedBack, MarkOutcome, markOutcome}
 use Rattle.records.specs.Program.{answerText, marking, markingProgram}
-use Rattle.lister.specs.Inputs.{place-k, place-target}
+use Rattle.netbytes.specs.Places.{place-first, place-second}
 use Rattle.inputs.specs.Parts.{Behind}
 
 pub place-high : (l : List ℕ) → getD l 2 0 ≡ first (rest (rest l))
@@ -32,8 +32,8 @@ pub graded-parts : (l net bytes : List ℕ) (k n at end : ℕ) → k ≡ getD l 
 unfolding markingProgram
 graded-parts l net bytes k n at end e f b d g h =
     let q : drop at l ≡ rest (rest (rest l)) = b .behind ∙ place-rest l in
-    let m : n ≡ first (rest l) + 256 * first (rest (rest l)) = f ∙ ap₂ (λ (x y : ℕ). x + 256 * y) (place-target l) (place-high l) in
-    ap (λ (x : ℕ). marking x (take (first (rest l) + 256 * first (rest (rest l))) (rest (rest (rest l)))) (drop (first (rest l) + 256 * first (rest (rest l))) (rest (rest (rest l))))) (sym (e ∙ place-k l))
+    let m : n ≡ first (rest l) + 256 * first (rest (rest l)) = f ∙ ap₂ (λ (x y : ℕ). x + 256 * y) (place-second l) (place-high l) in
+    ap (λ (x : ℕ). marking x (take (first (rest l) + 256 * first (rest (rest l))) (rest (rest (rest l)))) (drop (first (rest l) + 256 * first (rest (rest l))) (rest (rest (rest l))))) (sym (e ∙ place-first l))
     ∙ ap₂ (λ (x : ℕ) (y : List ℕ). marking k (take x y) (drop x y)) (sym m) (sym q)
     ∙ ap₂ (marking k) (sym (g ∙ d .before)) (sym (h ∙ d .behind))
 

@@ -1,13 +1,13 @@
 // The marking: from the bytes read (k, the net's length, the net, the record) to the text printed.
+use digits::write_excess;
+use digits::write_refusal;
 use inputs::byte_at;
 use inputs::net_length;
-use inputs::number;
 use inputs::place_behind;
+use inputs::wide;
 use limits::SCRATCH;
-use marker::Grade;
+use judge::Grade;
 use marker::mark;
-use text::write_excess;
-use text::write_refusal;
 ghost use mathlib.Core.Path.{_≡_};
 ghost use Prim.Native.Nat.{_+_, _*_, _-_, _≤_, _<_};
 ghost use lib.ListN.{length, getD, drop};
@@ -24,7 +24,7 @@ fn grade_parts(k: u32, net: &[u8], cover: &[u8], out: &mut [u8]) -> usize
     let m = mark(net, k, cover, &mut scratch);
     match m {
         Grade::Excess(n) => write_excess(n, out),
-        Grade::Refused(n) => write_refusal(number(n), out),
+        Grade::Refused(n) => write_refusal(wide(n), out),
     }
 }
 

@@ -4,7 +4,8 @@ ghost use Prim.Native.Nat.{_+_, _*_, _≤_, _<_};
 ghost use lib.ListN.{length, getD};
 ghost use Rattle.inputs.specs.Parts.{Behind};
 
-pub fn wide(x: u32) -> usize
+// A number of 32 bits as a machine word, a machine word as a byte, a byte as a machine word.
+pub fn word(x: u32) -> usize
     ensures { λ r. ⌜ r ≡ x ⌝ }
 {
     x as usize
@@ -17,7 +18,7 @@ pub fn narrow(x: usize) -> u8
     x as u8
 }
 
-pub fn number(x: u8) -> usize
+pub fn wide(x: u8) -> usize
     ensures { λ r. ⌜ r ≡ x ⌝ }
 {
     x as usize
@@ -57,5 +58,5 @@ pub fn net_length(input: &[u8]) -> usize
 {
     let low = byte_at(input, 1);
     let high = byte_at(input, 2);
-    wide(low + 256 * high)
+    word(low + 256 * high)
 }

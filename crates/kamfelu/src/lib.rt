@@ -1,7 +1,7 @@
 // The library for other programs: map and mark, each with one number for its answer.
-use mapper::Answer;
+use netmap::Answer;
 use mapper::map;
-use marker::Grade;
+use judge::Grade;
 use marker::mark;
 use signed::minus;
 use signed::whole;

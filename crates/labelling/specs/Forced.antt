@@ -103,7 +103,7 @@ module _ (N : Net) (v φ : ℕ) (lab : ℕ → ℤ) (h : ℤ) (S C : List Copy) 
       go (inr a) = a
 
   -- **A separation with few leaves is a cut.**
-  pub separation-cut : (k : ℕ) {L : List Copy} → IsLeaves N C L → length L ≤ k → LowCut N k φ lab v h
+  unfoldable pub separation-cut : (k : ℕ) {L : List Copy} → IsLeaves N C L → length L ≤ k → LowCut N k φ lab v h
   separation-cut k {L} l few = record {
     cone = C;
     leaves = L;

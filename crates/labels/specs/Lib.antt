@@ -1,3 +1,4 @@
 pub mod Sweeps
 pub mod Sweeping
 pub mod Starting
+pub mod StartingLaws

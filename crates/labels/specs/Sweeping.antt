@@ -8,7 +8,7 @@ use lib.IntN.{ℤ}
 use lib.ListN.{getD}
 use Rattle.circuit.specs.Circuit.{Circuit}
 use Rattle.visits.specs.Visits.{Quiet, Fine, left, Visited}
-use Rattle.labels.specs.Sweeps.{IfRose, QuietFrom, Sweep, Swept, Outcome, Ordered, Settling}
+use Rattle.labels.specs.Sweeps.{IfRose, QuietFrom, Sweep, SweepTold, Outcome, Ordered, Settling}
 
 -- what is left falls with each sweep that is followed by another, and the last one ends
 pub fallen : {a b : ℕ} (r : ℕ) → r ≤ 2 → (q : ℕ) → q ≡ 1 → b ≤ a → (r ≡ 1 → b < a) → b + r % 2 < a + q % 2
@@ -89,7 +89,7 @@ module _ {C : Circuit} {k φ : ℕ} {tops order : List ℕ} where
       go (no z) = sweep-still l s v (let m = v .most in omega arith) (a .1 z) (b .1 z)
 
   -- the end of the sweep is reached
-  pub swept-end : {ls ls′ : List ℤ} {n end last : ℕ} → end ≤ n → Sweep C k φ tops order ls ls′ n end last → Swept C k φ tops order ls ls′ last
+  pub swept-end : {ls ls′ : List ℤ} {n end last : ℕ} → end ≤ n → Sweep C k φ tops order ls ls′ n end last → SweepTold C k φ tops order ls ls′ last
   swept-end {ls} {ls′} {n} {end} {last} l s = record {
     most = let a = s .ends in let b = s .place in let d = s .behind in omega arith;
     fine = s .fine;
@@ -106,7 +106,7 @@ module _ {C : Circuit} {k φ : ℕ} {tops order : List ℕ} where
       quiet i m w (no q) = s .rest i (omega arith) w
 
   -- a label would pass its ceiling
-  pub swept-past : {ls ls′ ls″ : List ℤ} {n end last e g : ℕ} → Sweep C k φ tops order ls ls′ n end last → Visited C k φ tops ls′ ls″ g e → e ≡ 2 → Swept C k φ tops order ls ls″ (C .gates + 1)
+  pub swept-past : {ls ls′ ls″ : List ℤ} {n end last e g : ℕ} → Sweep C k φ tops order ls ls′ n end last → Visited C k φ tops ls′ ls″ g e → e ≡ 2 → SweepTold C k φ tops order ls ls″ (C .gates + 1)
   swept-past s v z = record {
     most = omega arith;
     fine = v .fine;
@@ -119,19 +119,19 @@ module _ {C : Circuit} {k φ : ℕ} {tops order : List ℕ} where
   }
 
   -- where the next sweep may end
-  pub next-stop : {ls ls′ : List ℤ} {r o : ℕ} → Swept C k φ tops order ls ls′ r → Outcome (C .gates) r o → o ≡ 1 → (r ≤ C .gates) × QuietFrom C k φ tops order ls′ r
+  pub next-stop : {ls ls′ : List ℤ} {r o : ℕ} → SweepTold C k φ tops order ls ls′ r → Outcome (C .gates) r o → o ≡ 1 → (r ≤ C .gates) × QuietFrom C k φ tops order ls′ r
   next-stop s t e = (t .rose e .1, s .quiet (t .rose e .1))
 
-  pub swept-falls : {ls ls′ : List ℤ} {r o : ℕ} → Swept C k φ tops order ls ls′ r → Outcome (C .gates) r o → o ≡ 1 → left C φ tops ls′ (C .gates) < left C φ tops ls (C .gates)
+  pub swept-falls : {ls ls′ : List ℤ} {r o : ℕ} → SweepTold C k φ tops order ls ls′ r → Outcome (C .gates) r o → o ≡ 1 → left C φ tops ls′ (C .gates) < left C φ tops ls (C .gates)
   swept-falls s t e = s .falls (t .rose e .0) (t .rose e .1)
 
   -- all gates quiet after a sweep in which no label rose
-  swept-quiet : {ls ls′ : List ℤ} {r : ℕ} → Ordered C order → Swept C k φ tops order ls ls′ r → r ≡ 0 → (g : ℕ) → g < C .gates → Quiet C k φ tops ls′ g
+  swept-quiet : {ls ls′ : List ℤ} {r : ℕ} → Ordered C order → SweepTold C k φ tops order ls ls′ r → r ≡ 0 → (g : ℕ) → g < C .gates → Quiet C k φ tops ls′ g
   swept-quiet {ls} {ls′} {r} o s e g h =
       let t = o .all g h in
       subst (Quiet C k φ tops ls′) (t .2) (s .quiet (omega (arith, e)) (t .0) (omega (arith, e)) (t .1))
 
-  pub settling-next : {ls ls′ ls″ : List ℤ} {q r t : ℕ} → Ordered C order → Settling C k φ tops ls ls′ q → Swept C k φ tops order ls′ ls″ r → Outcome (C .gates) r t → Settling C k φ tops ls ls″ t
+  pub settling-next : {ls ls′ ls″ : List ℤ} {q r t : ℕ} → Ordered C order → Settling C k φ tops ls ls′ q → SweepTold C k φ tops order ls′ ls″ r → Outcome (C .gates) r t → Settling C k φ tops ls ls″ t
   settling-next o a s t = record {
     fine = s .fine;
     bounds = λ b. s .bounds (a .bounds b);

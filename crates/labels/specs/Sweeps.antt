@@ -1,4 +1,4 @@
--- What the functions of the sweep ask and tell.
+-- Definitions: what the functions of the sweep ask and tell.
 use mathlib.Core.Path.{_≡_}
 use mathlib.Core.List.{List}
 use mathlib.Core.Bool.{Bool, true, false}
@@ -8,11 +8,11 @@ use lib.ListN.{length, getD}
 use Rattle.netlist.specs.Net.{Net}
 use Rattle.netlist.specs.Arrays.{pinsIn}
 use Rattle.labelling.specs.Labels.{Least, OutputsMet, Reachable}
-use Rattle.signed.specs.Range.{room}
+use Rattle.signed.specs.Range.{room, labelIn}
 use Rattle.circuit.specs.Circuit.{Circuit}
 use Rattle.limits.specs.Limits.{mostCopies}
-use Rattle.query.specs.Question.{labelIn}
-use Rattle.visits.specs.Visits.{Suits, Quiet, Bounds, Refuted, PinFits, Fine, left}
+use Rattle.visits.specs.Visits.{Suits, Quiet, Bounds, Refuted, Fine, left}
+use Rattle.pinheights.specs.PinHeights.{PinFits}
 
 -- a where a visit raised a label, else b
 abbrev pub IfRose : ℕ → ℕ → ℕ → ℕ → Type 0
@@ -36,7 +36,7 @@ pub record Sweep (C : Circuit) (k φ : ℕ) (tops order : List ℕ) (ls ls′ : 
   pub falls : 1 ≤ last → left C φ tops ls′ (C .gates) < left C φ tops ls (C .gates)
 
 -- One sweep. 0: nothing can change. From 1 to the number of gates: the place behind the last rise. One more: a label would pass its ceiling.
-pub record Swept (C : Circuit) (k φ : ℕ) (tops order : List ℕ) (ls ls′ : List ℤ) (r : ℕ) : Type 0 where
+pub record SweepTold (C : Circuit) (k φ : ℕ) (tops order : List ℕ) (ls ls′ : List ℤ) (r : ℕ) : Type 0 where
   pub most : r ≤ C .gates + 1
   pub fine : Fine C ls′
   pub bounds : Bounds C k φ tops ls → Bounds C k φ tops ls′
@@ -101,6 +101,6 @@ pub record Settling (C : Circuit) (k φ : ℕ) (tops : List ℕ) (ls ls′ : Lis
   pub most : r ≤ 2
 
 -- The sweeps' end. 0: all gates are quiet under labels no higher than any labelling's. 2: no labelling meets the outputs.
-pub record Settled (C : Circuit) (k φ : ℕ) (tops : List ℕ) (ls ls′ : List ℤ) (r : ℕ) : Type 0 where
+pub record SettleTold (C : Circuit) (k φ : ℕ) (tops : List ℕ) (ls ls′ : List ℤ) (r : ℕ) : Type 0 where
   pub settling : Settling C k φ tops ls ls′ r
   pub ends : ¬ (r ≡ 1)

@@ -1,8 +1,8 @@
 // The label sweep: labels raised from below, gate by gate, until nothing can change or a label would pass its ceiling.
 use circuit::Sizes;
+use pinheights::pin_height;
 use signed::minus;
 use signed::whole;
-use visits::pin_height;
 use visits::visit;
 ghost use mathlib.Core.Path.{_≡_};
 ghost use mathlib.Core.Bool.{true, false};
@@ -13,8 +13,9 @@ ghost use lib.Signed.{_≤ℤ_, _<ℤ_};
 ghost use Rattle.signed.specs.Range.{Small, room};
 ghost use Rattle.circuit.specs.Circuit.{circuit};
 ghost use Rattle.query.specs.Question.{AtRest};
-ghost use Rattle.visits.specs.Visits.{wiring, heightAt, PinFits, Ready, Ceilings};
-ghost use Rattle.labels.specs.Sweeps.{Ordered, IfRose, QuietFrom, Swept, Outcome, Settled, Filled, OutFits, Sized, Labelled};
+ghost use Rattle.visits.specs.Visits.{wiring, Ready, Ceilings};
+ghost use Rattle.pinheights.specs.PinHeights.{heightAt, PinFits};
+ghost use Rattle.labels.specs.Sweeps.{Ordered, IfRose, QuietFrom, SweepTold, Outcome, SettleTold, Filled, OutFits, Sized, Labelled};
 ghost use Rattle.labels.specs.Starting.{Started, OutsMet};
 
 // One sweep over the gates in an order, up to place stop, or over all of them once a label rose: from stop on nothing can change unless one rises.
@@ -42,7 +43,7 @@ fn sweep(
     requires { ⌜ Ready (s .inputs) (s .gates) (s .width) (now labels) phi k × Ordered (wiring (s .inputs) (s .gates) (s .border) (now pins) (now sources) (now counts)) (now order) × Ceilings (wiring (s .inputs) (s .gates) (s .border) (now pins) (now sources) (now counts)) phi (now tops) ⌝ }
     requires { ⌜ (stop ≤ s .gates) × QuietFrom (wiring (s .inputs) (s .gates) (s .border) (now pins) (now sources) (now counts)) k phi (now tops) (now order) (now labels) stop ⌝ }
     ensures { λ _. ⌜ AtRest (circuit (s .inputs) (s .gates) (s .width) (s .border) (now (pins .entry)) (now (first .entry)) (now (sources .entry)) (now (counts .entry)) (now (heads .entry)) (now (nexts .entry)) (now (inside .exit))) (now (table .exit)) (now (list .exit)) (now (members .exit)) ⌝ }
-    ensures { λ r. ⌜ Swept (wiring (s .inputs) (s .gates) (s .border) (now (pins .entry)) (now (sources .entry)) (now (counts .entry))) k phi (now (tops .entry)) (now (order .entry)) (now (labels .entry)) (now (labels .exit)) r ⌝ }
+    ensures { λ r. ⌜ SweepTold (wiring (s .inputs) (s .gates) (s .border) (now (pins .entry)) (now (sources .entry)) (now (counts .entry))) k phi (now (tops .entry)) (now (order .entry)) (now (labels .entry)) (now (labels .exit)) r ⌝ }
 {
     let mut last = 0;
     let mut end = stop;
@@ -118,7 +119,7 @@ fn settle(
     requires { ⌜ AtRest (circuit (s .inputs) (s .gates) (s .width) (s .border) (now pins) (now first) (now sources) (now counts) (now heads) (now nexts) (now inside)) (now table) (now list) (now members) ⌝ }
     requires { ⌜ Ready (s .inputs) (s .gates) (s .width) (now labels) phi k × Ordered (wiring (s .inputs) (s .gates) (s .border) (now pins) (now sources) (now counts)) (now order) × Ceilings (wiring (s .inputs) (s .gates) (s .border) (now pins) (now sources) (now counts)) phi (now tops) ⌝ }
     ensures { λ _. ⌜ AtRest (circuit (s .inputs) (s .gates) (s .width) (s .border) (now (pins .entry)) (now (first .entry)) (now (sources .entry)) (now (counts .entry)) (now (heads .entry)) (now (nexts .entry)) (now (inside .exit))) (now (table .exit)) (now (list .exit)) (now (members .exit)) ⌝ }
-    ensures { λ r. ⌜ Settled (wiring (s .inputs) (s .gates) (s .border) (now (pins .entry)) (now (sources .entry)) (now (counts .entry))) k phi (now (tops .entry)) (now (labels .entry)) (now (labels .exit)) r ⌝ }
+    ensures { λ r. ⌜ SettleTold (wiring (s .inputs) (s .gates) (s .border) (now (pins .entry)) (now (sources .entry)) (now (counts .entry))) k phi (now (tops .entry)) (now (labels .entry)) (now (labels .exit)) r ⌝ }
 {
     let mut stop = s.gates;
     let mut r = 1;

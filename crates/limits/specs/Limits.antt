@@ -1,5 +1,5 @@
 -- Definitions: document 01's limits and the sizes that follow from them, in one place. The constants of src/lib.rt are the same numbers for the programs.
-use Prim.Native.Nat.{ℕ, suc, _+_, _*_}
+use Prim.Native.Nat.{ℕ, suc, _+_, _*_, _/_, _^_}
 
 -- "I is 1..16, G 1..32, outputs O 1..16. k is 2..6. ... w 0..3."
 abbrev pub mostInputs : ℕ
@@ -36,9 +36,13 @@ scratchArea = 65536
 
 -- ---- what follows
 
--- "six bits", one a pin or leaf
+-- pins of a gate, "bits 0..5" of its map, and leaves of a LUT; also the places for them in arrays
 abbrev pub mostPins : ℕ
 mostPins = 6
+
+-- bytes of the longest table, 2^mostPins bits; also the places for what is read of one field of a gate or a LUT
+abbrev pub mostItems : ℕ
+mostItems = 2 ^ mostPins / 8
 
 -- nodes of a net
 abbrev pub mostNodes : ℕ
@@ -58,9 +62,16 @@ mostCopies = mostK * mostGates
 abbrev pub mostReach : ℕ
 mostReach = mostK * (mostGates * mostCount)
 
--- the table of the minimum cut: a byte a copy u:d, where d may go beyond the reach by the registers of a pin; and the list of the copies touched, behind its length
+-- a lag: "always within −96..96"
+abbrev pub mostLag : ℕ
+mostLag = mostGates * mostCount
+
+-- the table of the minimum cut: a byte a copy u:d, where d may go beyond the border by the registers of a pin; and the list of the copies touched, behind its length
+abbrev pub mostBeyond : ℕ
+mostBeyond = suc mostCount
+
 abbrev pub mostTable : ℕ
-mostTable = mostNodes * (mostReach + suc mostCount)
+mostTable = mostNodes * (mostReach + mostBeyond)
 
 abbrev pub mostList : ℕ
 mostList = suc mostTable
@@ -68,6 +79,27 @@ mostList = suc mostTable
 -- "for each bit its d, two bytes": a stored d is below
 abbrev pub depthRoom : ℕ
 depthRoom = 65536
+
+-- bytes of a net record: three numbers; a gate's two maps, sources, counts and table; an output's map, source and count
+abbrev pub mostGateBytes : ℕ
+mostGateBytes = 2 + (mostPins + (mostPins + mostItems))
+
+abbrev pub mostOutputBytes : ℕ
+mostOutputBytes = 3
+
+abbrev pub mostNetBytes : ℕ
+mostNetBytes = 3 + (mostGates * mostGateBytes + mostOutputs * mostOutputBytes)
+
+-- bytes of a LUT in a cover record: root, leaf count and map; a node and a d for each leaf; a lag and a table
+abbrev pub mostDepthBytes : ℕ
+mostDepthBytes = 2
+
+abbrev pub mostLutBytes : ℕ
+mostLutBytes = 3 + (mostPins + (mostPins * mostDepthBytes + (1 + mostItems)))
+
+-- bytes that the programs take from their input
+abbrev pub inputRoom : ℕ
+inputRoom = 65536
 
 -- bytes for the listing: 86 for the first line and 361 for each LUT
 abbrev pub textRoom : ℕ

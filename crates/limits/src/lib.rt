@@ -2,7 +2,7 @@
 // specs/Limits.antt has the same numbers as definitions; `agree` is proved, so the two cannot part.
 ghost use mathlib.Core.Path.{_≡_};
 ghost use Prim.Native.Nat.{_≤_};
-ghost use Rattle.limits.specs.Limits.{mostInputs, mostGates, mostOutputs, leastK, mostK, mostCount, mostPeriod, mostLuts, coverArea, scratchArea, mostPins, mostNodes, mostPlaces, mostLeaves, mostCopies, mostReach, mostTable, mostList, textRoom, refusalRoom, lineRoom};
+ghost use Rattle.limits.specs.Limits.{mostInputs, mostGates, mostOutputs, leastK, mostK, mostCount, mostPeriod, mostLuts, coverArea, scratchArea, mostPins, mostItems, mostNodes, mostPlaces, mostLeaves, mostCopies, mostReach, mostBeyond, mostTable, mostList, textRoom, refusalRoom, lineRoom};
 
 pub const INPUTS: usize = 16;
 
@@ -27,6 +27,8 @@ pub const SCRATCH: usize = 65536;
 // What follows.
 pub const PINS: usize = 6;
 
+pub const ITEMS: usize = (1 << PINS) / 8;
+
 pub const NODES: usize = INPUTS + GATES;
 
 pub const PLACES: usize = PINS * GATES;
@@ -37,7 +39,9 @@ pub const COPIES: usize = PINS * GATES;
 
 pub const REACH: usize = PINS * GATES * COUNT;
 
-pub const TABLE: usize = NODES * (REACH + COUNT + 1);
+pub const BEYOND: usize = COUNT + 1;
+
+pub const TABLE: usize = NODES * (REACH + BEYOND);
 
 pub const LIST: usize = TABLE + 1;
 
@@ -73,11 +77,13 @@ pub struct Limits {
     pub area: usize,
     pub scratch: usize,
     pub pins: usize,
+    pub items: usize,
     pub nodes: usize,
     pub places: usize,
     pub leaves: usize,
     pub copies: usize,
     pub reach: usize,
+    pub beyond: usize,
     pub table: usize,
     pub list: usize,
     pub text: usize,
@@ -98,11 +104,13 @@ pub fn agree() -> Limits
     ensures area { λ r. ⌜ r .area ≡ coverArea ⌝ }
     ensures scratch { λ r. ⌜ r .scratch ≡ scratchArea ⌝ }
     ensures pins { λ r. ⌜ r .pins ≡ mostPins ⌝ }
+    ensures items { λ r. ⌜ r .items ≡ mostItems ⌝ }
     ensures nodes { λ r. ⌜ r .nodes ≡ mostNodes ⌝ }
     ensures places { λ r. ⌜ r .places ≡ mostPlaces ⌝ }
     ensures leaves { λ r. ⌜ r .leaves ≡ mostLeaves ⌝ }
     ensures copies { λ r. ⌜ r .copies ≡ mostCopies ⌝ }
     ensures reach { λ r. ⌜ r .reach ≡ mostReach ⌝ }
+    ensures beyond { λ r. ⌜ r .beyond ≡ mostBeyond ⌝ }
     ensures table { λ r. ⌜ r .table ≡ mostTable ⌝ }
     ensures list { λ r. ⌜ r .list ≡ mostList ⌝ }
     ensures text { λ r. ⌜ r .text ≡ textRoom ⌝ }
@@ -121,11 +129,13 @@ pub fn agree() -> Limits
         area: AREA,
         scratch: SCRATCH,
         pins: PINS,
+        items: ITEMS,
         nodes: NODES,
         places: PLACES,
         leaves: LEAVES,
         copies: COPIES,
         reach: REACH,
+        beyond: BEYOND,
         table: TABLE,
         list: LIST,
         text: TEXT,

@@ -25,7 +25,7 @@ use Rattle.records.specs.Marking.{AllFed, EnoughRegisters, ShortChains}
 use Rattle.records.specs.Decided.{shorter}
 use Rattle.records.specs.Held.{Held, WellHeld, held, lutAt, lutsFrom, lutsIn}
 use Rattle.records.specs.HeldLaws.{length-lutsIn, getD-lutsIn, lutsIn-in, in-lutsIn, root-lutAt, leaves-lutAt, lag-lutAt}
-use Rattle.linkcheck.specs.Places.{placeFrom, placeIn, Found, leafIn, LutsFed, OutputsFed, base, raise, raisedAt, levelOf, LutsEnough, OutputsEnough, LeafLong, LongAt, NoneLong, most, Wired}
+use Rattle.linkcheck.specs.Places.{placeFrom, placeIn, Found, leafIn, LutsFed, OutputsFed, base, raise, raisedAt, levelOf, LutsEnough, OutputsEnough, LeafLong, LongAt, NoneLong, most, LutsJoined}
 use Rattle.linkcheck.specs.Links.{Linking, unfed, short, long, linked, LinksTold}
 use Rattle.linkcheck.specs.PlaceLaws.{lag-parts, level-input, level-gate}
 
@@ -81,7 +81,7 @@ in-leaf a i y m =
 
 -- ---- what check 13 leaves true suffices
 
-pub wellHeld-wired : {I G k n : ℕ} (a : Held) → WellHeld I G k n a → I ≤ mostInputs → G ≤ mostGates → k ≤ stride → n ≤ most → Wired I G (a .roots) (a .sizes) (a .nodes) (a .backs) (a .lags) n
+pub wellHeld-wired : {I G k n : ℕ} (a : Held) → WellHeld I G k n a → I ≤ mostInputs → G ≤ mostGates → k ≤ stride → n ≤ most → LutsJoined I G (a .roots) (a .sizes) (a .nodes) (a .backs) (a .lags) n
 wellHeld-wired a w i g k f = record {
   inputs = i;
   gates = g;

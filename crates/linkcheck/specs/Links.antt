@@ -6,20 +6,20 @@ use lib.IntN.{ℤ}
 use lib.ListN.{length, getD}
 use Rattle.netlist.specs.Net.{Net, size}
 use Rattle.netlist.specs.Arrays.{pinsIn}
-use Rattle.limits.specs.Limits.{mostPeriod}
+use Rattle.limits.specs.Limits.{mostCount, mostPeriod}
 use Rattle.covers.specs.Key.{Entry}
 use Rattle.records.specs.Marking.{AllFed, EnoughRegisters, ShortChains}
 use Rattle.records.specs.Held.{held, lutsIn}
-use Rattle.linkcheck.specs.Places.{Wired}
+use Rattle.linkcheck.specs.Places.{LutsJoined}
 
 -- n LUTs and O outputs of a net with I inputs and G gates, and the period
 pub record Linking (I G : ℕ) (outs delays : List ℕ) (O : ℕ) (roots sizes nodes backs : List ℕ) (lags : List ℤ) (n period : ℕ) : Type 0 where
-  pub luts : Wired I G roots sizes nodes backs lags n
+  pub luts : LutsJoined I G roots sizes nodes backs lags n
   pub limit : period ≤ mostPeriod
   pub atOuts : O ≤ length outs
   pub atDelays : O ≤ length delays
   pub out : (o : ℕ) → o < O → getD outs o 0 < I + G
-  pub delay : (o : ℕ) → o < O → getD delays o 0 ≤ 3
+  pub delay : (o : ℕ) → o < O → getD delays o 0 ≤ mostCount
 
 -- r is the number of the first of 16, 17, 18 that the LUTs break, or 0
 pub data LinkedAs (N : Net) (period : ℕ) (es : List Entry) (r : ℕ) : Type 0 where

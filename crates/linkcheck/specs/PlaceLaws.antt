@@ -13,11 +13,11 @@ use lib.ListN.{getD, replicate, getD-replicate}
 use lib.Signed.{mag}
 use mir.Syntax.{w64}
 use mir.Val.{SFits, toZ, ofZ}
+use Rattle.sequences.specs.TestLaws.{tells-yes, tells-no}
 use Rattle.integers.specs.Parts.{up, dn, ints, +-parts}
 use Rattle.signed.specs.RangeLaws.{back, fits-of}
 use Rattle.sequences.specs.Tests.{Tells}
-use Rattle.copies.specs.ListLaws.{tells-yes, tells-no}
-use Rattle.linkcheck.specs.Places.{placeFrom, placeIn, Found, base, raise, raisedAt, levelOf, leafIn, LutFed, LutsFed, LeafLong, LutLong, LongAt, NoneLong, Marked, Marks, most, LeafAsked, Wired}
+use Rattle.linkcheck.specs.Places.{placeFrom, placeIn, Found, base, raise, raisedAt, levelOf, leafIn, LutFed, LutsFed, LeafLong, LutLong, LongAt, NoneLong, Marked, Marks, most, LeafAsked, LutsJoined}
 
 -- ---- the search
 
@@ -126,7 +126,7 @@ tells-enough a b x y e f = go (leb a b) refl
     go false q = tells-no (λ h. absurd (omega (arith, leb-false a b q, h, e, f)))
 
 -- a leaf of fed LUTs
-pub leaf-asked : {I G : ℕ} {roots sizes nodes backs : List ℕ} {lags : List ℤ} {n : ℕ} → Wired I G roots sizes nodes backs lags n → LutsFed I roots sizes nodes n
+pub leaf-asked : {I G : ℕ} {roots sizes nodes backs : List ℕ} {lags : List ℤ} {n : ℕ} → LutsJoined I G roots sizes nodes backs lags n → LutsFed I roots sizes nodes n
     → (i j : ℕ) → i < n → j < getD sizes i 0 → LeafAsked I roots nodes backs n i j
 leaf-asked w f i j h k =
     let s = w .leafRoom .leaves i h in

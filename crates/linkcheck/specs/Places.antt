@@ -119,7 +119,7 @@ pub record LeafAsked (I : ℕ) (roots nodes backs : List ℕ) (n i j : ℕ) : Ty
   pub back : leafIn backs i j < depthRoom
 
 -- n LUTs of a net with I inputs and G gates
-pub record Wired (I G : ℕ) (roots sizes nodes backs : List ℕ) (lags : List ℤ) (n : ℕ) : Type 0 where
+pub record LutsJoined (I G : ℕ) (roots sizes nodes backs : List ℕ) (lags : List ℤ) (n : ℕ) : Type 0 where
   pub inputs : I ≤ mostInputs
   pub gates : G ≤ mostGates
   pub leafRoom : LeafRoom roots sizes nodes n

@@ -6,10 +6,10 @@ ghost use Prim.Native.Nat.{ℕ, _+_, _*_, _≤_, _<_};
 ghost use lib.IntN.{pos};
 ghost use lib.ListN.{length, getD};
 ghost use lib.Signed.{mag};
-ghost use Rattle.limits.specs.Limits.{mostPeriod};
+ghost use Rattle.limits.specs.Limits.{mostCount, mostPeriod};
 ghost use Rattle.netlist.specs.Arrays.{stride};
 ghost use Rattle.sequences.specs.Tests.{Tells};
-ghost use Rattle.linkcheck.specs.Places.{placeIn, Found, LutFed, LutsFed, OutputsFed, raisedAt, levelOf, LeafEnough, LutEnough, LutsEnough, OutputEnough, OutputsEnough, LeafLong, LutLong, LongAt, NoneLong, Marked, Marks, most, LeafRoom, LagRoom, LeafAsked, Wired};
+ghost use Rattle.linkcheck.specs.Places.{placeIn, Found, LutFed, LutsFed, OutputsFed, raisedAt, levelOf, LeafEnough, LutEnough, LutsEnough, OutputEnough, OutputsEnough, LeafLong, LutLong, LongAt, NoneLong, Marked, Marks, most, LeafRoom, LagRoom, LeafAsked, LutsJoined};
 ghost use Rattle.linkcheck.specs.Links.{Linking, LinksTold};
 
 // The place of the first of n LUTs with root u, or n.
@@ -143,7 +143,7 @@ fn lut_enough(
     n: usize,
     i: usize,
 ) -> bool
-    requires { ⌜ Wired inputs gates (now roots) (now sizes) (now nodes) (now backs) (now lags) n × (i < n) ⌝ }
+    requires { ⌜ LutsJoined inputs gates (now roots) (now sizes) (now nodes) (now backs) (now lags) n × (i < n) ⌝ }
     requires { ⌜ LutsFed inputs (now roots) (now sizes) (now nodes) n ⌝ }
     ensures { λ r. ⌜ Tells r (LutEnough inputs (now (roots .entry)) (now (sizes .entry)) (now (nodes .entry)) (now (backs .entry)) (now (lags .entry)) n i) ⌝ }
 {
@@ -169,7 +169,7 @@ fn luts_enough(
     lags: &[i64],
     n: usize,
 ) -> bool
-    requires { ⌜ Wired inputs gates (now roots) (now sizes) (now nodes) (now backs) (now lags) n ⌝ }
+    requires { ⌜ LutsJoined inputs gates (now roots) (now sizes) (now nodes) (now backs) (now lags) n ⌝ }
     requires { ⌜ LutsFed inputs (now roots) (now sizes) (now nodes) n ⌝ }
     ensures { λ r. ⌜ Tells r (LutsEnough inputs (now (roots .entry)) (now (sizes .entry)) (now (nodes .entry)) (now (backs .entry)) (now (lags .entry)) n) ⌝ }
 {
@@ -193,7 +193,7 @@ fn output_enough(
     delays: &[usize],
     o: usize,
 ) -> bool
-    requires { ⌜ LagRoom (now roots) (now lags) n × (o < length (now outs)) × (o < length (now delays)) × (getD (now delays) o 0 ≤ 3) × Found inputs (now roots) n (getD (now outs) o 0) ⌝ }
+    requires { ⌜ LagRoom (now roots) (now lags) n × (o < length (now outs)) × (o < length (now delays)) × (getD (now delays) o 0 ≤ mostCount) × Found inputs (now roots) n (getD (now outs) o 0) ⌝ }
     ensures { λ r. ⌜ Tells r (OutputEnough inputs (now (roots .entry)) (now (lags .entry)) n (now (outs .entry)) (now (delays .entry)) o) ⌝ }
 {
     let level = level_of(inputs, roots, lags, n, outs[o]);
@@ -211,7 +211,7 @@ fn outputs_enough(
     outputs: usize,
 ) -> bool
     requires { ⌜ LagRoom (now roots) (now lags) n × (outputs ≤ length (now outs)) × (outputs ≤ length (now delays)) ⌝ }
-    requires { ⌜ ((o : ℕ) → o < outputs → getD (now delays) o 0 ≤ 3) ⌝ }
+    requires { ⌜ ((o : ℕ) → o < outputs → getD (now delays) o 0 ≤ mostCount) ⌝ }
     requires { ⌜ OutputsFed inputs (now roots) n (now outs) outputs ⌝ }
     ensures { λ r. ⌜ Tells r (OutputsEnough inputs (now (roots .entry)) (now (lags .entry)) n (now (outs .entry)) (now (delays .entry)) outputs) ⌝ }
 {
@@ -266,7 +266,7 @@ fn lut_long(
     i: usize,
     marks: &[usize],
 ) -> bool
-    requires { ⌜ Wired inputs gates (now roots) (now sizes) (now nodes) (now backs) (now lags) n × (i < n) × (n ≤ length (now marks)) ⌝ }
+    requires { ⌜ LutsJoined inputs gates (now roots) (now sizes) (now nodes) (now backs) (now lags) n × (i < n) × (n ≤ length (now marks)) ⌝ }
     requires { ⌜ LutsFed inputs (now roots) (now sizes) (now nodes) n ⌝ }
     ensures { λ r. ⌜ Tells r (LutLong (Marked (now (marks .entry))) inputs (now (roots .entry)) (now (sizes .entry)) (now (nodes .entry)) (now (backs .entry)) (now (lags .entry)) n i) ⌝ }
 {
@@ -294,7 +294,7 @@ fn lut_mark(
     i: usize,
     marks: &[usize],
 ) -> usize
-    requires { ⌜ Wired inputs gates (now roots) (now sizes) (now nodes) (now backs) (now lags) n × (i < n) × (n ≤ length (now marks)) ⌝ }
+    requires { ⌜ LutsJoined inputs gates (now roots) (now sizes) (now nodes) (now backs) (now lags) n × (i < n) × (n ≤ length (now marks)) ⌝ }
     requires { ⌜ LutsFed inputs (now roots) (now sizes) (now nodes) n ⌝ }
     ensures { λ r. ⌜ Marks r (LutLong (Marked (now (marks .entry))) inputs (now (roots .entry)) (now (sizes .entry)) (now (nodes .entry)) (now (backs .entry)) (now (lags .entry)) n i) ⌝ }
 {
@@ -316,7 +316,7 @@ fn round(
     n: usize,
     marks: &[usize],
 ) -> [usize; LUTS]
-    requires { ⌜ Wired inputs gates (now roots) (now sizes) (now nodes) (now backs) (now lags) n × (n ≤ length (now marks)) ⌝ }
+    requires { ⌜ LutsJoined inputs gates (now roots) (now sizes) (now nodes) (now backs) (now lags) n × (n ≤ length (now marks)) ⌝ }
     requires { ⌜ LutsFed inputs (now roots) (now sizes) (now nodes) n ⌝ }
     ensures { λ r. ⌜ (length r ≡ most) × ((i : ℕ) → i < n → Marks (getD r i 0) (LutLong (Marked (now (marks .entry))) inputs (now (roots .entry)) (now (sizes .entry)) (now (nodes .entry)) (now (backs .entry)) (now (lags .entry)) n i)) ⌝ }
 {
@@ -341,7 +341,7 @@ fn rounds(
     n: usize,
     period: usize,
 ) -> [usize; LUTS]
-    requires { ⌜ Wired inputs gates (now roots) (now sizes) (now nodes) (now backs) (now lags) n × (period ≤ mostPeriod) ⌝ }
+    requires { ⌜ LutsJoined inputs gates (now roots) (now sizes) (now nodes) (now backs) (now lags) n × (period ≤ mostPeriod) ⌝ }
     requires { ⌜ LutsFed inputs (now roots) (now sizes) (now nodes) n ⌝ }
     ensures { λ r. ⌜ (length r ≡ most) × ((i : ℕ) → i < n → Marks (getD r i 0) (LongAt inputs (now (roots .entry)) (now (sizes .entry)) (now (nodes .entry)) (now (backs .entry)) (now (lags .entry)) n period i)) ⌝ }
 {
@@ -381,7 +381,7 @@ fn chains_short(
     n: usize,
     period: usize,
 ) -> bool
-    requires { ⌜ Wired inputs gates (now roots) (now sizes) (now nodes) (now backs) (now lags) n × (period ≤ mostPeriod) ⌝ }
+    requires { ⌜ LutsJoined inputs gates (now roots) (now sizes) (now nodes) (now backs) (now lags) n × (period ≤ mostPeriod) ⌝ }
     requires { ⌜ LutsFed inputs (now roots) (now sizes) (now nodes) n ⌝ }
     ensures { λ r. ⌜ Tells r (NoneLong inputs (now (roots .entry)) (now (sizes .entry)) (now (nodes .entry)) (now (backs .entry)) (now (lags .entry)) n period) ⌝ }
 {

@@ -11,13 +11,13 @@ use Rattle.labelling.specs.Labels.{Reachable}
 use Rattle.covers.specs.Key.{Key, Entry, entries}
 use Rattle.covers.specs.KeyOf.{key-labelled}
 use Rattle.covers.specs.KeyUnique.{entries-unique, label-same}
-use Rattle.records.specs.Kept.{Kept, entriesIn}
+use Rattle.records.specs.Kept.{Kept, entriesIn, labelAt}
 use Rattle.records.specs.Listing.{decimal, signed, registerCount, periodWord, lutsWord, registersWord, newline, lutLine, lutLines, coverText, refusalText}
 use Rattle.records.specs.Outcomes.{Mapped, mapped}
 use Rattle.records.specs.Program.{listMapped}
-use Rattle.solver.specs.Planned.{Covered}
-use Rattle.text.specs.Text.{labelIn}
-use Rattle.mapper.specs.Outcome.{mapped-none, mapped-some}
+use Rattle.planner.specs.Planned.{Covered}
+use Rattle.planner.specs.Mapped.{mapped-none}
+use Rattle.planner.specs.Mapped.{mapped-some}
 
 -- labels that agree on the roots give the same lines
 pub lines-agree : (label label′ : ℕ → ℤ) (es : List Entry) → ((e : Entry) → e ∈ es → label (e .root) ≡ label′ (e .root)) → lutLines label es ≡ lutLines label′ es
@@ -39,14 +39,14 @@ module _ {N : Net} {k : ℕ} (P : Passed N k) where
   roots-agree K label h e m = h (e .root) (key-labelled K .gate e m)
 
   -- **the definition's text is the one of the arrays**
-  pub listed-cover : (target : ℕ) {a : Kept} → Covered N k target a → listMapped (mapped N k target P) ≡ coverText N (a .period) (labelIn a) (entriesIn a)
+  pub listed-cover : (target : ℕ) {a : Kept} → Covered N k target a → listMapped (mapped N k target P) ≡ coverText N (a .period) (labelAt a) (entriesIn a)
   unfolding listMapped
   listed-cover target {a} c =
       let f = mapped-some P target c in
-      let agree = roots-agree (f .key) (labelIn a) (λ v g. label-same P (f .key) (c .key) v g ∙ c .labels v g) in
+      let agree = roots-agree (f .key) (labelAt a) (λ v g. label-same P (f .key) (c .key) v g ∙ c .labels v g) in
       ap (λ (m : Mapped N k). listMapped m) (f .is)
-      ∙ text-agree N (a .period) (f .key .label) (labelIn a) (entries (f .key)) agree
-      ∙ ap (coverText N (a .period) (labelIn a)) (entries-unique P (f .key) (c .key) ∙ c .same)
+      ∙ text-agree N (a .period) (f .key .label) (labelAt a) (entries (f .key)) agree
+      ∙ ap (coverText N (a .period) (labelAt a)) (entries-unique P (f .key) (c .key) ∙ c .same)
 
   pub listed-none : (target : ℕ) → 1 ≤ target → ¬ Reachable N k target → listMapped (mapped N k target P) ≡ refusalText 12
   unfolding listMapped

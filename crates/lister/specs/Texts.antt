@@ -25,14 +25,14 @@ use Rattle.reader.specs.WalkFacts.{read-gives, read-facts}
 use Rattle.reader.specs.declared.Walk.{Walk}
 use Rattle.reader.specs.declared.Wiring.{Wiring}
 use Rattle.writer.specs.Writing.{Wrote}
-use Rattle.solver.specs.Checking.{check-refused, check-loop, check-unreached, check-unled, check-passes}
-use Rattle.solver.specs.Planned.{Lengths}
+use Rattle.records.specs.CheckLaws.{check-refused, check-loop, check-unreached, check-unled, check-passes}
+use Rattle.reader.specs.Lengths.{Lengths}
 use Rattle.solver.specs.Settling.{Settling, SettledAs}
 use Rattle.solver.specs.Settling as settling
-use Rattle.text.specs.PutLaws.{wrote-as}
+use Rattle.digits.specs.PutLaws.{wrote-as}
 use Rattle.text.specs.Text.{Listable, Lists}
-use Rattle.mapper.specs.Outcome.{Sure}
-use Rattle.mapper.specs.Recording.{Long, cover-writable}
+use Rattle.solver.specs.Settling.{CoverSettled}
+use Rattle.netmap.specs.Recording.{Long, cover-writable}
 use Rattle.lister.specs.Asked.{Listing, ListsNet}
 use Rattle.lister.specs.Lines.{listed-cover, listed-none}
 
@@ -65,7 +65,7 @@ module _ {k target : ℕ} {w : Wiring} where
   lists-refused s h t = record { lists = λ net q. wrote-as (refused-text s h net q) t }
 
   -- **a cover**
-  pub lists-covered : {a : Kept} {r : ℕ} {before after : List ℕ} → Sure k target w a → Lists a (w .«out_sources») (w .«out_counts») (w .outputs) before after r → ListsNet k target w before after r
+  pub lists-covered : {a : Kept} {r : ℕ} {before after : List ℕ} → CoverSettled k target w a → Lists a (w .«out_sources») (w .«out_counts») (w .outputs) before after r → ListsNet k target w before after r
   lists-covered {a} u l = record {
     lists = λ net q.
         let P = u .passed in
@@ -74,7 +74,7 @@ module _ {k target : ℕ} {w : Wiring} where
   }
 
   -- what the text asks
-  pub cover-listable : {a : Kept} {out : List ℕ} → Listing k target w out → a .inputs ≡ w .inputs → a .gates ≡ w .gates → Long a → Lengths w → Sure k target w a
+  pub cover-listable : {a : Kept} {out : List ℕ} → Listing k target w out → a .inputs ≡ w .inputs → a .gates ≡ w .gates → Long a → Lengths w → CoverSettled k target w a
       → Listable a (w .«out_sources») (w .«out_counts») (w .outputs) out
   cover-listable {a} {out} s i g long l u =
       let x = cover-writable (s .settling) i g long (u .passed) (u .cover) out (let h = s .room in omega arith) in

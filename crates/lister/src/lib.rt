@@ -1,19 +1,19 @@
 // The listing: from the bytes read (k, the target, the net) to the text printed.
+use digits::write_refusal;
 use fields::Verdict;
 use inputs::byte_at;
-use inputs::number;
 use inputs::wide;
+use inputs::word;
+use limits::AREA;
 use limits::GATES;
-use limits::LEAST_K;
-use limits::MOST_K;
 use limits::NODES;
-use limits::PERIOD;
 use limits::PLACES;
+use limits::SCRATCH;
 use limits::TABLE;
 use reader::Wiring;
 use reader::read_net;
+use sizes::check_sizes;
 use solver::settle;
-use text::write_refusal;
 use text::write_text;
 ghost use mathlib.Core.Path.{_≡_};
 ghost use Prim.Native.Nat.{_≤_, _<_};
@@ -80,9 +80,9 @@ fn list_net(net: &[u8], k: u32, target: u32, out: &mut [u8]) -> usize
     let w = read_net(net, k);
     let v = w.verdict;
     if let Verdict::Refused(n) = v {
-        return write_refusal(number(n), out);
+        return write_refusal(wide(n), out);
     }
-    list_read(w.net, wide(k), wide(target), out)
+    list_read(w.net, word(k), word(target), out)
 }
 
 // All checks and the cover.
@@ -90,14 +90,9 @@ fn list_parts(k: u32, target: u32, net: &[u8], out: &mut [u8]) -> usize
     requires { ⌜ textRoom ≤ length (now out) ⌝ }
     ensures { λ r. ⌜ Wrote (listing k target (now (net .entry))) (now (out .entry)) (now (out .exit)) r ⌝ }
 {
-    if k < LEAST_K {
-        return write_refusal(1, out);
-    }
-    if MOST_K < k {
-        return write_refusal(1, out);
-    }
-    if PERIOD < target {
-        return write_refusal(2, out);
+    let r = check_sizes(k, target, AREA, SCRATCH);
+    if r > 0 {
+        return write_refusal(wide(r), out);
     }
     list_net(net, k, target, out)
 }

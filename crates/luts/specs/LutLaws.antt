@@ -1,12 +1,14 @@
 -- Laws of LUTs' tables: the walk's cone gives the table of the cut, and one gate after the other is tabulated.
 use mathlib.Core.Path.{_≡_, refl, sym, ap, ap₂, subst, _∙_}
+use mathlib.Core.Bool.{Bool, true, false, true≢false, false≢true}
 use mathlib.Core.List.{List, [], _∷_}
 use Prim.Native.Nat.{ℕ, zero, suc, _+_, _-_, _*_, _≤_, _<_}
 use native.Mathlib.Nat.{zero-add, not-suc-le-zero}
 use native.Mathlib.Decide.{ℕ-discrete}
 use native.Mathlib.Omega.{arith}
-use lib.ListN.{length, getD, set, take, drop, length-drop}
-use lib.Seq.{getD-set-same, getD-set-other, getD-drop, ext-getD, take-all}
+use lib.ListN.{length, getD, set, take, drop}
+use lib.Seq.{getD-set-same, getD-set-other, getD-drop, ext-getD}
+use Rattle.sequences.specs.Behind.{behind}
 use Rattle.netlist.specs.Net.{Net}
 use Rattle.netlist.specs.Copies.{Copy, copy, IsCut}
 use Rattle.netlist.specs.CopyLaws.{copy-path}
@@ -17,15 +19,18 @@ use Rattle.cones.specs.Part.{cone-determined}
 use Rattle.cones.specs.Reach.{reachOf, reach}
 use Rattle.tables.specs.Values.{table-same}
 use Rattle.copies.specs.Lists.{copiesIn}
+use Rattle.copies.specs.ListLaws.{length-copiesIn}
 use Rattle.cone.specs.Told.{Walk}
+use Rattle.cone.specs.ToldLaws.{cone-cut}
 use Rattle.conetable.specs.Words.{TableOver}
 use Rattle.cone.specs.declared.Told.the-variants.{Cut, NoCut}
 use Rattle.cone.specs.declared.Cone.{Cone}
-use Rattle.luts.specs.Luts.{LutTable, GateTable, Tabulated}
+use Rattle.luts.specs.Luts.{LutTable, LutTried, Row, GateTable, Tabulates, Tabulated}
+use Rattle.luts.specs.declared.Tried.{Tried}
 
 module _ {I G : ℕ} {ps so co ts ln lb : List ℕ} {n g : ℕ} {c : Cone} (w : Walk I G ps so co ln lb n g c) where
   -- the walk's cone gives the table
-  pub lut-cut : {r : ℕ} → c .verdict ≡ Cut → TableOver I G ps so co ts (copiesIn ln lb n) (copiesIn (c .nodes) (c .backs) (c .len)) (I + g) r → LutTable I G ps so co ts (copiesIn ln lb n) g r
+  lut-cut : {r : ℕ} → c .verdict ≡ Cut → TableOver I G ps so co ts (copiesIn ln lb n) (copiesIn (c .nodes) (c .backs) (c .len)) (I + g) r → LutTable I G ps so co ts (copiesIn ln lb n) g r
   lut-cut e t = record {
     table = λ N d b R A k J.
         let i = w .cone e N d in
@@ -35,18 +40,28 @@ module _ {I G : ℕ} {ps so co ts ln lb : List ℕ} {n g : ℕ} {c : Cone} (w : 
   }
 
   -- no cut has these leaves
-  pub lut-none : {r : ℕ} → c .verdict ≡ NoCut → LutTable I G ps so co ts (copiesIn ln lb n) g r
-  lut-none e = record { table = λ N d b R A k J. absurd (w .none e N d R k J) }
+  pub tried-none : {t : ℕ} → c .verdict ≡ NoCut → LutTried I G ps so co ts (copiesIn ln lb n) g (record { none = true; table = t })
+  tried-none e = record { cut = λ q. absurd (true≢false q); table = λ q. absurd (true≢false q); none = λ q N d R k. w .none e N d R k }
 
--- what is behind a place
-pub behind : (l : List ℕ) (at : ℕ) → take (length l - at) (drop at l) ≡ drop at l
-behind l at = take-all (length l - at) (drop at l) (omega (arith, length-drop at l))
+  -- they are one
+  pub tried-cut : {t : ℕ} → c .verdict ≡ Cut → TableOver I G ps so co ts (copiesIn ln lb n) (copiesIn (c .nodes) (c .backs) (c .len)) (I + g) t
+      → LutTried I G ps so co ts (copiesIn ln lb n) g (record { none = false; table = t })
+  tried-cut e t = record {
+    cut = λ q N d rising k h. cone-cut w e N k d rising (let l = length-copiesIn ln lb n in omega arith);
+    table = λ q. lut-cut e t;
+    none = λ q. absurd (false≢true q);
+  }
 
-pub length-behind : (l : List ℕ) (at n : ℕ) → at + n ≤ length l → n ≤ length (take (length l - at) (drop at l))
-length-behind l at n h = omega (arith, ap length (behind l at), length-drop at l)
+-- a table that is right where the leaves are a cut
+pub tried-table : {I G : ℕ} {ps so co ts : List ℕ} {L : List Copy} {g : ℕ} {r : Tried} → LutTried I G ps so co ts L g r → LutTable I G ps so co ts L g (r .table)
+tried-table {I} {G} {ps} {so} {co} {ts} {L} {g} {r} t = go (r .none) refl
+  where
+    go : (b : Bool) → r .none ≡ b → LutTable I G ps so co ts L g (r .table)
+    go false e = t .table e
+    go true e = record { table = λ N d b R A k J. absurd (t .none e N d R k J) }
 
 -- leaves in a part of the arrays
-pub copies-part : (nodes backs : List ℕ) (at n : ℕ) → copiesIn (drop at nodes) (drop at backs) n ≡ copiesFrom nodes backs at n
+copies-part : (nodes backs : List ℕ) (at n : ℕ) → copiesIn (drop at nodes) (drop at backs) n ≡ copiesFrom nodes backs at n
 unfolding copiesIn
 copies-part nodes backs at n = ext-getD (copy 0 0) (copiesFrom (drop at nodes) (drop at backs) 0 n) (copiesFrom nodes backs at n)
     (length-copiesFrom (drop at nodes) (drop at backs) 0 n ∙ sym (length-copiesFrom nodes backs at n))
@@ -57,17 +72,27 @@ copies-part nodes backs at n = ext-getD (copy 0 0) (copiesFrom (drop at nodes) (
     ∙ copy-path (getD-drop at nodes i 0) (getD-drop at backs i 0)
     ∙ sym (getD-copiesFrom nodes backs at n i (copy 0 0) l))
 
+-- row i of the arrays
+pub tried-row : {I G : ℕ} {ps so co ts : List ℕ} (sizes nodes backs : List ℕ) (i : ℕ) {g : ℕ} {r : Tried}
+    → LutTried I G ps so co ts (copiesIn (take (length nodes - stride * i) (drop (stride * i) nodes)) (take (length backs - stride * i) (drop (stride * i) backs)) (getD sizes i 0)) g r
+    → LutTried I G ps so co ts (copiesFrom nodes backs (stride * i) (getD sizes i 0)) g r
+tried-row {I} {G} {ps} {so} {co} {ts} sizes nodes backs i {g} {r} t = subst (λ (L : List Copy). LutTried I G ps so co ts L g r)
+    (ap₂ (λ (a b : List ℕ). copiesIn a b (getD sizes i 0)) (behind nodes (stride * i)) (behind backs (stride * i)) ∙ copies-part nodes backs (stride * i) (getD sizes i 0)) t
+
 module _ {I G : ℕ} {ps so co ts marks sizes nodes backs : List ℕ} where
+  -- a gate with a mark has its row
+  pub gate-row : Tabulates I G ps so co ts marks sizes nodes backs → (g : ℕ) → g < G → ¬ (getD marks g 0 ≡ 0) → Row sizes nodes backs g
+  gate-row t g h m =
+      let s = t .atSizes in
+      let n = t .atNodes in
+      let b = t .atBacks in
+      record { atSizes = omega arith; few = t .few g h m; atNodes = omega arith; atBacks = omega arith }
+
   pub gate-none : (g r : ℕ) → getD marks g 0 ≡ 0 → GateTable I G ps so co ts marks sizes nodes backs g r
   gate-none g r z = record { marked = λ n. absurd (n z) }
 
-  pub gate-lut : (g r : ℕ)
-      → LutTable I G ps so co ts (copiesIn (take (length nodes - stride * g) (drop (stride * g) nodes)) (take (length backs - stride * g) (drop (stride * g) backs)) (getD sizes g 0)) g r
-      → GateTable I G ps so co ts marks sizes nodes backs g r
-  gate-lut g r t = record {
-    marked = λ n. subst (λ (L : List Copy). LutTable I G ps so co ts L g r)
-        (ap₂ (λ (a b : List ℕ). copiesIn a b (getD sizes g 0)) (behind nodes (stride * g)) (behind backs (stride * g)) ∙ copies-part nodes backs (stride * g) (getD sizes g 0)) t;
-  }
+  pub gate-lut : (g : ℕ) {r : Tried} → LutTried I G ps so co ts (copiesFrom nodes backs (stride * g) (getD sizes g 0)) g r → GateTable I G ps so co ts marks sizes nodes backs g (r .table)
+  gate-lut g t = record { marked = λ n. tried-table t }
 
   pub tabulated-none : (luts : List ℕ) → Tabulated I G ps so co ts marks sizes nodes backs luts 0
   tabulated-none luts = record { each = λ g h. absurd (not-suc-le-zero h) }

@@ -1,25 +1,40 @@
 -- Definitions: the tables of LUTs kept in arrays, and what a program that computes them asks and tells. Gate g has its leaves from place stride·g on.
 use mathlib.Core.Path.{_≡_}
+use mathlib.Core.Bool.{true, false}
 use mathlib.Core.List.{List}
-use Prim.Native.Nat.{ℕ, _+_, _*_, _≤_, _<_}
+use Prim.Native.Nat.{ℕ, suc, _+_, _*_, _≤_, _<_}
 use lib.ListN.{length, getD}
 use Rattle.netlist.specs.Net.{Net}
 use Rattle.netlist.specs.Checks.{Loopless}
-use Rattle.netlist.specs.Copies.{Copy, IsCut}
+use Rattle.netlist.specs.Copies.{Copy, IsCut, Rising}
 use Rattle.netlist.specs.Arrays.{stride, copiesFrom}
 use Rattle.netlist.specs.Wired.{Wired}
 use Rattle.netlist.specs.Tables.{tableOf}
 use Rattle.cones.specs.Ranks.{Ranked}
-use Rattle.copies.specs.Lists.{Wires}
+use Rattle.copies.specs.Lists.{SmallWires}
 use Rattle.conetable.specs.Words.{Tabled}
+use Rattle.luts.specs.declared.Tried.{Tried}
 
 -- r is the table of the LUT of gate g with leaves L, for every net with this wiring and these tables where L is a cut.
 pub record LutTable (I G : ℕ) (ps so co ts : List ℕ) (L : List Copy) (g r : ℕ) : Type 0 where
   pub table : (N : Net) → Wired N I G ps so co → Tabled N I G ts → Ranked N → Loopless N → (k : ℕ) (J : IsCut N k (I + g) L) → r ≡ tableOf N (I + g) (J .cone) L
 
+-- whether the leaves L are a cut of gate g, and then the LUT's table, for every net with this wiring and these tables
+pub record LutTried (I G : ℕ) (ps so co ts : List ℕ) (L : List Copy) (g : ℕ) (r : Tried) : Type 0 where
+  pub cut : r .none ≡ false → (N : Net) → Wired N I G ps so co → Rising L → (k : ℕ) → length L ≤ k → IsCut N k (I + g) L
+  pub table : r .none ≡ false → LutTable I G ps so co ts L g (r .table)
+  pub none : r .none ≡ true → (N : Net) → Wired N I G ps so co → Ranked N → (k : ℕ) → ¬ IsCut N k (I + g) L
+
+-- row i of the arrays has its leaves from place stride·i on
+pub record Row (sizes nodes backs : List ℕ) (i : ℕ) : Type 0 where
+  pub atSizes : i < length sizes
+  pub few : getD sizes i 0 ≤ stride
+  pub atNodes : stride * suc i ≤ length nodes
+  pub atBacks : stride * suc i ≤ length backs
+
 -- the arrays of a net's gates and of its LUTs
 pub record Tabulates (I G : ℕ) (ps so co ts marks sizes nodes backs : List ℕ) : Type 0 where
-  pub wires : Wires I G ps so co
+  pub wires : SmallWires I G ps so co
   pub atTables : G ≤ length ts
   pub atMarks : G ≤ length marks
   pub atSizes : G ≤ length sizes

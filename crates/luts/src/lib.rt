@@ -1,4 +1,4 @@
-// The tables of the LUTs of a cover, each over the cone between a root and its leaves.
+// The LUT over given leaves: whether they are a cut of a gate, and the table over the cone between. The tables of a cover's LUTs.
 use cone::Told;
 use cone::walk;
 use conetable::table;
@@ -7,11 +7,18 @@ ghost use mathlib.Core.Path.{_≡_};
 ghost use Prim.Native.Nat.{ℕ, _+_, _*_, _≤_, _<_};
 ghost use lib.ListN.{length, getD};
 ghost use Rattle.limits.specs.Limits.{mostPins};
-ghost use Rattle.copies.specs.Lists.{Wires, copiesIn};
-ghost use Rattle.luts.specs.Luts.{LutTable, GateTable, Tabulates, Tabulated};
+ghost use Rattle.copies.specs.Lists.{SmallWires, copiesIn};
+ghost use Rattle.netlist.specs.Arrays.{stride, copiesFrom};
+ghost use Rattle.luts.specs.Luts.{Row, LutTried, GateTable, Tabulates, Tabulated};
 
-// The table of the LUT of gate g over its n leaves; 0 where they are no cut.
-fn lut_table(
+// Whether leaves are no cut, and the table where they are one.
+pub struct Tried {
+    pub none: bool,
+    pub table: u64,
+}
+
+// The n leaves of gate g.
+fn try_lut(
     inputs: usize,
     gates: usize,
     pins: &[usize],
@@ -22,9 +29,9 @@ fn lut_table(
     leaf_backs: &[usize],
     n: usize,
     g: usize,
-) -> u64
-    requires { ⌜ Wires inputs gates (now pins) (now sources) (now counts) × (gates ≤ length (now tables)) × (n ≤ mostPins) × (n ≤ length (now «leaf_nodes»)) × (n ≤ length (now «leaf_backs»)) × (g < gates) ⌝ }
-    ensures { λ r. ⌜ LutTable inputs gates (now (pins .entry)) (now (sources .entry)) (now (counts .entry)) (now (tables .entry)) (copiesIn (now («leaf_nodes» .entry)) (now («leaf_backs» .entry)) n) g r ⌝ }
+) -> Tried
+    requires { ⌜ SmallWires inputs gates (now pins) (now sources) (now counts) × (gates ≤ length (now tables)) × (n ≤ mostPins) × (n ≤ length (now «leaf_nodes»)) × (n ≤ length (now «leaf_backs»)) × (g < gates) ⌝ }
+    ensures { λ r. ⌜ LutTried inputs gates (now (pins .entry)) (now (sources .entry)) (now (counts .entry)) (now (tables .entry)) (copiesIn (now («leaf_nodes» .entry)) (now («leaf_backs» .entry)) n) g r ⌝ }
 {
     let cone = walk(
         inputs,
@@ -39,9 +46,12 @@ fn lut_table(
     );
     let verdict = cone.verdict;
     if let Told::NoCut = verdict {
-        return 0;
+        return Tried {
+            none: true,
+            table: 0,
+        };
     }
-    table(
+    let t = table(
         inputs,
         gates,
         pins,
@@ -53,6 +63,43 @@ fn lut_table(
         n,
         g,
         cone,
+    );
+    Tried {
+        none: false,
+        table: t,
+    }
+}
+
+// The leaves in row i of the arrays, from place PINS·i on, as those of gate g.
+pub fn try_row(
+    inputs: usize,
+    gates: usize,
+    pins: &[usize],
+    sources: &[usize],
+    counts: &[usize],
+    tables: &[u64],
+    sizes: &[usize],
+    nodes: &[usize],
+    backs: &[usize],
+    i: usize,
+    g: usize,
+) -> Tried
+    requires { ⌜ SmallWires inputs gates (now pins) (now sources) (now counts) × (gates ≤ length (now tables)) × Row (now sizes) (now nodes) (now backs) i × (g < gates) ⌝ }
+    ensures { λ r. ⌜ LutTried inputs gates (now (pins .entry)) (now (sources .entry)) (now (counts .entry)) (now (tables .entry)) (copiesFrom (now (nodes .entry)) (now (backs .entry)) (stride * i) (getD (now (sizes .entry)) i 0)) g r ⌝ }
+{
+    let at = PINS * i;
+    let n = sizes[i];
+    try_lut(
+        inputs,
+        gates,
+        pins,
+        sources,
+        counts,
+        tables,
+        &nodes[at..],
+        &backs[at..],
+        n,
+        g,
     )
 }
 
@@ -76,20 +123,20 @@ fn gate_table(
     if marks[g] == 0 {
         return 0;
     }
-    let at = PINS * g;
-    let n = sizes[g];
-    lut_table(
+    let t = try_row(
         inputs,
         gates,
         pins,
         sources,
         counts,
         tables,
-        &nodes[at..],
-        &backs[at..],
-        n,
+        sizes,
+        nodes,
+        backs,
         g,
-    )
+        g,
+    );
+    t.table
 }
 
 // The tables of all gates with a mark.

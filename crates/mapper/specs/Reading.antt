@@ -17,8 +17,8 @@ use Rattle.reader.specs.Answer.{arraysOf, resultOf}
 use Rattle.reader.specs.WalkFacts.{read-gives, read-facts}
 use Rattle.reader.specs.declared.Walk.{Walk}
 use Rattle.solver.specs.Settling.{Settling}
-use Rattle.mapper.specs.Mapping.{Mapping, MapsTo, MapsNet}
-use Rattle.mapper.specs.Outcome.{maps-refused}
+use Rattle.netmap.specs.Mapping.{Mapping, MapsTo, MapsNet}
+use Rattle.netmap.specs.Outcome.{maps-refused}
 
 module _ (k target : ℕ) (net : List ℕ) (r : Walk) (e : netReader k net ≡ resultOf r) where
   -- **refusals 4 to 8**

@@ -15,8 +15,8 @@ use Rattle.fields.specs.declared.Verdict.the-variants.{Read, Refused}
 use Rattle.reader.specs.Answer.{arraysOf, resultOf}
 use Rattle.reader.specs.WalkFacts.{read-gives, read-facts}
 use Rattle.reader.specs.declared.Walk.{Walk}
-use Rattle.marker.specs.Marking.{Marking, MarksTo, MarksNet}
-use Rattle.marker.specs.Outcome.{marks-refused}
+use Rattle.judge.specs.Marking.{Marking, MarksTo, MarksNet}
+use Rattle.judge.specs.Outcome.{marks-refused}
 
 module _ (k : ℕ) (net : List ℕ) (r : Walk) (e : netReader k net ≡ resultOf r) where
   -- **refusals 4 to 8**

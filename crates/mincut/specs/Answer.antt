@@ -20,13 +20,16 @@ use Rattle.flow.specs.Graph as Graphs
 use Rattle.flow.specs.Graph.{Graph, Feeding, Separation, Lists}
 use Rattle.flow.specs.Course.{duality}
 use Rattle.flow.specs.Closed.{Closed, Found, found-separation, few-leaves, smallest, found-leads, out-leaf, leaf-out, leaf-apart}
-use Rattle.circuit.specs.Circuit.{Circuit, graphOf, Layout, lawful, total, ending, wide-positive, terminal-is, forced-is}
-use Rattle.search.specs.Table.{viewOf, in-below}
+use Rattle.circuit.specs.Circuit.{Circuit, graphOf, Layout, total, ending}
+use Rattle.circuit.specs.CircuitLaws.{lawful, wide-positive, terminal-is, forced-is}
+use Rattle.search.specs.Table.{viewOf}
+use Rattle.search.specs.TableLaws.{in-below}
 use Rattle.mincut.specs.Rounds.{Flowing, CutTold}
-use Rattle.mincut.specs.Collect.{LeafMark, CollectAsked, CollectTold, numberAt, rising-copiesFrom, number-before}
+use Rattle.mincut.specs.Collect.{LeafMark, CollectAsked, CollectTold, numberAt}
+use Rattle.mincut.specs.CollectLaws.{rising-copiesFrom, number-before}
+use Rattle.mincut.specs.Bridge.{Holds, decode, encode, encode-decode, decode-encode, decode-one, inner-gate, gate-inner, to-feeds, from-feeds, order}
 use Rattle.netlist.specs.Arrays.{copiesFrom}
 use Rattle.netlist.specs.ArrayLaws.{copiesFrom-in, in-copiesFrom, length-copiesFrom}
-use Rattle.mincut.specs.Bridge.{Holds, decode, encode, encode-decode, decode-encode, decode-one, inner-gate, gate-inner, to-feeds, from-feeds, order}
 
 -- A set of gate copies, none beyond the border, that contains the forced set.
 pub record Separates (C : Circuit) (N : Net) (cone : List Copy) : Type 0 where

@@ -5,6 +5,7 @@ use Prim.Native.Nat.{ℕ, suc, _+_, _-_, _*_, _/_, _%_, _≤_, _<_}
 use native.Mathlib.Nat.{div-add-mod', div-lt-iff-lt-mul, mul-le-mul-right}
 use native.Mathlib.Omega.{arith}
 use lib.ListN.{length, getD}
+use Rattle.limits.specs.Limits.{mostPins}
 use Rattle.sequences.specs.Member.{_∈_}
 use Rattle.netlist.specs.Net.{Net, Pin, IsGate, pins}
 use Rattle.netlist.specs.Checks.{Loopless}
@@ -14,13 +15,14 @@ use Rattle.netlist.specs.ArrayLaws.{pinAt, pinsIn-in, in-pinsIn, inputs-netIn, 
 use Rattle.cones.specs.Basics.{copy-path}
 use Rattle.cones.specs.Order.{Levels, levels, measure, feeds-measure}
 use Rattle.flow.specs.Graph.{Feeding, Order}
-use Rattle.circuit.specs.Circuit.{Circuit, circuit, graphOf, Layout, total, place, ending, wide-positive, gate-below, source-back, node-of, back-of, node-below, copy-parts, terminal-is, pin-below, pins-is, source-is}
+use Rattle.circuit.specs.Circuit.{Circuit, circuit, graphOf, Layout, total, place, ending}
+use Rattle.circuit.specs.CircuitLaws.{wide-positive, gate-below, source-back, node-of, back-of, node-below, copy-parts, terminal-is, pin-below, pins-is, source-is}
 
 -- The arrays of C are those of N.
 pub record Holds (C : Circuit) (N : Net) : Type 0 where
   pub inputs : N .inputs ≡ C .inputs
   pub gates : length (N .gates) ≡ C .gates
-  pub lists : (g : ℕ) → g < C .gates → pins N (C .inputs + g) ≡ pinsIn (C .sources) (C .counts) (6 * g) (getD (C .pins) g 0)
+  pub lists : (g : ℕ) → g < C .gates → pins N (C .inputs + g) ≡ pinsIn (C .sources) (C .counts) (mostPins * g) (getD (C .pins) g 0)
 
 pub holds-netIn : (a : Arrays) (width border : ℕ) (first heads nexts inside : List ℕ) → Holds (circuit (a .inputs) (a .gates) width border (a .pins) first (a .sources) (a .counts) heads nexts inside) (netIn a)
 holds-netIn a width border first heads nexts inside = record {
@@ -70,7 +72,7 @@ module _ {C : Circuit} {N : Net} (L : Layout C) (H : Holds C N) where
       let z : x < total C = div-lt-iff-lt-mul (wide-positive L) .0 (omega (arith, u, H .inputs, H .gates)) in
       omega (arith, l, H .inputs, h, z)
 
-  inner-pins : (x : ℕ) → ending C x ≡ 0 → pins N (x / C .width) ≡ pinsIn (C .sources) (C .counts) (6 * (x / C .width - C .inputs)) (getD (C .pins) (x / C .width - C .inputs) 0)
+  inner-pins : (x : ℕ) → ending C x ≡ 0 → pins N (x / C .width) ≡ pinsIn (C .sources) (C .counts) (mostPins * (x / C .width - C .inputs)) (getD (C .pins) (x / C .width - C .inputs) 0)
   inner-pins x e = ap (pins N) (omega (arith, e)) ∙ H .lists (x / C .width - C .inputs) (gate-below L x (inner-total x e) e)
 
   pub to-feeds : {y x : ℕ} → Feeding (graphOf C) y x → Feeds N (decode C y) (decode C x)
@@ -83,7 +85,7 @@ module _ {C : Circuit} {N : Net} (L : Layout C) (H : Holds C N) where
         gate = inner-gate x (k .0);
         pin = pinAt (C .sources) (C .counts) p;
         isPin = subst (λ (m : List Pin). pinAt (C .sources) (C .counts) p ∈ m) (sym (inner-pins x (k .0)))
-            (in-pinsIn (C .sources) (C .counts) (6 * (x / C .width - C .inputs)) (getD (C .pins) (x / C .width - C .inputs) 0) (f .pin) (k .1));
+            (in-pinsIn (C .sources) (C .counts) (mostPins * (x / C .width - C .inputs)) (getD (C .pins) (x / C .width - C .inputs) 0) (f .pin) (k .1));
         source = sym (q .0);
         depth = sym (q .1);
       }
@@ -91,7 +93,7 @@ module _ {C : Circuit} {N : Net} (L : Layout C) (H : Holds C N) where
   pub from-feeds : {c : Copy} {x : ℕ} → ending C x ≡ 0 → Feeds N c (decode C x) → Numbered C c x
   from-feeds {c} {x} e f =
       let g = x / C .width - C .inputs in
-      let r = pinsIn-in (C .sources) (C .counts) (6 * g) (getD (C .pins) g 0) (f .pin) (subst (λ (m : List Pin). f .pin ∈ m) (inner-pins x e) (f .isPin)) in
+      let r = pinsIn-in (C .sources) (C .counts) (mostPins * g) (getD (C .pins) g 0) (f .pin) (subst (λ (m : List Pin). f .pin ∈ m) (inner-pins x e) (f .isPin)) in
       let s : f .pin .src ≡ getD (C .sources) (place C x (r .0)) 0 = ap (λ (p : Pin). p .src) (r .2) in
       let w : f .pin .count ≡ getD (C .counts) (place C x (r .0)) 0 = ap (λ (p : Pin). p .count) (r .2) in
       let d : c .back ≡ x % C .width + getD (C .counts) (place C x (r .0)) 0 = omega (arith, f .depth, w) in

@@ -6,28 +6,29 @@ use native.Mathlib.Numerals.{add-one}
 use native.Mathlib.Omega.{arith}
 use lib.ListN.{length, getD, take, drop, set, replicate, length-set}
 use lib.Seq.{take-suc-set, getD-set-other}
+use Rattle.limits.specs.Limits.{mostItems}
 use Rattle.sequences.specs.Zeros.{zeros}
 use Rattle.netbytes.specs.Reading.{Reader, times, got, refused}
-use Rattle.netbytes.specs.Readers.{timesAfter, turn-none, turn-one, turn-stops, turn-ends}
+use Rattle.netbytes.specs.Readers.{behind, turn-none, turn-one, turn-stops, turn-ends}
 
 -- i of the n numbers are read
 pub record ReadSoFar (m : Reader ℕ) (s : List ℕ) (at n : ℕ) (values : List ℕ) (next i : ℕ) : Type 0 where
-  pub result : times n m (drop at s) ≡ timesAfter (take i values) (n - i) m (drop next s)
+  pub result : times n m (drop at s) ≡ behind (take i values) (times (n - i) m (drop next s))
   pub most : i ≤ n
-  pub long : length values ≡ 8
+  pub long : length values ≡ mostItems
   pub spare : (j : ℕ) → i ≤ j → getD values j 0 ≡ 0
 
 module _ (m : Reader ℕ) (s : List ℕ) (at n : ℕ) where
-  pub items-none : ReadSoFar m s at n (replicate 8 0) at 0
+  pub items-none : ReadSoFar m s at n (replicate mostItems 0) at 0
   items-none = record {
     result = turn-none n m (drop at s);
     most = omega arith;
     long = refl;
-    spare = λ j h. zeros 8 j;
+    spare = λ j h. zeros mostItems j;
   }
 
   module _ (values : List ℕ) (next i : ℕ) (so : ReadSoFar m s at n values next i) where
-    pub items-one : i < n → n ≤ 8 → (b after : ℕ) → m (drop next s) ≡ got b (drop after s) → ReadSoFar m s at n (set values i b) after (i + 1)
+    pub items-one : i < n → n ≤ mostItems → (b after : ℕ) → m (drop next s) ≡ got b (drop after s) → ReadSoFar m s at n (set values i b) after (i + 1)
     items-one h eight b after e =
         let long = so .long in
         record {

@@ -5,3 +5,5 @@ pub mod Stages
 pub mod Maps
 pub mod Sound
 pub mod Items
+pub mod Short
+pub mod Places

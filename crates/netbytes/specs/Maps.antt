@@ -14,6 +14,7 @@ use lib.Dec.{leb, ltb, eqb, lit<}
 use lib.ListN.{length}
 use lib.Pow.{shr-lt}
 use borrow.Author.Tests.{ltb-true, eq-eqb, ne-eqb, eqb-true, eqb-false}
+use Rattle.limits.specs.Limits.{mostPins}
 use Rattle.sequences.specs.Member.{_∈_, here, there}
 use Rattle.netlist.specs.Net.{Pin}
 use Rattle.netlist.specs.Tables.{bit}
@@ -107,7 +108,7 @@ one-byte n (b ∷ []) h e = omega (arith, e b (here refl))
 one-byte n (b ∷ (c ∷ l)) h e = absurd (omega arith)
 
 -- "With m pins the table has 2^m bits": what the bytes of a table allow
-pub table-lt : (m : ℕ) (l : List ℕ) → m ≤ 6 → length l ≡ tableBytes m → Each (λ (b : ℕ). tableByte m b ≡ true) l → fromBytes l < 2 ^ (2 ^ m)
+pub table-lt : (m : ℕ) (l : List ℕ) → m ≤ mostPins → length l ≡ tableBytes m → Each (λ (b : ℕ). tableByte m b ≡ true) l → fromBytes l < 2 ^ (2 ^ m)
 table-lt zero l h n e = one-byte 2 l n (λ b m. ltb-true b 2 (e b m))
 table-lt (suc zero) l h n e = one-byte 4 l n (λ b m. ltb-true b 4 (e b m))
 table-lt (suc (suc zero)) l h n e = one-byte 16 l n (λ b m. ltb-true b 16 (e b m))

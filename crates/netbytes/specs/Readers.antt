@@ -5,7 +5,7 @@ use mathlib.Core.List.{List, [], _∷_, _++_, append-assoc, append-nil}
 use Prim.Native.Nat.{ℕ, zero, suc, _+_, _-_, _≤_, _<_}
 use native.Mathlib.Omega.{arith}
 use lib.ListN.{length}
-use Rattle.sequences.specs.Member.{_∈_, here, there, not-in-nil, in-equal}
+use Rattle.sequences.specs.Member.{_∈_, here, there, not-in-nil}
 use Rattle.netbytes.specs.Reading.{Result, Reader, andThen, check, byte, times, atEnd, got, refused}
 
 pub refused-not-got : {A : Type 0} (n : ℕ) (a : A) (s : List ℕ) → refused n ≡ got a s → ⊥
@@ -80,59 +80,56 @@ module _ {A : Type 0} where
       let k : x .0 ∷ y .0 ≡ l = cc (y .3) in
       (sym (ap length k) ∙ ap suc (z .0), rw (← k) (each-cons P (g s (x .0) (x .1) (x .2)) (z .1)))
 
-  -- n things more, behind those already read
-  unfoldable pub timesAfter : List A → ℕ → Reader A → Reader (List A)
-  timesAfter done n m s = andThen (times n m s) (λ more u. got (done ++ more) u)
+  -- a list behind those already read: none of them, one more, a refusal, the end
+  unfoldable pub behind : List A → Result (List A) → Result (List A)
+  behind done r = andThen r (λ more u. got (done ++ more) u)
 
-  result-eta : (r : Result (List A)) → r ≡ andThen r (λ more u. got ([] ++ more) u)
-  result-eta (got l s) = refl
-  result-eta (refused n) = refl
+  pub behind-none : (r : Result (List A)) → r ≡ behind [] r
+  unfolding behind
+  behind-none (got l s) = refl
+  behind-none (refused n) = refl
 
-  pub after-none : (n : ℕ) (m : Reader A) (s : List ℕ) → times n m s ≡ timesAfter [] n m s
-  unfolding timesAfter
-  after-none n m s = result-eta (times n m s)
+  pub behind-one : (done : List A) (a : A) (r : Result (List A)) → behind done (andThen r (λ more u. got (a ∷ more) u)) ≡ behind (done ++ (a ∷ [])) r
+  unfolding behind
+  behind-one done a (got l u) = ap (λ (x : List A). got x u) (sym (append-assoc done (a ∷ []) l))
+  behind-one done a (refused k) = refl
 
-  pub after-one : (done : List A) (n : ℕ) (m : Reader A) (s : List ℕ) (a : A) (t : List ℕ) → m s ≡ got a t
-      → timesAfter done (suc n) m s ≡ timesAfter (done ++ (a ∷ [])) n m t
-  unfolding timesAfter times
-  after-one done n m s a t e =
-      ap (λ (r : Result A). andThen (andThen r (λ a t. andThen (times n m t) (λ more u. got (a ∷ more) u))) (λ more u. got (done ++ more) u)) e
-      ∙ go (times n m t)
-    where
-      go : (r : Result (List A)) → andThen (andThen r (λ more u. got (a ∷ more) u)) (λ more u. got (done ++ more) u)
-          ≡ andThen r (λ more u. got ((done ++ (a ∷ [])) ++ more) u)
-      go (got l u) = ap (λ (x : List A). got x u) (sym (append-assoc done (a ∷ []) l))
-      go (refused k) = refl
+  pub behind-stops : (done : List A) (k : ℕ) → behind done (refused k) ≡ refused k
+  unfolding behind
+  behind-stops done k = refl
 
-  pub after-stop : (done : List A) (n : ℕ) (m : Reader A) (s : List ℕ) (k : ℕ) → m s ≡ refused k → timesAfter done (suc n) m s ≡ refused k
-  unfolding timesAfter times
-  after-stop done n m s k e =
-      ap (λ (r : Result A). andThen (andThen r (λ a t. andThen (times n m t) (λ more u. got (a ∷ more) u))) (λ more u. got (done ++ more) u)) e
+  pub behind-all : (done : List A) (s : List ℕ) → behind done (got [] s) ≡ got done s
+  unfolding behind
+  behind-all done s = ap (λ (x : List A). got x s) (append-nil done)
 
-  pub after-all : (done : List A) (m : Reader A) (s : List ℕ) → timesAfter done zero m s ≡ got done s
-  unfolding timesAfter times
-  after-all done m s = ap (λ (x : List A). got x s) (append-nil done)
+  times-more : (n : ℕ) (m : Reader A) (s : List ℕ) → times (suc n) m s ≡ andThen (m s) (λ a t. andThen (times n m t) (λ more u. got (a ∷ more) u))
+  unfolding times
+  times-more n m s = refl
+
+  times-none : (m : Reader A) (s : List ℕ) → times zero m s ≡ got [] s
+  unfolding times
+  times-none m s = refl
 
   -- a loop that has read i of n things, which are `done`: one more, a refusal, the end
-  module _ (n i : ℕ) (done : List A) (m : Reader A) (s : List ℕ) {x : Result (List A)} (e : x ≡ timesAfter done (n - i) m s) where
-    next-one : i < n → x ≡ timesAfter done (suc (n - (i + 1))) m s
+  module _ (n i : ℕ) (done : List A) (m : Reader A) (s : List ℕ) {x : Result (List A)} (e : x ≡ behind done (times (n - i) m s)) where
+    next-one : i < n → x ≡ behind done (andThen (m s) (λ a t. andThen (times (n - (i + 1)) m t) (λ more u. got (a ∷ more) u)))
     next-one h =
         let left : n - i ≡ suc (n - (i + 1)) = omega arith in
-        e ∙ ap (λ (k : ℕ). timesAfter done k m s) left
+        e ∙ ap (λ (k : ℕ). behind done (times k m s)) left ∙ ap (behind done) (times-more (n - (i + 1)) m s)
 
-    pub turn-one : (a : A) (t : List ℕ) (more : List A) → i < n → m s ≡ got a t → more ≡ done ++ (a ∷ []) → x ≡ timesAfter more (n - (i + 1)) m t
+    pub turn-one : (a : A) (t : List ℕ) (more : List A) → i < n → m s ≡ got a t → more ≡ done ++ (a ∷ []) → x ≡ behind more (times (n - (i + 1)) m t)
     turn-one a t more h f g =
-        next-one h ∙ after-one done (n - (i + 1)) m s a t f ∙ ap (λ (l : List A). timesAfter l (n - (i + 1)) m t) (sym g)
+        next-one h ∙ ap (behind done) (then-goes _ f) ∙ behind-one done a (times (n - (i + 1)) m t) ∙ ap (λ (l : List A). behind l (times (n - (i + 1)) m t)) (sym g)
 
     pub turn-stops : {k : ℕ} → i < n → m s ≡ refused k → x ≡ refused k
-    turn-stops {k} h f = next-one h ∙ after-stop done (n - (i + 1)) m s k f
+    turn-stops {k} h f = next-one h ∙ ap (behind done) (then-stops _ f) ∙ behind-stops done k
 
     pub turn-ends : n ≤ i → x ≡ got done s
     turn-ends h =
         let none : n - i ≡ 0 = omega arith in
-        e ∙ ap (λ (k : ℕ). timesAfter done k m s) none ∙ after-all done m s
+        e ∙ ap (λ (k : ℕ). behind done (times k m s)) none ∙ ap (behind done) (times-none m s) ∙ behind-all done s
 
-  pub turn-none : (n : ℕ) (m : Reader A) (s : List ℕ) → times n m s ≡ timesAfter [] (n - 0) m s
+  pub turn-none : (n : ℕ) (m : Reader A) (s : List ℕ) → times n m s ≡ behind [] (times (n - 0) m s)
   turn-none n m s =
       let all : n ≡ n - 0 = omega arith in
-      after-none n m s ∙ ap (λ (k : ℕ). timesAfter [] k m s) all
+      behind-none (times n m s) ∙ ap (λ (k : ℕ). behind [] (times k m s)) all

@@ -9,7 +9,7 @@ use lib.Count.{ones, ones-le, onesIn}
 use lib.Dec.{leb, ltb, lit≤}
 use lib.ListN.{length, getD}
 use borrow.Author.Tests.{ltb-true, leb-true}
-use Rattle.limits.specs.Limits.{mostInputs, mostGates, mostOutputs}
+use Rattle.limits.specs.Limits.{mostCount, mostGates, mostInputs, mostOutputs, mostPins}
 use Rattle.sequences.specs.Member.{_∈_, in-getD}
 use Rattle.netlist.specs.Net.{Net, Pin, Gate, size, gate, pins, nothing, IsGate, IsNode}
 use Rattle.netlist.specs.Checks.{Sound, Fits}
@@ -28,11 +28,11 @@ between-true low high b e = go (leb low b) (leb b high) (leb-true low b) (leb-tr
 
 pub record PinFacts (nodes : ℕ) (p : Pin) : Type 0 where
   pub source : p .src < nodes
-  pub count : p .count ≤ 3
+  pub count : p .count ≤ mostCount
 
 pub record GateFacts (k nodes : ℕ) (g : Gate) : Type 0 where
   pub some : 1 ≤ length (g .pins)
-  pub most : length (g .pins) ≤ 6
+  pub most : length (g .pins) ≤ mostPins
   pub fits : length (g .pins) ≤ k
   pub pin : Each (PinFacts nodes) (g .pins)
   pub table : g .table < 2 ^ (2 ^ length (g .pins))
@@ -50,27 +50,27 @@ pub record NetFacts (k : ℕ) (N : Net) : Type 0 where
 
 module _ (k nodes : ℕ) (pos : 0 < nodes) where
   gate-made : (p r m : ℕ) (s c t : List ℕ) → ones p ≡ m → between 1 63 p ≡ true → leb (ones p) k ≡ true
-      → Each (λ (b : ℕ). ltb b nodes ≡ true) s → Each (λ (b : ℕ). between 1 3 b ≡ true) c
+      → Each (λ (b : ℕ). ltb b nodes ≡ true) s → Each (λ (b : ℕ). between 1 mostCount b ≡ true) c
       → length t ≡ tableBytes m → Each (λ (b : ℕ). tableByte m b ≡ true) t
-      → GateFacts k nodes (record { pins = pinsFrom 6 0 p r s c; table = fromBytes t })
+      → GateFacts k nodes (record { pins = pinsFrom mostPins 0 p r s c; table = fromBytes t })
   gate-made p r m s c t hm hp hk hs hc ht et =
       let range = between-true 1 63 p hp in
       let low = range .0 in
       let high = range .1 in
-      let digits : ones p ≡ onesIn 6 p = ones-in 6 p (omega arith) in
-      let long : length (pinsFrom 6 0 p r s c) ≡ ones p = length-pinsFrom 6 0 p r s c ∙ ap (onesIn 6) (div-one p) ∙ sym digits in
-      let six : ones p ≤ 6 = ones-le 6 p (omega arith) in
+      let digits : ones p ≡ onesIn mostPins p = ones-in mostPins p (omega arith) in
+      let long : length (pinsFrom mostPins 0 p r s c) ≡ ones p = length-pinsFrom mostPins 0 p r s c ∙ ap (onesIn mostPins) (div-one p) ∙ sym digits in
+      let six : ones p ≤ mostPins = ones-le mostPins p (omega arith) in
       record {
-        some = omega (arith, some-one 6 p (omega arith) low);
+        some = omega (arith, some-one mostPins p (omega arith) low);
         most = omega arith;
         fits = omega (arith, leb-true (ones p) k hk);
         pin = λ q h. pinFacts q
-            (each-pinsFrom (λ (b : ℕ). b < nodes) (λ (b : ℕ). b ≤ 3) pos (lit≤ tt) 6 0 p r s c
-            (λ b m. ltb-true b nodes (hs b m)) (λ b m. between-true 1 3 b (hc b m) .1) q h);
+            (each-pinsFrom (λ (b : ℕ). b < nodes) (λ (b : ℕ). b ≤ mostCount) pos (lit≤ tt) mostPins 0 p r s c
+            (λ b m. ltb-true b nodes (hs b m)) (λ b m. between-true 1 mostCount b (hc b m) .1) q h);
         table = rw (long, hm) (table-lt m t (omega arith) ht et);
       }
     where
-      pinFacts : (q : Pin) → (q .src < nodes) × (q .count ≤ 3) → PinFacts nodes q
+      pinFacts : (q : Pin) → (q .src < nodes) × (q .count ≤ mostCount) → PinFacts nodes q
       pinFacts q h = record { source = h .0; count = h .1 }
 
   pub gate-facts : Gives (gateReader k nodes) (GateFacts k nodes)
@@ -82,11 +82,11 @@ module _ (k nodes : ℕ) (pos : 0 < nodes) where
       let x3 = then-got (netByte 6 (onlyBits 8 p) (x2 .1)) (fromMaps nodes p m) g end (x2 .3) in
       let r = x3 .0 in
       let x4 = then-got (times m (netByte 6 (λ b. ltb b nodes)) (x3 .1)) (fromSources m p r) g end (x3 .3) in
-      let x5 = then-got (times (ones r) (netByte 6 (between 1 3)) (x4 .1)) (fromCounts m p r (x4 .0)) g end (x4 .3) in
+      let x5 = then-got (times (ones r) (netByte 6 (between 1 mostCount)) (x4 .1)) (fromCounts m p r (x4 .0)) g end (x4 .3) in
       let x6 = then-got (times (tableBytes m) (netByte 6 (tableByte m)) (x5 .1)) (fromTable p r (x4 .0) (x5 .0)) g end (x5 .3) in
       let w = check-got (leb (ones p) k) 7 (ones p) (x1 .1) m (x2 .1) (x2 .2) in
       let ss = times-got (λ (b : ℕ). ltb b nodes ≡ true) m (netByte 6 (λ b. ltb b nodes)) (byte-got 4 6 (λ b. ltb b nodes)) (x3 .1) (x4 .0) (x4 .1) (x4 .2) in
-      let cs = times-got (λ (b : ℕ). between 1 3 b ≡ true) (ones r) (netByte 6 (between 1 3)) (byte-got 4 6 (between 1 3)) (x4 .1) (x5 .0) (x5 .1) (x5 .2) in
+      let cs = times-got (λ (b : ℕ). between 1 mostCount b ≡ true) (ones r) (netByte 6 (between 1 mostCount)) (byte-got 4 6 (between 1 mostCount)) (x4 .1) (x5 .0) (x5 .1) (x5 .2) in
       let ts = times-got (λ (b : ℕ). tableByte m b ≡ true) (tableBytes m) (netByte 6 (tableByte m)) (byte-got 4 6 (tableByte m)) (x5 .1) (x6 .0) (x6 .1) (x6 .2) in
       let same = got-value (madeGate p r (x4 .0) (x5 .0) (x6 .0)) (x6 .1) g end (x6 .3) in
       rw (← same) (gate-made p r m (x4 .0) (x5 .0) (x6 .0) (w .1) (byte-got 4 6 (between 1 63) s p (x1 .1) (x1 .2)) (w .0) (ss .1) (cs .1)
@@ -97,29 +97,29 @@ module _ (k nodes : ℕ) (pos : 0 < nodes) where
       let x1 = then-got (netByte 6 (λ b. leb b 1) s) (fromOutMap nodes) o end (sym (output-stages nodes s) ∙ e) in
       let m = x1 .0 in
       let x2 = then-got (netByte 6 (λ b. ltb b nodes) (x1 .1)) (fromOutSource m) o end (x1 .3) in
-      let x3 = then-got (times m (netByte 6 (between 1 3)) (x2 .1)) (fromOutCounts (x2 .0)) o end (x2 .3) in
-      let cs = times-got (λ (b : ℕ). between 1 3 b ≡ true) m (netByte 6 (between 1 3)) (byte-got 4 6 (between 1 3)) (x2 .1) (x3 .0) (x3 .1) (x3 .2) in
+      let x3 = then-got (times m (netByte 6 (between 1 mostCount)) (x2 .1)) (fromOutCounts (x2 .0)) o end (x2 .3) in
+      let cs = times-got (λ (b : ℕ). between 1 mostCount b ≡ true) m (netByte 6 (between 1 mostCount)) (byte-got 4 6 (between 1 mostCount)) (x2 .1) (x3 .0) (x3 .1) (x3 .2) in
       let same = got-value (record { src = x2 .0; count = first (x3 .0) }) (x3 .1) o end (x3 .3) in
       rw (← same) (record {
         source = ltb-true (x2 .0) nodes (byte-got 4 6 (λ b. ltb b nodes) (x1 .1) (x2 .0) (x2 .1) (x2 .2));
-        count = first-each (λ (b : ℕ). b ≤ 3) (x3 .0) (lit≤ tt) (λ b h. between-true 1 3 b (cs .1 b h) .1);
+        count = first-each (λ (b : ℕ). b ≤ mostCount) (x3 .0) (lit≤ tt) (λ b h. between-true 1 mostCount b (cs .1 b h) .1);
       })
 
 -- what the walk guarantees of the net, and no byte is left
 pub walk-facts : (k : ℕ) (s : List ℕ) (N : Net) (end : List ℕ) → netReader k s ≡ got N end → NetFacts k N × (end ≡ [])
 walk-facts k s N end e =
-    let x1 = then-got (netByte 5 (between 1 16) s) (fromInputs k) N end (sym (net-stages k s) ∙ e) in
+    let x1 = then-got (netByte 5 (between 1 mostInputs) s) (fromInputs k) N end (sym (net-stages k s) ∙ e) in
     let i = x1 .0 in
-    let x2 = then-got (netByte 5 (between 1 32) (x1 .1)) (fromGates k i) N end (x1 .3) in
+    let x2 = then-got (netByte 5 (between 1 mostGates) (x1 .1)) (fromGates k i) N end (x1 .3) in
     let g = x2 .0 in
-    let x3 = then-got (netByte 5 (between 1 16) (x2 .1)) (fromSizes k i g) N end (x2 .3) in
+    let x3 = then-got (netByte 5 (between 1 mostOutputs) (x2 .1)) (fromSizes k i g) N end (x2 .3) in
     let o = x3 .0 in
     let x4 = then-got (times g (gateReader k (i + g)) (x3 .1)) (fromGateList i g o) N end (x3 .3) in
     let x5 = then-got (times o (outputReader (i + g)) (x4 .1)) (fromOutputList i (x4 .0)) N end (x4 .3) in
     let x6 = atEnd-got 8 (record { inputs = i; gates = x4 .0; outputs = x5 .0 }) (x5 .1) N end (x5 .3) in
-    let is = between-true 1 16 i (byte-got 4 5 (between 1 16) s i (x1 .1) (x1 .2)) in
-    let gr = between-true 1 32 g (byte-got 4 5 (between 1 32) (x1 .1) g (x2 .1) (x2 .2)) in
-    let or = between-true 1 16 o (byte-got 4 5 (between 1 16) (x2 .1) o (x3 .1) (x3 .2)) in
+    let is = between-true 1 mostInputs i (byte-got 4 5 (between 1 mostInputs) s i (x1 .1) (x1 .2)) in
+    let gr = between-true 1 mostGates g (byte-got 4 5 (between 1 mostGates) (x1 .1) g (x2 .1) (x2 .2)) in
+    let or = between-true 1 mostOutputs o (byte-got 4 5 (between 1 mostOutputs) (x2 .1) o (x3 .1) (x3 .2)) in
     let il = is .0 in
     let pos : 0 < i + g = omega arith in
     let gs = times-got (GateFacts k (i + g)) g (gateReader k (i + g)) (gate-facts k (i + g) pos) (x3 .1) (x4 .0) (x4 .1) (x4 .2) in

@@ -5,12 +5,12 @@ use Prim.Native.Nat.{ℕ, _+_}
 use lib.Count.{ones}
 use lib.Dec.{leb, ltb}
 use Rattle.netlist.specs.Net.{Net, Pin, Gate}
-use Rattle.limits.specs.Limits.{mostInputs, mostGates, mostOutputs, mostCount}
+use Rattle.limits.specs.Limits.{mostCount, mostGates, mostInputs, mostOutputs, mostPins}
 use Rattle.netbytes.specs.Reading.{Reader, andThen, _>>=_, give, check, times, atEnd, between}
 use Rattle.netbytes.specs.Walk.{netReader, gateReader, outputReader, netByte, onlyBits, tableByte, tableBytes, pinsFrom, fromBytes, first}
 
 abbrev pub madeGate : ℕ → ℕ → List ℕ → List ℕ → List ℕ → Gate
-madeGate p r s c t = record { pins = pinsFrom 6 0 p r s c; table = fromBytes t }
+madeGate p r s c t = record { pins = pinsFrom mostPins 0 p r s c; table = fromBytes t }
 
 abbrev pub fromTable : ℕ → ℕ → List ℕ → List ℕ → List ℕ → Reader Gate
 fromTable p r s c t = give (madeGate p r s c t)

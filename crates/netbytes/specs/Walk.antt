@@ -7,7 +7,7 @@ use lib.Dec.{leb, ltb}
 use lib.ListN.{length}
 use Rattle.netlist.specs.Net.{Net, Pin, Gate}
 use Rattle.netlist.specs.Tables.{bit}
-use Rattle.limits.specs.Limits.{mostInputs, mostGates, mostOutputs, mostCount}
+use Rattle.limits.specs.Limits.{mostCount, mostGates, mostInputs, mostOutputs, mostPins}
 use Rattle.netbytes.specs.Reading.{Result, Reader, _>>=_, andThen, give, check, byte, times, atEnd, between, got, refused}
 
 -- each of the low n bits that r has, p has
@@ -59,7 +59,7 @@ gateReader k nodes = do
   sources ← times m (netByte 6 (λ b. ltb b nodes))
   counts ← times (ones regMap) (netByte 6 (between 1 mostCount))
   table ← times (tableBytes m) (netByte 6 (tableByte m))
-  give (record { pins = pinsFrom 6 0 pinMap regMap sources counts; table = fromBytes table })
+  give (record { pins = pinsFrom mostPins 0 pinMap regMap sources counts; table = fromBytes table })
 
 -- "Output: map (0 or 1), source byte, and a count 1..3 if the map is 1."
 unfoldable pub outputReader : ℕ → Reader Pin

@@ -6,6 +6,7 @@ use native.Mathlib.Nat.{add-zero, add-suc, suc-add, zero-add, not-suc-le-zero, l
 use native.Mathlib.Decide.{ℕ-discrete}
 use native.Mathlib.Omega.{arith}
 use lib.ListN.{length, getD}
+use Rattle.sequences.specs.Listed.{Listed}
 use Rattle.sequences.specs.Member.{_∈_, here, there, not-in-nil}
 use Rattle.netlist.specs.Net.{Net, Pin, Gate, IsGate, gate, pins, nothing, size}
 use Rattle.netlist.specs.Arrays.{Arrays, netIn, pinsIn, gatesIn, stride, copyAt, copiesFrom}
@@ -19,6 +20,10 @@ length-pinsIn s c at (suc n) = ap suc (length-pinsIn s c (suc at) n)
 -- the pin at place i
 abbrev pub pinAt : List ℕ → List ℕ → ℕ → Pin
 pinAt s c i = record { src = getD s i 0; count = getD c i 0 }
+
+pub pins-listed : (s c : List ℕ) → Listed (pinAt s c) (pinsIn s c)
+unfolding pinsIn
+pins-listed s c = record { none = λ at. refl; more = λ at n. refl }
 
 pub getD-pinsIn : (s c : List ℕ) (at n j : ℕ) (d : Pin) → j < n → getD (pinsIn s c at n) j d ≡ pinAt s c (at + j)
 unfolding pinsIn
@@ -54,6 +59,10 @@ length-gatesIn ps s c ts g (suc n) = ap suc (length-gatesIn ps s c ts (suc g) n)
 
 abbrev pub gateAt : List ℕ → List ℕ → List ℕ → List ℕ → ℕ → Gate
 gateAt ps s c ts g = record { pins = pinsIn s c (stride * g) (getD ps g 0); table = getD ts g 0 }
+
+pub gates-listed : (ps s c ts : List ℕ) → Listed (gateAt ps s c ts) (gatesIn ps s c ts)
+unfolding gatesIn
+gates-listed ps s c ts = record { none = λ g. refl; more = λ g n. refl }
 
 pub getD-gatesIn : (ps s c ts : List ℕ) (g n i : ℕ) (d : Gate) → i < n → getD (gatesIn ps s c ts g n) i d ≡ gateAt ps s c ts (g + i)
 unfolding gatesIn
@@ -106,6 +115,10 @@ module _ (a : Arrays) where
       (v - a .inputs, omega arith, omega arith)
 
 -- ---- lists of copies by their places
+
+pub copies-listed : (nodes backs : List ℕ) → Listed (copyAt nodes backs) (copiesFrom nodes backs)
+unfolding copiesFrom
+copies-listed nodes backs = record { none = λ at. refl; more = λ at n. refl }
 
 pub length-copiesFrom : (nodes backs : List ℕ) (at n : ℕ) → length (copiesFrom nodes backs at n) ≡ n
 unfolding copiesFrom

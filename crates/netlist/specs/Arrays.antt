@@ -3,12 +3,13 @@ use mathlib.Core.Path.{_≡_, refl}
 use mathlib.Core.List.{List, [], _∷_}
 use Prim.Native.Nat.{ℕ, zero, suc, _+_, _*_}
 use lib.ListN.{length, getD}
+use Rattle.limits.specs.Limits.{mostPins}
 use Rattle.netlist.specs.Net.{Net, Pin, Gate}
 use Rattle.netlist.specs.Copies.{Copy, copy}
 
 -- places for the pins of a gate: a pin map has "bits 0..5"
 abbrev pub stride : ℕ
-stride = 6
+stride = mostPins
 
 -- n pins, from place `at` on
 unfoldable pub pinsIn : List ℕ → List ℕ → ℕ → ℕ → List Pin

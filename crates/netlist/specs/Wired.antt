@@ -9,6 +9,15 @@ use Rattle.netlist.specs.Net.{Net, Pin, IsGate, IsInput, pins, size}
 use Rattle.netlist.specs.Arrays.{Arrays, netIn, pinsIn, stride}
 use Rattle.netlist.specs.ArrayLaws.{gates-netIn, inputs-netIn, pins-netIn, pinAt, pinsIn-in, in-pinsIn}
 
+-- The wiring of G gates in arrays: at most `stride` pins a gate, and each source is a node.
+pub record Wires (I G : ℕ) (ps sources counts : List ℕ) : Type 0 where
+  pub sizes : G ≤ length ps
+  pub room : stride * G ≤ length sources
+  pub room′ : stride * G ≤ length counts
+  pub pins : (g : ℕ) → g < G → getD ps g 0 ≤ stride
+  pub node : (g j : ℕ) → g < G → j < getD ps g 0 → getD sources (stride * g + j) 0 < I + G
+
+-- N has this wiring
 pub record Wired (N : Net) (I G : ℕ) (counted sources counts : List ℕ) : Type 0 where
   pub inputs : N .inputs ≡ I
   pub gates : length (N .gates) ≡ G

@@ -9,7 +9,7 @@ use Rattle.netlist.specs.Checks.{Passed}
 use Rattle.labelling.specs.Labels.{Least, OutputsMet, Reachable}
 use Rattle.covers.specs.Covers.{LeastPeriod}
 use Rattle.circuit.specs.Circuit.{Circuit}
-use Rattle.query.specs.Question.{labelIn}
+use Rattle.signed.specs.Range.{labelIn}
 use Rattle.visits.specs.Visits.{Suits, Fine}
 
 -- no period below φ is reachable

@@ -17,7 +17,7 @@ use Rattle.covers.specs.Joined.{reachable-met, met-reachable}
 use Rattle.covers.specs.Period.{gates-reach}
 use Rattle.circuit.specs.Circuit.{Circuit}
 use Rattle.limits.specs.Limits.{mostCopies}
-use Rattle.query.specs.Question.{labelIn}
+use Rattle.signed.specs.Range.{labelIn}
 use Rattle.visits.specs.Visits.{Suits, Ceilings}
 use Rattle.labels.specs.Sweeps.{Sized, Labelled}
 use Rattle.period.specs.Search.{NoneBelow, Period}

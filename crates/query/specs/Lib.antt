@@ -1,5 +1,5 @@
 pub mod Question
-pub mod Forcing
+pub mod Separating
 pub mod Meaning
 pub mod ChosenCut
 pub mod Few

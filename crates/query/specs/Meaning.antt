@@ -1,57 +1,41 @@
--- From the forced set and its minimum cut to the answer: what is marked is the forced set of each net with this wiring, and what `min_cut` found is a separation.
-use mathlib.Core.Path.{_≡_, refl, sym, ap, subst, _∙_}
-use mathlib.Core.Logic.{inl, inr}
+-- From the forced set and its minimum cut to the answer: what `min_cut` found is a separation of the forced set of each net with this wiring.
+use mathlib.Core.Path.{_≡_, refl, sym, subst, _∙_}
 use mathlib.Core.List.{List}
-use Prim.Native.Nat.{ℕ, _+_, _-_, _*_, _≤_, _<_}
+use Prim.Native.Nat.{ℕ, _+_, _*_, _≤_, _<_}
 use native.Mathlib.Nat.{mul-le-mul-left, mul-le-mul-right}
 use native.Mathlib.Omega.{arith}
 use lib.IntN.{ℤ}
 use lib.ListN.{length, getD, take}
-use lib.Seq.{getD-take, length-take-le}
-use Rattle.sequences.specs.Member.{_∈_, in-equal, in-map}
-use Rattle.sequences.specs.Decide.{in-upTo}
+use Rattle.limits.specs.Limits.{mostCopies}
+use Rattle.sequences.specs.Member.{in-equal}
 use Rattle.netlist.specs.Net.{Net}
 use Rattle.netlist.specs.Checks.{Loopless}
-use Rattle.netlist.specs.Copies.{Copy, copy, Feeds, Leads, IsLeaves}
-use Rattle.cones.specs.Basics.{leavesOf}
+use Rattle.netlist.specs.Copies.{Copy, IsLeaves}
+use Rattle.netlist.specs.Arrays.{copiesFrom}
 use Rattle.cones.specs.Ranks.{Ranked}
 use Rattle.cones.specs.Reach.{reachOf}
+use Rattle.cones.specs.Basics.{leavesOf}
 use Rattle.labelling.specs.Labels.{LowCut}
-use Rattle.labelling.specs.Forced.{Forced, ForcedSet, Separation, no-cut}
-use Rattle.circuit.specs.Circuit.{Circuit, circuit, Layout, total, wide-positive}
+use Rattle.labelling.specs.Forced.{ForcedSet, Separation, no-cut}
+use Rattle.signed.specs.Range.{labelIn}
+use Rattle.circuit.specs.Circuit.{Circuit, Layout, total}
 use Rattle.circuit.specs.Chains.{Chains}
 use Rattle.search.specs.Roots.{Members}
 use Rattle.mincut.specs.Rounds.{Cleared, CutAsked, CutTold}
-use Rattle.mincut.specs.Collect.{CollectAsked, CollectTold}
-use Rattle.netlist.specs.Arrays.{copiesFrom}
-use Rattle.mincut.specs.Bridge.{Holds, decode, encode, decode-encode}
-use Rattle.mincut.specs.Answer.{Separates, ForcedLeads, coneOf, none-few, fewest, found-separates, found-count, found-smallest, found-cone, collect-asked}
-use Rattle.mincut.specs.Answer.{collected-leaves, collected-count}
-use Rattle.limits.specs.Limits.{mostCopies}
-use Rattle.query.specs.Question.{labelIn, AtRest, Asks, Separated, Answers, Takes, Written}
-use Rattle.query.specs.Forcing.{wires, target, Target, LowOf, Inner, Ground, Growing, Refuted, Refutes, Settled, AllSettled, ForceAsked, Listed}
-use Rattle.query.specs.Forcing.{Unmarked, feeder, feeds-pin, copiesOf, copies-in}
-
--- the sizes and pins of C
-abbrev pub wiresOf : Circuit → Circuit
-wiresOf C = wires (C .inputs) (C .gates) (C .width) (C .border) (C .pins) (C .sources) (C .counts)
-
--- C with other marks
-abbrev pub marked : Circuit → List ℕ → Circuit
-marked C marks = circuit (C .inputs) (C .gates) (C .width) (C .border) (C .pins) (C .first) (C .sources) (C .counts) (C .heads) (C .nexts) marks
+use Rattle.mincut.specs.Bridge.{Holds, decode}
+use Rattle.mincut.specs.Answer.{Separates, ForcedLeads, coneOf, none-few, fewest, found-separates, found-count, found-smallest, found-cone, collect-asked, collected-leaves, collected-count}
+use Rattle.forcing.specs.Forcing.{wiresOf, Inner, Target, target, LowOf, Refuted, Ground, Growing, AllSettled, ForceAsked, Unmarked}
+use Rattle.forcing.specs.AddLaws.{copiesOf, copies-in}
+use Rattle.forcing.specs.GrowLaws.{part-length, part-at}
+use Rattle.forcing.specs.ForcedLaws.{in-copies, forced-set, forced-leads}
+use Rattle.query.specs.Question.{AtRest, Asks, Separated, Decides, Takes, Written}
+use Rattle.query.specs.Separating.{marked, LeavesAsked, LeavesTold}
 
 pub holds-wires : {C : Circuit} {N : Net} → Holds C N → Holds (wiresOf C) N
 holds-wires H = record { inputs = H .inputs; gates = H .gates; lists = H .lists }
 
 pub holds-marked : {C : Circuit} {N : Net} (marks : List ℕ) → Holds C N → Holds (marked C marks) N
 holds-marked marks H = record { inputs = H .inputs; gates = H .gates; lists = H .lists }
-
--- what is asked and answered does not depend on the marks
-pub asks-marked : {C : Circuit} {ls : List ℤ} {φ k g : ℕ} (marks : List ℕ) → Asks C ls φ k g → Asks (marked C marks) ls φ k g
-asks-marked marks q = record { labels = q .labels; small = q .small; shift = q .shift; gate = q .gate; least = q .least; copies = q .copies }
-
-pub answers-marked : {C : Circuit} {ls : List ℤ} {φ k g : ℕ} {h : ℤ} {r : ℕ} (marks : List ℕ) → Answers C ls φ k g h r → Answers (marked C marks) ls φ k g h r
-answers-marked {C} marks a = record { none = λ N H. a .none N (holds-marked (C .inside) H); some = λ N H. a .some N (holds-marked (C .inside) H) }
 
 pub layout-marked : {C : Circuit} {marks : List ℕ} → Layout C → total C ≤ length marks → ((x : ℕ) → 0 < getD marks x 0 → Inner (wiresOf C) x) → Layout (marked C marks)
 layout-marked L p f = record {
@@ -71,27 +55,9 @@ layout-marked L p f = record {
 chains-marked : {C : Circuit} (marks : List ℕ) → Chains C → Chains (marked C marks)
 chains-marked marks c = record { nodes = c .nodes; places = c .places; low = c .low; falls = c .falls; all = c .all }
 
--- r is what `min_cut` told of a table that is cleared by now.
-pub record CutSeen (C : Circuit) (k r : ℕ) : Type 0 where
-  pub table : List ℕ
-  pub list : List ℕ
-  pub room : length table ≡ total C
-  pub told : CutTold C table list k r
-
 -- ---- leaves, where there are few
-abbrev pub LeavesAsked : ℕ → ℕ → ℕ → List ℕ → List ℕ → List ℕ → List ℕ → Type 0
-LeavesAsked width k r t l nodes backs = r ≤ k → CollectAsked width t l nodes backs
-
-abbrev pub LeavesTold : ℕ → ℕ → ℕ → List ℕ → List ℕ → List ℕ → Type 0
-LeavesTold width k r t nodes backs = r ≤ k → (m : ℕ) × CollectTold width t nodes backs m
-
 pub takes-marked : {C : Circuit} {k : ℕ} {nodes backs : List ℕ} (marks : List ℕ) → Takes C k nodes backs → Takes (marked C marks) k nodes backs
 takes-marked marks a = record { net = a .net; holds = holds-marked marks (a .holds); loopless = a .loopless; atNodes = a .atNodes; atBacks = a .atBacks }
-
--- r and the leaves are what a table told that is cleared by now.
-pub record LeavesSeen (C : Circuit) (k : ℕ) (nodes backs : List ℕ) (r : ℕ) : Type 0 where
-  pub seen : CutSeen C k r
-  pub collected : LeavesTold (C .width) k r (seen .table) nodes backs
 
 pub leaves-asked : {C : Circuit} {t l nodes backs : List ℕ} {k r : ℕ} → Layout C → Takes C k nodes backs → length t ≡ total C → CutTold C t l k r
     → LeavesAsked (C .width) k r t l nodes backs
@@ -137,38 +103,12 @@ module _ {C : Circuit} {t l members : List ℕ} {ls : List ℤ} {φ k g : ℕ} (
   k-small = omega (arith, q .copies, mul-le-mul-left {m = 1} {n = C .gates} k (omega (arith, q .gate)))
 
 -- ---- after `force`
-module _ {W : Circuit} {T : Target} {most : ℕ} {marks members : List ℕ} {m : ℕ} (G : Growing W T most marks members m) (limit : most ≤ mostCopies) where
-  pub part-inside : m ≤ length members
-  part-inside = omega (arith, G .few, G .space, limit)
-
-  pub part-length : length (take m members) ≡ m
-  part-length = length-take-le m members part-inside
-
-  pub part-at : (i : ℕ) → i < m → getD (take m members) i 0 ≡ getD members i 0
-  part-at i h = getD-take m members i 0 h
-
-  pub listed-of : Listed marks (take m members) 0
-  listed-of = record {
-    inside = λ i h. let j : i < m = omega (arith, h, part-length) in omega (arith, part-at i j, G .inner (getD members i 0) (G .listed i j) .below, G .places);
-    rest = λ x h. let r = G .all x h in (r .0, omega arith, omega (arith, r .1, part-length), part-at (r .0) (r .1) ∙ r .2);
-  }
-
-  members-of : (C : Circuit) → Members (marked C marks) (take m members)
-  members-of C = record {
-    forced = λ i h. let j : i < m = omega (arith, h, part-length) in subst (λ (x : ℕ). 0 < getD marks x 0) (sym (part-at i j)) (G .listed i j);
-    all = λ x h. let r = G .all x h in (r .0, omega (arith, r .1, part-length), part-at (r .0) (r .1) ∙ r .2);
-  }
-
--- the same where every cut is refuted
-module _ {W : Circuit} {T : Target} {most : ℕ} {marks members : List ℕ} {r : ℕ} (f : Refutes W T most marks members r) (limit : most ≤ mostCopies) where
-  excess : f .count ≡ r - most
-  excess = omega (arith, f .sum)
-
-  pub excess-inside : r - most ≤ length members
-  excess-inside = omega (arith, excess, part-inside (f .growing) limit)
-
-  pub excess-listed : Listed marks (take (r - most) members) 0
-  excess-listed = subst (λ (n : ℕ). Listed marks (take n members) 0) excess (listed-of (f .growing) limit)
+members-of : {W : Circuit} {T : Target} {most : ℕ} {marks members : List ℕ} {m : ℕ} → Growing W T most marks members m → most ≤ mostCopies
+    → (C : Circuit) → Members (marked C marks) (take m members)
+members-of {marks = marks} {m = m} G limit C = record {
+  forced = λ i h. let j : i < m = omega (arith, h, part-length G limit) in subst (λ (x : ℕ). 0 < getD marks x 0) (sym (part-at G limit i j)) (G .listed i j);
+  all = λ x h. let r = G .all x h in (r .0, omega (arith, r .1, part-length G limit), part-at G limit (r .0) (r .1) ∙ r .2);
+}
 
 pub cut-asked : {C : Circuit} {T : Target} {most : ℕ} {marks members : List ℕ} {m : ℕ} {t l members₀ : List ℕ} → AtRest C t l members₀
     → Growing (wiresOf C) T most marks members m → most ≤ mostCopies
@@ -196,45 +136,11 @@ rest-again {C} {marks = marks} a p z q s c f = record {
   space = omega (arith, f, a .space);
 }
 
--- ---- the forced set of a net
-module _ {W : Circuit} {T : Target} {most most′ : ℕ} {marks members : List ℕ} {m : ℕ} {N : Net} (B : Ground W (T .labels) (T .phi) most′)
-    (G : Growing W T most marks members m) (closed : (x : ℕ) → 0 < getD marks x 0 → AllSettled W T x marks) (H : Holds W N) where
-  pub in-copies : (x : ℕ) → 0 < getD marks x 0 → decode W x ∈ copiesOf G
-  unfolding copiesOf
-  in-copies x h =
-      let r = G .all x h in
-      in-equal (ap (decode W) (sym (r .2))) (in-map (λ (a : ℕ). decode W (getD members a 0)) (in-upTo (r .1)))
-
-  complete : {c : Copy} → Forced N (T .root) (LowOf T) c → (x : ℕ) × (0 < getD marks x 0) × (c ≡ decode W x)
-  complete {c} (Forced.root e) =
-      (T .root * W .width, G .root, e ∙ (sym (decode-encode W (copy (T .root) 0) (wide-positive (B .layout))) ∙ ap (decode W) (omega arith)))
-  complete {c} (Forced.behind x f h n) = go (complete f)
-    where
-      at : (z j : ℕ) → feeder W z j ≡ encode W c → c .back < W .width → Settled W T marks z j → (y : ℕ) × (0 < getD marks y 0) × (c ≡ decode W y)
-      at z j e b (inl l) = absurd (n (subst (LowOf T) (ap (decode W) e ∙ decode-encode W c b) l))
-      at z j e b (inr i) = (feeder W z j, i, sym (ap (decode W) e ∙ decode-encode W c b))
-
-      go : ((z : ℕ) × (0 < getD marks z 0) × (x ≡ decode W z)) → (y : ℕ) × (0 < getD marks y 0) × (c ≡ decode W y)
-      go (z, p, e) =
-          let r = feeds-pin H B (G .inner z p) (subst (Feeds N c) e h) in
-          at z (r .0) (r .2) (r .3) (closed z p (r .0) (r .1))
-
-  -- What is marked is the forced set.
-  pub forced-set : ForcedSet N (T .root) (LowOf T) (copiesOf G)
-  forced-set = record {
-    sound = λ c i. let r = copies-in G i in subst (Forced N (T .root) (LowOf T)) (sym (r .2)) (G .forced (r .0) (r .1) N H);
-    complete = λ c f. let r = complete f in in-equal (r .2) (in-copies (r .0) (r .1));
-  }
-
-  pub forced-leads : {c : Copy} → Forced N (T .root) (LowOf T) c → Leads N (copiesOf G) (copy (T .root) 0) c
-  forced-leads (Forced.root e) = Leads.stop e
-  forced-leads (Forced.behind x f h n) = Leads.step x (forced-set .complete x f) h (forced-leads f)
-
 -- ---- the answer
 -- every cut is refuted
-pub answers-none : {C : Circuit} {ls : List ℤ} {φ k g : ℕ} {h : ℤ} → Refuted (wiresOf C) (target ls φ (C .inputs + g) h) (k * C .gates)
-    → Answers C ls φ k g h (k + 1)
-answers-none {k} f = record {
+pub decides-none : {C : Circuit} {ls : List ℤ} {φ k g : ℕ} {h : ℤ} → Refuted (wiresOf C) (target ls φ (C .inputs + g) h) (k * C .gates)
+    → Decides C ls φ k g h (k + 1)
+decides-none {k} f = record {
   none = λ N H R loopless b p. f N (holds-wires H) R k refl b;
   some = λ N H R loopless b p. absurd (omega (arith, p));
 }
@@ -279,19 +185,22 @@ module _ {C : Circuit} {ls : List ℤ} {φ k g : ℕ} {h : ℤ} {t₀ l₀ membe
 
       -- with its leaves, listed in whatever way
       separated-by : {L : List Copy} → IsLeaves N (coneOf (marked C marks) t) L
-          → (s : Separated N (C .inputs + g) φ (labelIn ls) h (C .border) k r) × (s .leaves ≡ L)
+          → (s : Separated N (C .inputs + g) φ (labelIn ls) h (C .border) k r) × (s .parted .leaves ≡ L)
       separated-by {L} w = (
         record {
-          set = copiesOf G;
-          cone = coneOf (marked C marks) t;
-          leaves = L;
-          forced = set-of;
-          separation = record {
-            isCone = found-cone marked-layout (holds-marked marks H) loopless room o few leads-of;
-            contains = λ c i. let z = copies-in G i in in-equal (z .2) (found .forced (z .0) (z .1));
-            near = found .border;
+          parted = record {
+            set = copiesOf G;
+            cone = coneOf (marked C marks) t;
+            leaves = L;
+            forced = set-of;
+            separation = record {
+              isCone = found-cone marked-layout (holds-marked marks H) loopless room o few leads-of;
+              contains = λ c i. let z = copies-in G i in in-equal (z .2) (found .forced (z .0) (z .1));
+              near = found .border;
+            };
+            isLeaves = w;
+            few = omega (arith, found-count marked-layout (holds-marked marks H) loopless room o few w, few);
           };
-          isLeaves = w;
           count = found-count marked-layout (holds-marked marks H) loopless room o few w;
           fewest = λ D M s v. fewest marked-layout (holds-marked marks H) loopless room o (separates s) v;
           smallest = λ D M s v e. found-smallest marked-layout (holds-marked marks H) loopless room o few (separates s) v (omega (arith, e));
@@ -300,10 +209,10 @@ module _ {C : Circuit} {ls : List ℤ} {φ k g : ℕ} {h : ℤ} {t₀ l₀ membe
       )
 
   -- **What the result of `min_cut` on the forced set means.**
-  pub answers-found : Answers C ls φ k g h r
-  answers-found = record {
+  pub decides-found : Decides C ls φ k g h r
+  decides-found = record {
     none = none-of;
-    some = λ N H R loopless b p. separated-by N H R loopless b p (leavesOf N (coneOf (marked C marks) t) .1) .0;
+    some = λ N H R loopless b p. separated-by N H R loopless b p (leavesOf N (coneOf (marked C marks) t) .1) .0 .parted;
   }
 
   -- **What the leaves written are.**

@@ -2,27 +2,23 @@
 use mathlib.Core.Path.{_≡_}
 use mathlib.Core.List.{List}
 use Prim.Native.Nat.{ℕ, _+_, _*_, _≤_, _<_}
-use lib.IntN.{ℤ, pos}
+use lib.IntN.{ℤ}
 use lib.ListN.{length, getD}
 use Rattle.limits.specs.Limits.{mostCopies}
 use Rattle.sequences.specs.Member.{Within}
 use Rattle.netlist.specs.Net.{Net}
 use Rattle.netlist.specs.Checks.{Loopless}
 use Rattle.netlist.specs.Copies.{Copy, IsLeaves}
+use Rattle.netlist.specs.Arrays.{copiesFrom}
 use Rattle.cones.specs.Ranks.{Ranked}
 use Rattle.cones.specs.Reach.{reachOf}
 use Rattle.labelling.specs.Labels.{Low, LowCut}
 use Rattle.labelling.specs.Forced.{ForcedSet, Separation}
-use Rattle.signed.specs.Range.{Small, room}
+use Rattle.signed.specs.Range.{Small, room, labelIn}
 use Rattle.circuit.specs.Circuit.{Circuit, Layout, total}
 use Rattle.circuit.specs.Chains.{Chains}
 use Rattle.mincut.specs.Rounds.{Cleared}
-use Rattle.netlist.specs.Arrays.{copiesFrom}
 use Rattle.mincut.specs.Bridge.{Holds}
-
--- labels kept in an array
-abbrev pub labelIn : List ℤ → ℕ → ℤ
-labelIn ls u = getD ls u (pos 0)
 
 -- The engine at rest: arrays laid out, chains linked, no copy forced, no flow and no mark.
 pub record AtRest (C : Circuit) (t l members : List ℕ) : Type 0 where
@@ -43,23 +39,6 @@ pub record Asks (C : Circuit) (ls : List ℤ) (φ k g : ℕ) : Type 0 where
   pub least : 1 ≤ k
   pub copies : k * C .gates ≤ mostCopies
 
--- A separation of the forced set with fewest leaves and smallest cone.
-pub record Separated (N : Net) (v φ : ℕ) (lab : ℕ → ℤ) (h : ℤ) (border k r : ℕ) : Type 0 where
-  pub set : List Copy
-  pub cone : List Copy
-  pub leaves : List Copy
-  pub forced : ForcedSet N v (Low φ lab h) set
-  pub separation : Separation N v set border cone
-  pub isLeaves : IsLeaves N cone leaves
-  pub count : length leaves ≡ r
-  pub fewest : (D L : List Copy) → Separation N v set (k * reachOf N) D → IsLeaves N D L → r ≤ length L
-  pub smallest : (D L : List Copy) → Separation N v set (k * reachOf N) D → IsLeaves N D L → length L ≡ r → Within cone D
-
--- What an answer r means, for any net with this wiring whose cuts the border leaves room for: above k, gate v has no k-cut so low; else a separation with r leaves.
-pub record Answers (C : Circuit) (ls : List ℤ) (φ k g : ℕ) (h : ℤ) (r : ℕ) : Type 0 where
-  pub none : (N : Net) → Holds C N → Ranked N → Loopless N → k * reachOf N ≤ C .border → k < r → ¬ LowCut N k φ (labelIn ls) (C .inputs + g) h
-  pub some : (N : Net) → Holds C N → Ranked N → Loopless N → k * reachOf N ≤ C .border → r ≤ k → Separated N (C .inputs + g) φ (labelIn ls) h (C .border) k r
-
 -- A separation of the forced set with at most k leaves.
 pub record Parted (N : Net) (v φ : ℕ) (lab : ℕ → ℤ) (h : ℤ) (border k : ℕ) : Type 0 where
   pub set : List Copy
@@ -70,7 +49,14 @@ pub record Parted (N : Net) (v φ : ℕ) (lab : ℕ → ℤ) (h : ℤ) (border k
   pub isLeaves : IsLeaves N cone leaves
   pub few : length leaves ≤ k
 
--- What an answer r to the question whether there is one means: above k, gate v has no k-cut so low; else there is one.
+-- One with r leaves; none has fewer, and its cone lies inside that of each with as few.
+pub record Separated (N : Net) (v φ : ℕ) (lab : ℕ → ℤ) (h : ℤ) (border k r : ℕ) : Type 0 where
+  pub parted : Parted N v φ lab h border k
+  pub count : length (parted .leaves) ≡ r
+  pub fewest : (D L : List Copy) → Separation N v (parted .set) (k * reachOf N) D → IsLeaves N D L → r ≤ length L
+  pub smallest : (D L : List Copy) → Separation N v (parted .set) (k * reachOf N) D → IsLeaves N D L → length L ≡ r → Within (parted .cone) D
+
+-- What an answer r means, for any net with this wiring whose cuts the border leaves room for: above k, gate g has no k-cut so low; else there is a separation.
 pub record Decides (C : Circuit) (ls : List ℤ) (φ k g : ℕ) (h : ℤ) (r : ℕ) : Type 0 where
   pub none : (N : Net) → Holds C N → Ranked N → Loopless N → k * reachOf N ≤ C .border → k < r → ¬ LowCut N k φ (labelIn ls) (C .inputs + g) h
   pub some : (N : Net) → Holds C N → Ranked N → Loopless N → k * reachOf N ≤ C .border → r ≤ k → Parted N (C .inputs + g) φ (labelIn ls) h (C .border) k
@@ -83,8 +69,8 @@ pub record Takes (C : Circuit) (k : ℕ) (nodes backs : List ℕ) : Type 0 where
   pub atNodes : k ≤ length nodes
   pub atBacks : k ≤ length backs
 
--- The leaves written to the first r places of two arrays, by node and d, where r is at most k: those of a separation that the answer means.
+-- The leaves written to the first r places of two arrays, by node and d, where r is at most k: those of a separation with fewest leaves and smallest cone.
 pub record Written (C : Circuit) (ls : List ℤ) (φ k g : ℕ) (h : ℤ) (nodes backs : List ℕ) (r : ℕ) : Type 0 where
   pub leaves :
       (N : Net) → Holds C N → Ranked N → Loopless N → k * reachOf N ≤ C .border → r ≤ k
-      → (w : Separated N (C .inputs + g) φ (labelIn ls) h (C .border) k r) × (w .leaves ≡ copiesFrom nodes backs 0 r)
+      → (w : Separated N (C .inputs + g) φ (labelIn ls) h (C .border) k r) × (w .parted .leaves ≡ copiesFrom nodes backs 0 r)

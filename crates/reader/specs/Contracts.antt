@@ -2,11 +2,11 @@
 use mathlib.Core.Path.{_≡_}
 use mathlib.Core.List.{List, [], _∷_, _++_}
 use Prim.Native.Nat.{ℕ, _+_, _*_, _≤_, _<_}
-use lib.ListN.{length, getD, drop, set}
-use Rattle.limits.specs.Limits.{mostPlaces, mostInputs, mostGates, mostOutputs}
+use lib.ListN.{getD, drop, set}
+use Rattle.limits.specs.Limits.{mostInputs, mostGates, mostOutputs}
+use Rattle.sequences.specs.Stored.{Stored}
 use Rattle.netlist.specs.Net.{Gate, Pin}
 use Rattle.netlist.specs.Arrays.{pinsIn, gatesIn, stride}
-use Rattle.netlist.specs.ArrayLaws.{pinAt}
 use Rattle.netbytes.specs.Reading.{times}
 use Rattle.netbytes.specs.Walk.{netReader, gateReader, outputReader}
 use Rattle.netbytes.specs.Stages.{fromSizes}
@@ -60,14 +60,12 @@ pub record Same (w z : Wiring) : Type 0 where
   pub outputs : z .outputs ≡ w .outputs
 
 -- the first j pins of gate g are stored
-pub record PinsStored (w : Wiring) (g : ℕ) (sources counts : List ℕ) (j : ℕ) (z : Wiring) : Type 0 where
+pub record PinsStored (w : Wiring) (g : ℕ) (S C : List ℕ) (j : ℕ) (z : Wiring) : Type 0 where
   pub same : Same w z
   pub pins : z .pins ≡ w .pins
   pub tables : z .tables ≡ w .tables
-  pub here : (i : ℕ) → i < j → pinAt (z .sources) (z .counts) (stride * g + i) ≡ pinAt sources counts i
-  pub below : (i : ℕ) → i < stride * g → pinAt (z .sources) (z .counts) i ≡ pinAt (w .sources) (w .counts) i
-  pub sources-long : length (z .sources) ≡ mostPlaces
-  pub counts-long : length (z .counts) ≡ mostPlaces
+  pub sources : Stored (w .sources) (stride * g) S j (z .sources)
+  pub counts : Stored (w .counts) (stride * g) C j (z .counts)
 
 -- none of the first g gates has more pins than there are places
 abbrev pub narrow : Wiring → ℕ → Type 0

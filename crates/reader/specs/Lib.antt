@@ -3,3 +3,5 @@ pub mod Contracts
 pub mod StoreLaws
 pub mod NetLaws
 pub mod WalkFacts
+pub mod Lengths
+pub mod ReadWires

@@ -4,6 +4,7 @@ use mathlib.Core.List.{List, []}
 use Prim.Native.Nat.{ℕ, _+_, _≤_, _<_}
 use native.Mathlib.Omega.{arith}
 use lib.ListN.{length, drop}
+use Rattle.limits.specs.Limits.{mostGates, mostInputs, mostOutputs}
 use Rattle.netlist.specs.Net.{Gate}
 use Rattle.netlist.specs.Arrays.{netIn, gatesIn}
 use Rattle.netbytes.specs.Reading.{andThen, times, atEnd, between, got, refused}
@@ -11,12 +12,11 @@ use Rattle.netbytes.specs.Walk.{netReader, outputReader}
 use Rattle.netbytes.specs.Readers.{then-goes, then-stops, byte-got}
 use Rattle.netbytes.specs.Sound.{between-true}
 use Rattle.netbytes.specs.Stages.{fromInputs, fromGates, fromSizes, fromGateList, fromOutputList, net-stages}
-use Rattle.fields.specs.declared.Field.the-variants.{Inputs, Gates, Outputs}
-use Rattle.fields.specs.declared.Verdict.{Verdict}
+use Rattle.fields.specs.declared.Field.the-variants.{Net}
+use Rattle.fields.specs.declared.NetField.the-variants.{Inputs, Gates, Outputs}
 use Rattle.fields.specs.declared.Verdict.the-variants.{Read, Refused}
 use Rattle.fields.specs.Fields.{fieldByte}
-use Rattle.fields.specs.Verdicts.{onward}
-use Rattle.fields.specs.FieldLaws.{went, stopped, end-done, end-over}
+use Rattle.fields.specs.FieldLaws.{went, stopped, onward-stopping, end-done, end-over}
 use Rattle.reader.specs.declared.Wiring.{Wiring}
 use Rattle.reader.specs.declared.Sizes.{Sizes}
 use Rattle.reader.specs.declared.Part.{Part}
@@ -31,33 +31,33 @@ module _ (s : List ℕ) where
       let g = v .2 in
       let o = v .3 in
       record {
-        result = λ k. e k ∙ ap (λ (x : Verdict). onward x (fromSizes k (r .inputs) (r .gates) (r .outputs) (drop (r .at) s))) (sym (v .0));
+        result = λ k. onward-stopping (fromSizes k (r .inputs) (r .gates) (r .outputs) (drop (r .at) s)) (e k) (v .0);
         inputs = omega arith;
         gates = omega arith;
         outputs = omega arith;
       }
 
-  pub inputs-stop : {n : ℕ} (r : Sizes) → fieldByte Inputs 0 s ≡ refused n
+  pub inputs-stop : {n : ℕ} (r : Sizes) → fieldByte (Net Inputs) 0 s ≡ refused n
       → (r .verdict ≡ Refused n) × (r .inputs ≡ 0) × (r .gates ≡ 0) × (r .outputs ≡ 0) → SizesRead s r
   inputs-stop r e v = stop-sizes r (λ k. net-stages k s ∙ then-stops (fromInputs k) e) v
 
-  module _ (i : ℕ) (t : List ℕ) (e : fieldByte Inputs 0 s ≡ got i t) where
-    pub gates-number-stops : {n : ℕ} (r : Sizes) → fieldByte Gates 0 t ≡ refused n
+  module _ (i : ℕ) (t : List ℕ) (e : fieldByte (Net Inputs) 0 s ≡ got i t) where
+    pub gates-number-stops : {n : ℕ} (r : Sizes) → fieldByte (Net Gates) 0 t ≡ refused n
         → (r .verdict ≡ Refused n) × (r .inputs ≡ 0) × (r .gates ≡ 0) × (r .outputs ≡ 0) → SizesRead s r
     gates-number-stops r f v = stop-sizes r (λ k. net-stages k s ∙ then-goes (fromInputs k) e ∙ then-stops (fromGates k i) f) v
 
-    module _ (g : ℕ) (u : List ℕ) (f : fieldByte Gates 0 t ≡ got g u) where
-      pub outputs-number-stops : {n : ℕ} (r : Sizes) → fieldByte Outputs 0 u ≡ refused n
+    module _ (g : ℕ) (u : List ℕ) (f : fieldByte (Net Gates) 0 t ≡ got g u) where
+      pub outputs-number-stops : {n : ℕ} (r : Sizes) → fieldByte (Net Outputs) 0 u ≡ refused n
           → (r .verdict ≡ Refused n) × (r .inputs ≡ 0) × (r .gates ≡ 0) × (r .outputs ≡ 0) → SizesRead s r
       outputs-number-stops r h v =
           stop-sizes r (λ k. net-stages k s ∙ then-goes (fromInputs k) e ∙ then-goes (fromGates k i) f ∙ then-stops (fromSizes k i g) h) v
 
-      pub sizes-go : (o at : ℕ) → fieldByte Outputs 0 u ≡ got o (drop at s) → SizesRead s (record { verdict = Read; at = at; inputs = i; gates = g; outputs = o })
+      pub sizes-go : (o at : ℕ) → fieldByte (Net Outputs) 0 u ≡ got o (drop at s) → SizesRead s (record { verdict = Read; at = at; inputs = i; gates = g; outputs = o })
       sizes-go o at h = record {
         result = λ k. net-stages k s ∙ then-goes (fromInputs k) e ∙ then-goes (fromGates k i) f ∙ then-goes (fromSizes k i g) h;
-        inputs = between-true 1 16 i (byte-got 4 5 (between 1 16) s i t e) .1;
-        gates = between-true 1 32 g (byte-got 4 5 (between 1 32) t g u f) .1;
-        outputs = between-true 1 16 o (byte-got 4 5 (between 1 16) u o (drop at s) h) .1;
+        inputs = between-true 1 mostInputs i (byte-got 4 5 (between 1 mostInputs) s i t e) .1;
+        gates = between-true 1 mostGates g (byte-got 4 5 (between 1 mostGates) t g u f) .1;
+        outputs = between-true 1 mostOutputs o (byte-got 4 5 (between 1 mostOutputs) u o (drop at s) h) .1;
       }
 
 -- the arrays have the three numbers

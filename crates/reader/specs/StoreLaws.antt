@@ -1,26 +1,26 @@
 -- Laws of storing gates and outputs in the arrays, one after the other.
 use mathlib.Core.Path.{_≡_, refl, sym, ap, ap₂, _∙_}
 use mathlib.Core.List.{List, [], _∷_, _++_, append-nil}
-use Prim.Native.Nat.{ℕ, zero, suc, _+_, _-_, _*_, _≤_, _<_, zero-le, suc-le-suc}
-use native.Mathlib.Nat.{add-zero, add-suc, suc-add, zero-add}
-use native.Mathlib.Numerals.{add-one}
+use Prim.Native.Nat.{ℕ, _+_, _-_, _*_, _≤_, _<_, zero-le}
+use native.Mathlib.Nat.{zero-add}
 use native.Mathlib.Omega.{arith}
 use lib.ListN.{length, getD, drop, set, length-set}
 use lib.Seq.{getD-set-same, getD-set-other}
 use borrow.Author.Count.{below-more}
-use Rattle.limits.specs.Limits.{mostPlaces, mostGates, mostPins, mostOutputs}
+use Rattle.limits.specs.Limits.{mostGates, mostPins, mostOutputs}
+use Rattle.sequences.specs.Listed.{listed-next, listed-same, listed-first, listed-more}
+use Rattle.sequences.specs.StoredLaws.{stored-none, stored-one, set-here, set-there}
 use Rattle.netlist.specs.Net.{Gate, Pin}
 use Rattle.netlist.specs.Arrays.{pinsIn, gatesIn, stride}
-use Rattle.netlist.specs.ArrayLaws.{pinAt, gateAt}
+use Rattle.netlist.specs.ArrayLaws.{pinAt, gateAt, pins-listed, gates-listed}
 use Rattle.netbytes.specs.Reading.{times, got, refused}
 use Rattle.netbytes.specs.Walk.{gateReader, outputReader}
-use Rattle.netbytes.specs.Readers.{timesAfter, turn-none, turn-one, turn-stops, turn-ends}
+use Rattle.netbytes.specs.Readers.{behind, turn-none, turn-one, turn-stops, turn-ends}
 use Rattle.fields.specs.declared.Verdict.{Verdict}
 use Rattle.fields.specs.declared.Verdict.the-variants.{Read, Refused}
 use Rattle.fields.specs.Verdicts.{outcome}
 use Rattle.fields.specs.FieldLaws.{went, stopped}
 use Rattle.rows.specs.declared.GateRow.{GateRow}
-use Rattle.rows.specs.RowLaws.{pinsIn-same, pinsIn-more}
 use Rattle.rows.specs.Contracts.{rowGate}
 use Rattle.reader.specs.declared.Wiring.{Wiring}
 use Rattle.reader.specs.Contracts.{withPin, withOutput, gatesOf, outputsOf, Same, PinsStored, narrow, GateStored, Kept}
@@ -32,55 +32,24 @@ pub same-trans : {w y z : Wiring} → Same w y → Same y z → Same w z
 same-trans a b = record { inputs = b .inputs ∙ a .inputs; gates = b .gates ∙ a .gates; outputs = b .outputs ∙ a .outputs }
 
 module _ (w : Wiring) (g : ℕ) (S C : List ℕ) where
-  pub pins-none : length (w .sources) ≡ mostPlaces → length (w .counts) ≡ mostPlaces → PinsStored w g S C 0 w
-  pins-none ls lc = record {
+  pub pins-none : PinsStored w g S C 0 w
+  pins-none = record {
     same = same-refl w;
     pins = refl;
     tables = refl;
-    here = λ i h. absurd (omega arith);
-    below = λ i h. refl;
-    sources-long = ls;
-    counts-long = lc;
+    sources = stored-none (w .sources) (stride * g) S;
+    counts = stored-none (w .counts) (stride * g) C;
   }
 
-  pub pins-one : (j : ℕ) (z : Wiring) → PinsStored w g S C j z → g < mostGates → j < mostPins → PinsStored w g S C (j + 1) (withPin z (6 * g + j) (getD S j 0) (getD C j 0))
-  pins-one j z so hg hj =
-      let ls = so .sources-long in
-      let lc = so .counts-long in
-      let at : ℕ = 6 * g + j in
-      let s : List ℕ = set (z .sources) at (getD S j 0) in
-      let c : List ℕ = set (z .counts) at (getD C j 0) in
-      let other : (i : ℕ) → (i ≡ at → ⊥) → pinAt s c i ≡ pinAt (z .sources) (z .counts) i =
-      λ i n. ap₂ (λ (a b : ℕ). record { src = a; count = b }) (getD-set-other (z .sources) at i (getD S j 0) 0 n) (getD-set-other (z .counts) at i (getD C j 0) 0 n) in
-      let old : (i : ℕ) → i < j → pinAt s c (stride * g + i) ≡ pinAt S C i = λ i h. other (stride * g + i) (omega arith) ∙ so .here i h in
-      let new : pinAt s c (stride * g + j) ≡ pinAt S C j =
-      ap₂ (λ (a b : ℕ). record { src = a; count = b }) (getD-set-same (z .sources) at (getD S j 0) 0 (omega arith)) (getD-set-same (z .counts) at (getD C j 0) 0 (omega arith)) in
-      record {
-        same = record { inputs = so .same .inputs; gates = so .same .gates; outputs = so .same .outputs };
-        pins = so .pins;
-        tables = so .tables;
-        here = below-more _ _ old new;
-        below = λ i h. other i (omega arith) ∙ so .below i h;
-        sources-long = length-set (z .sources) at (getD S j 0) ∙ ls;
-        counts-long = length-set (z .counts) at (getD C j 0) ∙ lc;
-      }
-
-pub gatesIn-snoc : (ps s c ts : List ℕ) (g n : ℕ) → gatesIn ps s c ts g (suc n) ≡ gatesIn ps s c ts g n ++ (gateAt ps s c ts (g + n) ∷ [])
-unfolding gatesIn
-gatesIn-snoc ps s c ts g zero = ap (λ (i : ℕ). gateAt ps s c ts i ∷ []) (sym (add-zero g))
-gatesIn-snoc ps s c ts g (suc n) =
-    ap (λ (l : List Gate). gateAt ps s c ts g ∷ l) (gatesIn-snoc ps s c ts (suc g) n
-    ∙ ap (λ (i : ℕ). gatesIn ps s c ts (suc g) n ++ (gateAt ps s c ts i ∷ [])) (suc-add g n ∙ sym (add-suc g n)))
-
-pub gatesIn-same : (ps s c ts ps' s' c' ts' : List ℕ) (g n : ℕ) → ((i : ℕ) → i < n → gateAt ps s c ts (g + i) ≡ gateAt ps' s' c' ts' (g + i))
-    → gatesIn ps s c ts g n ≡ gatesIn ps' s' c' ts' g n
-unfolding gatesIn
-gatesIn-same ps s c ts ps' s' c' ts' g zero h = refl
-gatesIn-same ps s c ts ps' s' c' ts' g (suc n) h =
-    ap₂ (λ (x : Gate) (l : List Gate). x ∷ l)
-    (ap (gateAt ps s c ts) (sym (add-zero g)) ∙ h zero (suc-le-suc zero-le) ∙ ap (gateAt ps' s' c' ts') (add-zero g))
-    (gatesIn-same ps s c ts ps' s' c' ts' (suc g) n
-    (λ i l. ap (gateAt ps s c ts) (suc-add g i ∙ sym (add-suc g i)) ∙ h (suc i) (suc-le-suc l) ∙ ap (gateAt ps' s' c' ts') (add-suc g i ∙ sym (suc-add g i))))
+  pub pins-one : (j : ℕ) (z : Wiring) → PinsStored w g S C j z → stride * g + j < length (w .sources) → stride * g + j < length (w .counts)
+      → PinsStored w g S C (j + 1) (withPin z (stride * g + j) (getD S j 0) (getD C j 0))
+  pins-one j z so hs hc = record {
+    same = record { inputs = so .same .inputs; gates = so .same .gates; outputs = so .same .outputs };
+    pins = so .pins;
+    tables = so .tables;
+    sources = stored-one (w .sources) (stride * g) S j (z .sources) (so .sources) hs;
+    counts = stored-one (w .counts) (stride * g) C j (z .counts) (so .counts) hc;
+  }
 
 -- the arrays with the number of pins and the table of gate g
 abbrev pub withGate : Wiring → ℕ → ℕ → ℕ → Wiring
@@ -96,7 +65,7 @@ withGate w g pins table = record {
   «out_counts» = w .«out_counts»;
 }
 
-module _ (w : Wiring) (g : ℕ) (row : GateRow) (z : Wiring) (so : PinsStored w g (row .sources) (row .counts) 6 z)
+module _ (w : Wiring) (g : ℕ) (row : GateRow) (z : Wiring) (so : PinsStored w g (row .sources) (row .counts) mostPins z)
     (hg : g < mostGates) (six : row .pins ≤ mostPins) (few : narrow w g) (lp : length (w .pins) ≡ mostGates) (lt : length (w .tables) ≡ mostGates) where
   ps : List ℕ
   ps = set (z .pins) g (row .pins)
@@ -106,30 +75,27 @@ module _ (w : Wiring) (g : ℕ) (row : GateRow) (z : Wiring) (so : PinsStored w 
 
   new-pins : getD ps g 0 ≡ row .pins
   unfolding ps
-  new-pins =
-      let e = ap length (so .pins) in
-      getD-set-same (z .pins) g (row .pins) 0 (omega arith)
+  new-pins = set-here (z .pins) (w .pins) g (row .pins) 0 (so .pins) (omega arith)
 
   new-table : getD ts g 0 ≡ row .table
   unfolding ts
-  new-table =
-      let e = ap length (so .tables) in
-      getD-set-same (z .tables) g (row .table) 0 (omega arith)
+  new-table = set-here (z .tables) (w .tables) g (row .table) 0 (so .tables) (omega arith)
 
   old-pins : (i : ℕ) → i < g → getD ps i 0 ≡ getD (w .pins) i 0
   unfolding ps
-  old-pins i h = getD-set-other (z .pins) g i (row .pins) 0 (omega arith) ∙ ap (λ (l : List ℕ). getD l i 0) (so .pins)
+  old-pins = set-there (z .pins) (w .pins) g (row .pins) 0 (so .pins)
 
   old-table : (i : ℕ) → i < g → getD ts i 0 ≡ getD (w .tables) i 0
   unfolding ts
-  old-table i h = getD-set-other (z .tables) g i (row .table) 0 (omega arith) ∙ ap (λ (l : List ℕ). getD l i 0) (so .tables)
+  old-table = set-there (z .tables) (w .tables) g (row .table) 0 (so .tables)
 
   new-gate : gateAt ps (z .sources) (z .counts) ts g ≡ rowGate row
   new-gate =
       ap₂ (λ (x : List Pin) (y : ℕ). record { pins = x; table = y })
       (ap (pinsIn (z .sources) (z .counts) (stride * g)) new-pins
-      ∙ pinsIn-same (z .sources) (z .counts) (row .sources) (row .counts) (stride * g) 0 (row .pins)
-      (λ i h. so .here i (omega arith) ∙ ap (pinAt (row .sources) (row .counts)) (sym (zero-add i))))
+      ∙ listed-same (pins-listed (z .sources) (z .counts)) (pins-listed (row .sources) (row .counts)) (stride * g) 0 (row .pins)
+      (λ i h. ap₂ (λ (a b : ℕ). record { src = a; count = b }) (so .sources .here i (omega arith)) (so .counts .here i (omega arith))
+      ∙ ap (pinAt (row .sources) (row .counts)) (sym (zero-add i))))
       new-table
 
   old-gate : (i : ℕ) → i < g → gateAt ps (z .sources) (z .counts) ts i ≡ gateAt (w .pins) (w .sources) (w .counts) (w .tables) i
@@ -137,11 +103,11 @@ module _ (w : Wiring) (g : ℕ) (row : GateRow) (z : Wiring) (so : PinsStored w 
       let most = few i h in
       ap₂ (λ (x : List Pin) (y : ℕ). record { pins = x; table = y })
       (ap (pinsIn (z .sources) (z .counts) (stride * i)) (old-pins i h)
-      ∙ pinsIn-same (z .sources) (z .counts) (w .sources) (w .counts) (stride * i) (stride * i) (getD (w .pins) i 0)
-      (λ j b. so .below (stride * i + j) (omega arith)))
+      ∙ listed-same (pins-listed (z .sources) (z .counts)) (pins-listed (w .sources) (w .counts)) (stride * i) (stride * i) (getD (w .pins) i 0)
+      (λ j b. ap₂ (λ (a b : ℕ). record { src = a; count = b }) (so .sources .below (stride * i + j) (omega arith)) (so .counts .below (stride * i + j) (omega arith))))
       (old-table i h)
 
-  still-few : (i : ℕ) → i < g + 1 → getD ps i 0 ≤ 6
+  still-few : (i : ℕ) → i < g + 1 → getD ps i 0 ≤ mostPins
   still-few = below-more _ _ (λ i h. rw (old-pins i h) (few i h)) (rw new-pins six)
 
   pub gate-stored : GateStored w g row (withGate z g (row .pins) (row .table))
@@ -149,21 +115,18 @@ module _ (w : Wiring) (g : ℕ) (row : GateRow) (z : Wiring) (so : PinsStored w 
   gate-stored =
       let s = z .sources in
       let c = z .counts in
-      let more : gatesIn ps s c ts 0 (g + 1) ≡ gatesIn ps s c ts 0 g ++ (gateAt ps s c ts (0 + g) ∷ []) = rw add-one (gatesIn-snoc ps s c ts 0 g) in
       record {
         same = record { inputs = so .same .inputs; gates = so .same .gates; outputs = so .same .outputs };
-        gates = more
+        gates = listed-next (gates-listed ps s c ts) g
             ∙ ap₂ (λ (l : List Gate) (x : Gate). l ++ (x ∷ []))
-            (gatesIn-same ps s c ts (w .pins) (w .sources) (w .counts) (w .tables) 0 g
-            (λ i h. ap (gateAt ps s c ts) (zero-add i) ∙ old-gate i h ∙ ap (gateAt (w .pins) (w .sources) (w .counts) (w .tables)) (sym (zero-add i))))
-            (ap (gateAt ps s c ts) (zero-add g) ∙ new-gate);
+            (listed-first (gates-listed ps s c ts) (gates-listed (w .pins) (w .sources) (w .counts) (w .tables)) g old-gate) new-gate;
         few = still-few;
       }
 
 -- g of the gates are read and stored
 pub record GatesSoFar (s : List ℕ) (at k : ℕ) (w z : Wiring) (next g : ℕ) : Type 0 where
   pub result : times (w .gates) (gateReader k (w .inputs + w .gates)) (drop at s)
-      ≡ timesAfter (gatesOf z g) (w .gates - g) (gateReader k (w .inputs + w .gates)) (drop next s)
+      ≡ behind (gatesOf z g) (times (w .gates - g) (gateReader k (w .inputs + w .gates)) (drop next s))
   pub most : g ≤ w .gates
   pub same : Same w z
   pub few : narrow z g
@@ -208,7 +171,7 @@ kept-refl w = record { same = same-refl w; pins = refl; sources = refl; counts =
 -- o of the outputs are read and stored
 pub record OutputsSoFar (s : List ℕ) (at : ℕ) (w z : Wiring) (next o : ℕ) : Type 0 where
   pub result : times (w .outputs) (outputReader (w .inputs + w .gates)) (drop at s)
-      ≡ timesAfter (outputsOf z o) (w .outputs - o) (outputReader (w .inputs + w .gates)) (drop next s)
+      ≡ behind (outputsOf z o) (times (w .outputs - o) (outputReader (w .inputs + w .gates)) (drop next s))
   pub most : o ≤ w .outputs
   pub kept : Kept w z
   pub sources-long : length (z .«out_sources») ≡ mostOutputs
@@ -236,7 +199,7 @@ module _ (s : List ℕ) (at : ℕ) (w : Wiring) where
         let S : List ℕ = z .«out_sources» in
         let C : List ℕ = z .«out_counts» in
         let more : pinsIn S C 0 o ++ (record { src = source; count = count } ∷ []) ≡ pinsIn (set S o source) (set C o count) 0 (o + 1) ++ [] =
-        pinsIn-more S C (set S o source) (set C o count) o (record { src = source; count = count }) []
+        listed-more (pins-listed S C) (pins-listed (set S o source) (set C o count)) o (record { src = source; count = count }) []
         (λ i b. ap₂ (λ (x y : ℕ). record { src = x; count = y }) (sym (getD-set-other S o i source 0 (omega arith))) (sym (getD-set-other C o i count 0 (omega arith))))
         (ap₂ (λ (x y : ℕ). record { src = x; count = y }) (sym (getD-set-same S o source 0 (omega arith))) (sym (getD-set-same C o count 0 (omega arith)))) in
         record {

@@ -74,13 +74,13 @@ module _ (k : ℕ) (w : Wiring) (f : NetFacts k (netIn (arraysOf w))) where
   pub facts-of : WalkFacts k w
   facts-of = record {
     inputs-low = subst (λ (n : ℕ). 1 ≤ n) (inputs-netIn (arraysOf w)) (f .inputs-low);
-    inputs-high = subst (λ (n : ℕ). n ≤ 16) (inputs-netIn (arraysOf w)) (f .inputs-high);
+    inputs-high = subst (λ (n : ℕ). n ≤ mostInputs) (inputs-netIn (arraysOf w)) (f .inputs-high);
     gates-low = subst (λ (n : ℕ). 1 ≤ n) gates-number (f .gates-low);
-    gates-high = subst (λ (n : ℕ). n ≤ 32) gates-number (f .gates-high);
+    gates-high = subst (λ (n : ℕ). n ≤ mostGates) gates-number (f .gates-high);
     outputs-low = subst (λ (n : ℕ). 1 ≤ n) outputs-number (f .outputs-low);
-    outputs-high = subst (λ (n : ℕ). n ≤ 16) outputs-number (f .outputs-high);
+    outputs-high = subst (λ (n : ℕ). n ≤ mostOutputs) outputs-number (f .outputs-high);
     pins-low = λ g h. subst (λ (n : ℕ). 1 ≤ n) (pins-number g) (gate-of g h .some);
-    pins-high = λ g h. subst (λ (n : ℕ). n ≤ 6) (pins-number g) (gate-of g h .most);
+    pins-high = λ g h. subst (λ (n : ℕ). n ≤ mostPins) (pins-number g) (gate-of g h .most);
     pins-fit = λ g h. subst (λ (n : ℕ). n ≤ k) (pins-number g) (gate-of g h .fits);
     source = λ g j h b. pin-of g j h b .source;
     count = λ g j h b. pin-of g j h b .count;

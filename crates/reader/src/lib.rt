@@ -1,8 +1,9 @@
 // The byte walk over a net record: one pass over any bytes, each byte tested when read.
 use fields::Field;
+use fields::NetField;
 use fields::Verdict;
 use fields::read_byte;
-use fields::wide;
+use inputs::wide;
 use limits::GATES;
 use limits::OUTPUTS;
 use limits::PINS;
@@ -55,7 +56,7 @@ struct Part {
 // The pins of a row are stored as those of gate g.
 fn store_pins(net: Wiring, g: usize, row: GateRow) -> Wiring
     requires { ⌜ g < mostGates ⌝ }
-    ensures { λ r. ⌜ PinsStored net g (row .sources) (row .counts) 6 r ⌝ }
+    ensures { λ r. ⌜ PinsStored net g (row .sources) (row .counts) mostPins r ⌝ }
 {
     let sources = row.sources;
     let counts = row.counts;
@@ -174,17 +175,17 @@ fn no_sizes(n: u8) -> Sizes
 fn read_sizes(bytes: &[u8]) -> Sizes
     ensures { λ r. ⌜ SizesRead (now (bytes .entry)) r ⌝ }
 {
-    let inputs = read_byte(bytes, 0, Field::Inputs, 0);
+    let inputs = read_byte(bytes, 0, Field::Net(NetField::Inputs), 0);
     let v = inputs.verdict;
     if let Verdict::Refused(n) = v {
         return no_sizes(n);
     }
-    let gates = read_byte(bytes, inputs.at, Field::Gates, 0);
+    let gates = read_byte(bytes, inputs.at, Field::Net(NetField::Gates), 0);
     let w = gates.verdict;
     if let Verdict::Refused(n) = w {
         return no_sizes(n);
     }
-    let outputs = read_byte(bytes, gates.at, Field::Outputs, 0);
+    let outputs = read_byte(bytes, gates.at, Field::Net(NetField::Outputs), 0);
     let x = outputs.verdict;
     if let Verdict::Refused(n) = x {
         return no_sizes(n);

@@ -17,7 +17,7 @@ use Rattle.fields.specs.declared.Verdict.the-variants.{Read, Refused}
 use Rattle.reader.specs.Answer.{arraysOf, resultOf}
 use Rattle.reader.specs.declared.Walk.{Walk}
 use Rattle.writer.specs.Writing.{Wrote}
-use Rattle.text.specs.PutLaws.{wrote-as}
+use Rattle.digits.specs.PutLaws.{wrote-as}
 use Rattle.inputs.specs.Parts.{Behind}
 use Rattle.readings.specs.Reading.{readWord, gap, sizesText, readingText}
 

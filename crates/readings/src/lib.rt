@@ -1,13 +1,13 @@
 // The reader's answers as lines: a batch of cases, each k, the net's length in two bytes and the net.
+use digits::put_byte;
+use digits::put_field;
+use digits::write_refusal;
 use fields::Verdict;
 use inputs::byte_at;
 use inputs::net_length;
-use inputs::number;
 use inputs::place_behind;
+use inputs::wide;
 use reader::read_net;
-use text::put_byte;
-use text::put_field;
-use text::write_refusal;
 ghost use mathlib.Core.Path.{_≡_};
 ghost use Prim.Native.Nat.{_≤_, _<_};
 ghost use lib.ListN.{length, getD, drop};
@@ -35,7 +35,7 @@ fn write_reading(net: &[u8], k: u32, out: &mut [u8]) -> usize
     let w = read_net(net, k);
     let v = w.verdict;
     if let Verdict::Refused(n) = v {
-        return write_refusal(number(n), out);
+        return write_refusal(wide(n), out);
     }
     let read = w.net;
     write_sizes(read.inputs, read.gates, read.outputs, out)

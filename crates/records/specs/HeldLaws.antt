@@ -6,6 +6,7 @@ use native.Mathlib.Nat.{add-zero, add-suc, suc-add, zero-add, not-suc-le-zero, l
 use native.Mathlib.Omega.{arith}
 use lib.IntN.{ℤ, pos}
 use lib.ListN.{length, getD}
+use Rattle.sequences.specs.Listed.{Listed, listed-next, listed-first}
 use Rattle.sequences.specs.Member.{_∈_, here, there, not-in-nil}
 use Rattle.covers.specs.Key.{Entry}
 use Rattle.covers.specs.Written.{noEntry}
@@ -75,15 +76,16 @@ module _ (a : Held) where
   unfolding lutAt
   table-lutAt i = refl
 
-  -- one LUT more
-  lutsFrom-suc : (i n : ℕ) → lutsFrom a i (suc n) ≡ lutsFrom a i n ++ (lutAt a (i + n) ∷ [])
+  pub luts-listed : Listed (lutAt a) (lutsFrom a)
   unfolding lutsFrom
-  lutsFrom-suc i zero = ap (λ (x : ℕ). lutAt a x ∷ []) (sym (add-zero i))
-  lutsFrom-suc i (suc n) = ap (λ (l : List Entry). lutAt a i ∷ l) (lutsFrom-suc (suc i) n ∙ ap (λ (x : ℕ). lutsFrom a (suc i) n ++ (lutAt a x ∷ [])) (suc-add i n ∙ sym (add-suc i n)))
+  luts-listed = record { none = λ i. refl; more = λ i n. refl }
 
-  pub lutsFrom-next : (i n : ℕ) → lutsFrom a i (n + 1) ≡ lutsFrom a i n ++ (lutAt a (i + n) ∷ [])
-  lutsFrom-next i n = ap (lutsFrom a i) (add-suc n 0 ∙ ap suc (add-zero n)) ∙ lutsFrom-suc i n
-
+  -- one LUT more
   pub lutsIn-next : (n : ℕ) → lutsIn a (n + 1) ≡ lutsIn a n ++ (lutAt a n ∷ [])
   unfolding lutsIn
-  lutsIn-next n = lutsFrom-next 0 n ∙ ap (λ (x : ℕ). lutsFrom a 0 n ++ (lutAt a x ∷ [])) (zero-add n)
+  lutsIn-next n = listed-next luts-listed n
+
+-- arrays that agree on the LUTs
+pub lutsIn-same : (a b : Held) (n : ℕ) → ((j : ℕ) → j < n → lutAt a j ≡ lutAt b j) → lutsIn a n ≡ lutsIn b n
+unfolding lutsIn
+lutsIn-same a b n h = listed-first (luts-listed a) (luts-listed b) n h

@@ -33,13 +33,17 @@ kept inputs gates period labels marks sizes nodes backs tables = record {
   tables = tables;
 }
 
+-- the label of node u
+abbrev pub labelAt : Kept → ℕ → ℤ
+labelAt a u = getD (a .labels) u (pos 0)
+
 -- the LUT of gate g
 unfoldable pub entryAt : Kept → ℕ → Entry
 unfolding copiesFrom
 entryAt a g = record {
   root = a .inputs + g;
   leaves = copiesFrom (a .nodes) (a .backs) (stride * g) (getD (a .sizes) g 0);
-  lag = lag (a .period) (getD (a .labels) (a .inputs + g) (pos 0));
+  lag = lag (a .period) (labelAt a (a .inputs + g));
   table = getD (a .tables) g 0;
 }
 

@@ -29,7 +29,7 @@ use Rattle.labelling.specs.Floor.{floor}
 use Rattle.labelling.specs.Small.{least-small}
 use Rattle.covers.specs.Key.{Key, Root, source, leaf, RisingNumbers, Entry, entries}
 use Rattle.covers.specs.KeyOf.{entryOf, roots-gate}
-use Rattle.limits.specs.Limits.{mostGates, mostCount, mostK, mostPeriod, mostLuts, coverArea}
+use Rattle.limits.specs.Limits.{coverArea, mostCount, mostGates, mostK, mostLag, mostPeriod, mostPins}
 use Rattle.netbytes.specs.Walk.{tableBytes}
 use Rattle.records.specs.CoverBytes.{toBytes, notZero, leafMap, depths, isZero, lagBytes, lutBytes, allLutBytes, coverBytes, coverReader, Record}
 use Rattle.netbytes.specs.Reading.{got}
@@ -43,7 +43,7 @@ pub record WithinLimits (N : Net) (k : ℕ) : Type 0 where
   pub size : k ≤ mostK
 
 -- a whole number from −96 to 31 fits a signed byte
-small-lag : (z : ℤ) → negℤ (pos 96) ≤ℤ z → z <ℤ pos 32 → SmallLag z
+small-lag : (z : ℤ) → negℤ (pos mostLag) ≤ℤ z → z <ℤ pos mostGates → SmallLag z
 small-lag (pos n) a b = up {n = n} (omega (arith, ints))
 small-lag (negsuc n) a b = down {n = n} (omega (arith, ints))
 
@@ -63,18 +63,18 @@ module _ {N : Net} {k φ : ℕ} (P : Passed N k) (l : WithinLimits N k) (pos-φ 
   key-lag v g =
       let a = key-lag-low v g in
       let b = key-lag-high v g in
-      let c = reachOf-le N 3 (l .counts) in
+      let c = reachOf-le N mostCount (l .counts) in
       let d = l .gates in
-      small-lag (lag φ (K .label v)) (omega (arith, ints, neg-parts (pos (reachOf N)), neg-parts (pos 96))) (omega (arith, ints))
+      small-lag (lag φ (K .label v)) (omega (arith, ints, neg-parts (pos (reachOf N)), neg-parts (pos mostLag))) (omega (arith, ints))
 
   -- **within −96..96**
-  pub key-lag-range : (v : ℕ) → IsGate N v → (negℤ (pos 96) ≤ℤ lag φ (K .label v)) × (lag φ (K .label v) ≤ℤ pos 96)
+  pub key-lag-range : (v : ℕ) → IsGate N v → (negℤ (pos mostLag) ≤ℤ lag φ (K .label v)) × (lag φ (K .label v) ≤ℤ pos mostLag)
   key-lag-range v g =
       let a = key-lag-low v g in
       let b = key-lag-high v g in
-      let c = reachOf-le N 3 (l .counts) in
+      let c = reachOf-le N mostCount (l .counts) in
       let d = l .gates in
-      (omega (arith, ints, neg-parts (pos (reachOf N)), neg-parts (pos 96)), omega (arith, ints))
+      (omega (arith, ints, neg-parts (pos (reachOf N)), neg-parts (pos mostLag)), omega (arith, ints))
 
   -- a cut has a leaf
   some-leaf : (v : ℕ) (g : IsGate N v) → 1 ≤ length (K .cut v g .leaves)
@@ -178,7 +178,7 @@ module _ {N : Net} {k φ : ℕ} (P : Passed N k) (l : WithinLimits N k) (pos-φ 
       let b = length-depths (e .leaves) in
       let c = length-lag (e .lag) in
       let d = length-toBytes (tableBytes n) (e .table) in
-      let f : 2 ^ n ≤ 64 = pow-mono {i = n} {j = 6} (w .six) in
+      let f : 2 ^ n ≤ 64 = pow-mono {i = n} {j = mostPins} (w .six) in
       let s = w .six in
       let p = length-append us (depths (e .leaves)) in
       let q = length-append (us ++ depths (e .leaves)) (lagBytes (e .lag)) in

@@ -10,3 +10,5 @@ pub mod Accepted
 pub mod Kept
 pub mod Held
 pub mod HeldLaws
+pub mod CheckLaws
+pub mod ShortCover

@@ -18,7 +18,7 @@ use Rattle.netlist.specs.Copies.{Copy, copy, Before, Rising}
 use Rattle.netlist.specs.Tables.{bit, asNumber}
 use Rattle.tables.specs.Words.{asNumber-small, bit-low, half}
 use Rattle.covers.specs.Key.{Entry}
-use Rattle.limits.specs.Limits.{depthRoom, mostPeriod, mostLuts}
+use Rattle.limits.specs.Limits.{depthRoom, mostLuts, mostPeriod, mostPins}
 use Rattle.netbytes.specs.Reading.{Result, Reader, andThen, check, byte, times, atEnd, between, got, refused}
 use Rattle.netbytes.specs.Walk.{tableBytes, tableByte, fromBytes, first, rest}
 use Rattle.records.specs.CoverBytes.{toBytes, notZero, leafMap, depths, isZero, signedByte, lagBytes, lutBytes, allLutBytes, coverBytes, Record, coverByte, fromSigned, leafMapOk, depthReader, leavesFrom, before, risingLeaves, lutReader, lutsReader, coverReader}
@@ -233,7 +233,7 @@ pub record Writable (nodes k least : ℕ) (e : Entry) : Type 0 where
   pub high : e .root < nodes
   pub some : 1 ≤ length (e .leaves)
   pub few : length (e .leaves) ≤ k
-  pub six : length (e .leaves) ≤ 6
+  pub six : length (e .leaves) ≤ mostPins
   pub rising : Rising (e .leaves)
   pub inside : (y : Copy) → y ∈ e .leaves → y .node < nodes
   pub depth : (y : Copy) → y ∈ e .leaves → y .back < depthRoom
@@ -290,7 +290,7 @@ lut-back nodes k least e s w =
     countOk = between-true 1 k n (w .some) (w .few)
 
     sixtyFour : 2 ^ n ≤ 64
-    sixtyFour = pow-mono {i = n} {j = 6} (w .six)
+    sixtyFour = pow-mono {i = n} {j = mostPins} (w .six)
 
     flag : cond (isZero (e .lag)) 0 64 ≡ 64 * lag-bit (e .lag)
     flag = unfold lag-bit in go (isZero (e .lag))

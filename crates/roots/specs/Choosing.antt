@@ -10,11 +10,10 @@ use Rattle.netlist.specs.Arrays.{stride, pinsIn, copiesFrom}
 use Rattle.cones.specs.Ranks.{Ranked}
 use Rattle.cones.specs.Reach.{reachOf}
 use Rattle.covers.specs.Key.{Key, Root}
-use Rattle.signed.specs.Range.{Small, room}
+use Rattle.signed.specs.Range.{Small, room, labelIn}
 use Rattle.circuit.specs.Circuit.{Circuit}
 use Rattle.mincut.specs.Bridge.{Holds}
 use Rattle.limits.specs.Limits.{mostCopies}
-use Rattle.query.specs.Question.{labelIn}
 
 -- Labels for all nodes, numbers that do not overflow, cuts that fit their places, and a net without loops that has this wiring.
 pub record Asking (C : Circuit) (ls : List ℤ) (φ k : ℕ) : Type 0 where

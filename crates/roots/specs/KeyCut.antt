@@ -23,11 +23,13 @@ use Rattle.cuts.specs.Choice.{chosen-leaves}
 use Rattle.labelling.specs.Labels.{Low, LowCut, Least}
 use Rattle.labelling.specs.Lower.{input-or-gate}
 use Rattle.labelling.specs.Pins.{pin-lemma, pin-input}
-use Rattle.labelling.specs.Forced.{Falling, leaf-allowed, reach-separates}
+use Rattle.labelling.specs.Forced.{Falling, separation-cut}
 use Rattle.circuit.specs.Circuit.{Circuit}
 use Rattle.mincut.specs.Bridge.{Holds, gate-of}
-use Rattle.query.specs.Question.{labelIn, Asks, Takes, Separated, Answers, Written}
-use Rattle.query.specs.Meaning.{wiresOf}
+use Rattle.signed.specs.Range.{labelIn}
+use Rattle.query.specs.Question.{Asks, Takes, Separated, Decides, Written}
+use Rattle.query.specs.ChosenCut.{told-cut, told-chosen}
+use Rattle.forcing.specs.Forcing.{wiresOf}
 use Rattle.roots.specs.Choosing.{Asking, Keyed}
 
 pub holds-of : (C : Circuit) {N : Net} → Holds (wiresOf C) N → Holds C N
@@ -48,26 +50,10 @@ least-falling {N} {k} {φ} {lab} s l v g p i = go (input-or-gate N (p .src) (s .
         omega (arith, ints, +-parts (lab v) (pos (φ * p .count)), sub-parts (lab (p .src)) (pos (φ * p .count)))
 
 -- a separation with fewest leaves and smallest cone has the leaves of the chosen cut
-separated-leaves : {N : Net} {v φ k r border : ℕ} {lab : ℕ → ℤ} {h : ℤ} (w : Separated N v φ lab h border k r) → Ranked N → Falling N φ lab → r ≤ k
-    → {K : LowCut N k φ lab v h} → Chosen N k v (Low φ lab h) Any K → w .leaves ≡ K .leaves
-separated-leaves {N} {v} {φ} {k} {r} {border} {lab} {h} w R falling few c = chosen-leaves chosen c
-  where
-    cut : LowCut N k φ lab v h
-    cut = record {
-      cone = w .cone;
-      leaves = w .leaves;
-      isCone = w .separation .isCone;
-      isLeaves = w .isLeaves;
-      few = omega (arith, w .count, few);
-      allowed = λ y m. leaf-allowed N v φ lab h (w .set) (w .cone) border falling (w .forced) (w .separation) y (w .isLeaves .sound y m);
-      inside = λ x m. tt;
-    }
-
-    chosen : Chosen N k v (Low φ lab h) Any cut
-    chosen = record {
-      fewest = λ J. let a = w .fewest (J .cone) (J .leaves) (reach-separates R J (w .forced)) (J .isLeaves) in omega (arith, w .count, a);
-      smallest = λ J e. w .smallest (J .cone) (J .leaves) (reach-separates R J (w .forced)) (J .isLeaves) (e ∙ w .count);
-    }
+separated-leaves : {N : Net} {v φ k r border : ℕ} {lab : ℕ → ℤ} {h : ℤ} (w : Separated N v φ lab h border k r) → Ranked N → Falling N φ lab
+    → {K : LowCut N k φ lab v h} → Chosen N k v (Low φ lab h) Any K → w .parted .leaves ≡ K .leaves
+unfolding told-cut separation-cut
+separated-leaves w R falling c = chosen-leaves (told-chosen w falling R) c
 
 -- ---- what is asked of `chosen`, and what it tells
 
@@ -90,7 +76,7 @@ module _ (C : Circuit) {ls : List ℤ} {φ k : ℕ} (g : ℕ) (gate : g < C .gat
   isGate : IsGate (c .net) (C .inputs + g)
   isGate = gate-of (c .holds) g gate
 
-  module _ {h : ℤ} {r : ℕ} (e : h ≡ labelIn ls (C .inputs + g)) (a : Answers C ls φ k g h r) where
+  module _ {h : ℤ} {r : ℕ} (e : h ≡ labelIn ls (C .inputs + g)) (a : Decides C ls φ k g h r) where
     key-cut : LowCut (c .net) k φ (labelIn ls) (C .inputs + g) h
     key-cut =
         subst (LowCut (c .net) k φ (labelIn ls) (C .inputs + g)) (sym e)
@@ -109,9 +95,9 @@ module _ (C : Circuit) {ls : List ℤ} {φ k : ℕ} (g : ℕ) (gate : g < C .gat
     told-leaves {nodes} {backs} w =
         let v = C .inputs + g in
         let x = w .leaves (c .net) (holds-of C (c .holds)) (c .ranked) (c .loopless) (c .border) told-few in
-        let y = subst (λ (z : ℤ). (s : Separated (c .net) v φ (labelIn ls) z (C .border) k r) × (s .leaves ≡ copiesFrom nodes backs 0 r)) e x in
-        let z = subst (λ (lab : ℕ → ℤ). (s : Separated (c .net) v φ lab (lab v) (C .border) k r) × (s .leaves ≡ copiesFrom nodes backs 0 r)) (sym label-is) y in
-        sym (z .1) ∙ separated-leaves (z .0) (c .ranked) (least-falling (c .sound) (c .key .least)) told-few (c .key .chosen v isGate) ∙ sym (c .key .isLeaves v isGate)
+        let y = subst (λ (z : ℤ). (s : Separated (c .net) v φ (labelIn ls) z (C .border) k r) × (s .parted .leaves ≡ copiesFrom nodes backs 0 r)) e x in
+        let z = subst (λ (lab : ℕ → ℤ). (s : Separated (c .net) v φ lab (lab v) (C .border) k r) × (s .parted .leaves ≡ copiesFrom nodes backs 0 r)) (sym label-is) y in
+        sym (z .1) ∙ separated-leaves (z .0) (c .ranked) (least-falling (c .sound) (c .key .least)) (c .key .chosen v isGate) ∙ sym (c .key .isLeaves v isGate)
 
 -- ---- a part of an array
 

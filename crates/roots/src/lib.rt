@@ -1,5 +1,6 @@
 // The chosen roots of a cover and the chosen cut of each: from the outputs back, one root after another.
 use circuit::Sizes;
+use limits::PINS;
 use query::chosen;
 ghost use mathlib.Core.Path.{_≡_};
 ghost use Prim.Native.Nat.{_*_, _≤_, _<_};
@@ -7,7 +8,7 @@ ghost use lib.ListN.{length};
 ghost use Rattle.netlist.specs.Arrays.{stride};
 ghost use Rattle.circuit.specs.Circuit.{circuit};
 ghost use Rattle.query.specs.Question.{AtRest};
-ghost use Rattle.query.specs.Forcing.{wires};
+ghost use Rattle.forcing.specs.Forcing.{wires};
 ghost use Rattle.roots.specs.Choosing.{Asking, Places, Chooses, RootsTold};
 ghost use Rattle.roots.specs.Marking.{IsAt, Among, Marks, Pending};
 ghost use Rattle.roots.specs.Rounds.{CutWritten, Stored, Taken};
@@ -91,8 +92,8 @@ fn cut_of(
 {
     let v = s.inputs + g;
     let h = labels[v];
-    let at = 6 * g;
-    let end = at + 6;
+    let at = PINS * g;
+    let end = at + PINS;
     chosen(
         s,
         pins,
@@ -134,7 +135,7 @@ fn store(
         return;
     }
     sizes[g] = r;
-    let at = 6 * g;
+    let at = PINS * g;
     mark_nodes(inputs, gates, marks, nodes, at, at + r);
 }
 

@@ -4,7 +4,7 @@ use mathlib.Core.List.{List, _++_}
 use Prim.Native.Nat.{ℕ, _-_, _≤_, _<_}
 use lib.Count.{ones}
 use lib.ListN.{length, drop}
-use Rattle.limits.specs.Limits.{mostPins}
+use Rattle.limits.specs.Limits.{mostItems, mostPins}
 use Rattle.netlist.specs.Net.{Gate}
 use Rattle.netlist.specs.Arrays.{pinsIn}
 use Rattle.netbytes.specs.Walk.{gateReader, outputReader, pinsFrom}
@@ -20,10 +20,10 @@ use Rattle.rows.specs.declared.OutputRow.{OutputRow}
 
 -- the first i places of the maps are spread, whatever the sources
 pub record Spreading (p r : ℕ) (counts : List ℕ) (i : ℕ) (so : SpreadSoFar) : Type 0 where
-  pub result : (s : List ℕ) → pinsFrom 6 0 p r s counts ≡ pinsIn s (so .counts) 0 (so .pin) ++ pinsFrom (6 - i) i p r (drop (so .pin) s) (drop (so .used) counts)
+  pub result : (s : List ℕ) → pinsFrom mostPins 0 p r s counts ≡ pinsIn s (so .counts) 0 (so .pin) ++ pinsFrom (mostPins - i) i p r (drop (so .pin) s) (drop (so .used) counts)
   pub pins : so .pin ≤ i
   pub used : so .used ≤ i
-  pub long : length (so .counts) ≡ 8
+  pub long : length (so .counts) ≡ mostItems
 
 -- whether a pin map has more pins than k
 pub data Width (k p : ℕ) (v : Verdict) : Type 0 where

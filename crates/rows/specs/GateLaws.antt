@@ -1,12 +1,13 @@
 -- Laws of reading a gate, one for each way out.
 use mathlib.Core.Path.{_≡_, sym, ap, ap₂, _∙_}
-use mathlib.Core.Bool.{Bool, true, false, false≢true}
+use mathlib.Core.Bool.{Bool}
 use mathlib.Core.List.{List}
 use Prim.Native.Nat.{ℕ, _≤_, _<_}
 use native.Mathlib.Omega.{arith}
 use lib.Count.{ones}
 use lib.ListN.{getD, take, drop}
 use borrow.Author.Tests.{le-leb, lt-leb}
+use Rattle.limits.specs.Limits.{mostPins}
 use Rattle.netlist.specs.Net.{Pin}
 use Rattle.netlist.specs.Arrays.{pinsIn}
 use Rattle.netbytes.specs.Reading.{andThen, times, check, between, got, refused}
@@ -14,34 +15,30 @@ use Rattle.netbytes.specs.Walk.{gateReader, tableBytes, pinsFrom, fromBytes}
 use Rattle.netbytes.specs.Readers.{then-goes, then-stops, byte-got}
 use Rattle.netbytes.specs.Sound.{between-true}
 use Rattle.netbytes.specs.Stages.{madeGate, fromPinMap, fromWidth, fromMaps, fromSources, fromCounts, fromTable, gate-stages}
-use Rattle.fields.specs.declared.Field.the-variants.{PinMap, RegisterMap, Source, Count, Table}
+use Rattle.fields.specs.declared.Field.the-variants.{Net}
+use Rattle.fields.specs.declared.NetField.the-variants.{PinMap, RegisterMap, Source, Count, Table}
 use Rattle.fields.specs.declared.Verdict.{Verdict}
 use Rattle.fields.specs.declared.Verdict.the-variants.{Read, Refused}
 use Rattle.fields.specs.Fields.{fieldByte}
 use Rattle.fields.specs.ListLaws.{take-alike, fromBytes-take}
-use Rattle.fields.specs.Verdicts.{outcome, onward}
-use Rattle.fields.specs.FieldLaws.{went, stopped}
+use Rattle.fields.specs.Verdicts.{outcome}
+use Rattle.fields.specs.FieldLaws.{went, stopped, onward-stopping, not-both}
 use Rattle.rows.specs.declared.Maps.{Maps}
 use Rattle.rows.specs.RowLaws.{pinsFrom-alike}
 use Rattle.rows.specs.Contracts.{MapsRead, Width, firstOf, fits, over}
-
--- the walk goes on
-abbrev wentOn : Verdict → Bool
-wentOn Read = true
-wentOn (Refused n) = false
 
 module _ (s : List ℕ) (at k : ℕ) where
   -- the maps are refused, and the gate with them
   stop-maps : {n : ℕ} (m : Maps) → ((nodes : ℕ) → gateReader k nodes (drop at s) ≡ refused n) → m .verdict ≡ Refused n → m .pins ≡ 0 → MapsRead s at k m
   stop-maps m e v z = record {
-    result = λ nodes. e nodes ∙ ap (λ (x : Verdict). onward x (fromMaps nodes (m .pins) (ones (m .pins)) (m .registers) (drop (m .at) s))) (sym v);
+    result = λ nodes. onward-stopping (fromMaps nodes (m .pins) (ones (m .pins)) (m .registers) (drop (m .at) s)) (e nodes) v;
     small = omega arith;
   }
 
-  pub pin-map-stops : {n : ℕ} (m : Maps) → fieldByte PinMap 0 (drop at s) ≡ refused n → m .verdict ≡ Refused n → m .pins ≡ 0 → MapsRead s at k m
+  pub pin-map-stops : {n : ℕ} (m : Maps) → fieldByte (Net PinMap) 0 (drop at s) ≡ refused n → m .verdict ≡ Refused n → m .pins ≡ 0 → MapsRead s at k m
   pin-map-stops m e v z = stop-maps m (λ nodes. gate-stages k nodes (drop at s) ∙ then-stops (fromPinMap k nodes) e) v z
 
-  module _ (p after : ℕ) (here : fieldByte PinMap 0 (drop at s) ≡ got p (drop after s)) where
+  module _ (p after : ℕ) (here : fieldByte (Net PinMap) 0 (drop at s) ≡ got p (drop after s)) where
     pin-map-goes : (nodes : ℕ) → gateReader k nodes (drop at s) ≡ fromPinMap k nodes p (drop after s)
     pin-map-goes nodes = gate-stages k nodes (drop at s) ∙ then-goes (fromPinMap k nodes) here
 
@@ -55,7 +52,7 @@ module _ (s : List ℕ) (at k : ℕ) where
         ∙ ap (λ (t : Bool). andThen (check t 7 (ones p) (drop after s)) (fromWidth nodes p)) (le-leb (ones p) k h)
 
     -- the verdicts on the width and on the register map, in this order
-    module _ {v : Verdict} (w : Verdict) (width : Width k p v) (r end : ℕ) (f : fieldByte RegisterMap p (drop after s) ≡ outcome w r (drop end s)) where
+    module _ {v : Verdict} (w : Verdict) (width : Width k p v) (r end : ℕ) (f : fieldByte (Net RegisterMap) p (drop after s) ≡ outcome w r (drop end s)) where
       pub maps-stop : {n : ℕ} (m : Maps) → firstOf v w ≡ Refused n → m .verdict ≡ Refused n → m .pins ≡ 0 → MapsRead s at k m
       maps-stop {n} m q x z = go width
         where
@@ -75,32 +72,32 @@ module _ (s : List ℕ) (at k : ℕ) where
                 result = λ nodes. width-goes h nodes ∙ then-goes (fromMaps nodes p (ones p)) (went r (drop end s) f (ap (λ (t : Verdict). firstOf t w) (sym e) ∙ q));
                 small = omega arith;
               }
-          go (over h e) = absurd (false≢true (ap wentOn (sym (ap (λ (t : Verdict). firstOf t w) e) ∙ q)))
+          go (over h e) = absurd (not-both q (ap (λ (t : Verdict). firstOf t w) e))
 
 -- the lists behind the maps, where m pins, c counts and b table bytes are read
 module _ (nodes p r m c b : ℕ) (em : m ≡ ones p) (ec : c ≡ ones r) (eb : b ≡ tableBytes m) (t : List ℕ) where
-  pub sources-stop : {n : ℕ} → times m (fieldByte Source nodes) t ≡ refused n → fromMaps nodes p (ones p) r t ≡ refused n
+  pub sources-stop : {n : ℕ} → times m (fieldByte (Net Source) nodes) t ≡ refused n → fromMaps nodes p (ones p) r t ≡ refused n
   sources-stop e = ap (λ (x : ℕ). fromMaps nodes p x r t) (sym em) ∙ then-stops (fromSources m p r) e
 
-  module _ (S u : List ℕ) (e : times m (fieldByte Source nodes) t ≡ got S u) where
-    sources-go : fromMaps nodes p (ones p) r t ≡ andThen (times c (fieldByte Count 0) u) (fromCounts m p r S)
+  module _ (S u : List ℕ) (e : times m (fieldByte (Net Source) nodes) t ≡ got S u) where
+    sources-go : fromMaps nodes p (ones p) r t ≡ andThen (times c (fieldByte (Net Count) 0) u) (fromCounts m p r S)
     sources-go =
         ap (λ (x : ℕ). fromMaps nodes p x r t) (sym em) ∙ then-goes (fromSources m p r) e
-        ∙ ap (λ (x : ℕ). andThen (times x (fieldByte Count 0) u) (fromCounts m p r S)) (sym ec)
+        ∙ ap (λ (x : ℕ). andThen (times x (fieldByte (Net Count) 0) u) (fromCounts m p r S)) (sym ec)
 
-    pub counts-stop : {n : ℕ} → times c (fieldByte Count 0) u ≡ refused n → fromMaps nodes p (ones p) r t ≡ refused n
+    pub counts-stop : {n : ℕ} → times c (fieldByte (Net Count) 0) u ≡ refused n → fromMaps nodes p (ones p) r t ≡ refused n
     counts-stop f = sources-go ∙ then-stops (fromCounts m p r S) f
 
-    module _ (C w : List ℕ) (f : times c (fieldByte Count 0) u ≡ got C w) where
-      counts-go : fromMaps nodes p (ones p) r t ≡ andThen (times b (fieldByte Table m) w) (fromTable p r S C)
+    module _ (C w : List ℕ) (f : times c (fieldByte (Net Count) 0) u ≡ got C w) where
+      counts-go : fromMaps nodes p (ones p) r t ≡ andThen (times b (fieldByte (Net Table) m) w) (fromTable p r S C)
       counts-go =
           sources-go ∙ then-goes (fromCounts m p r S) f
-          ∙ ap (λ (x : ℕ). andThen (times x (fieldByte Table m) w) (fromTable p r S C)) (sym eb)
+          ∙ ap (λ (x : ℕ). andThen (times x (fieldByte (Net Table) m) w) (fromTable p r S C)) (sym eb)
 
-      pub table-stops : {n : ℕ} → times b (fieldByte Table m) w ≡ refused n → fromMaps nodes p (ones p) r t ≡ refused n
+      pub table-stops : {n : ℕ} → times b (fieldByte (Net Table) m) w ≡ refused n → fromMaps nodes p (ones p) r t ≡ refused n
       table-stops g = counts-go ∙ then-stops (fromTable p r S C) g
 
-      pub lists-go : (T z : List ℕ) → times b (fieldByte Table m) w ≡ got T z → fromMaps nodes p (ones p) r t ≡ got (madeGate p r S C T) z
+      pub lists-go : (T z : List ℕ) → times b (fieldByte (Net Table) m) w ≡ got T z → fromMaps nodes p (ones p) r t ≡ got (madeGate p r S C T) z
       lists-go T z g = counts-go ∙ then-goes (fromTable p r S C) g
 
 -- a gate of lists with zeros behind
@@ -108,10 +105,10 @@ pub made-whole : (p r m c b : ℕ) (S C T : List ℕ) → ((i : ℕ) → m ≤ i
     → madeGate p r (take m S) (take c C) (take b T) ≡ madeGate p r S C T
 made-whole p r m c b S C T hs hc ht =
     ap₂ (λ (x : List Pin) (y : ℕ). record { pins = x; table = y })
-    (pinsFrom-alike 6 0 p r (take m S) S (take c C) C (take-alike m S hs) (take-alike c C hc)) (fromBytes-take b T ht)
+    (pinsFrom-alike mostPins 0 p r (take m S) S (take c C) C (take-alike m S hs) (take-alike c C hc)) (fromBytes-take b T ht)
 
 -- the gate of the lists is that of the row
-pub made-row : (p r : ℕ) (S C T counts : List ℕ) (m n : ℕ) → ((s : List ℕ) → pinsFrom 6 0 p r s C ≡ pinsIn s counts 0 (ones p)) → m ≡ ones p → n ≡ fromBytes T
+pub made-row : (p r : ℕ) (S C T counts : List ℕ) (m n : ℕ) → ((s : List ℕ) → pinsFrom mostPins 0 p r s C ≡ pinsIn s counts 0 (ones p)) → m ≡ ones p → n ≡ fromBytes T
     → madeGate p r S C T ≡ record { pins = pinsIn S counts 0 m; table = n }
 made-row p r S C T counts m n h em en =
     ap₂ (λ (x : List Pin) (y : ℕ). record { pins = x; table = y }) (h S ∙ ap (pinsIn S counts 0) (sym em)) (sym en)

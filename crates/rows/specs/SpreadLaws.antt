@@ -9,29 +9,31 @@ use native.Mathlib.Omega.{arith}
 use lib.Count.{ones, onesIn}
 use lib.ListN.{length, getD, drop, set, replicate, length-set}
 use lib.Seq.{getD-set-same, getD-set-other}
+use Rattle.limits.specs.Limits.{mostItems, mostPins}
+use Rattle.sequences.specs.Listed.{listed-more}
 use Rattle.netlist.specs.Net.{Pin}
 use Rattle.netlist.specs.Tables.{bit}
 use Rattle.netlist.specs.Arrays.{pinsIn}
-use Rattle.netlist.specs.ArrayLaws.{pinAt, length-pinsIn}
+use Rattle.netlist.specs.ArrayLaws.{pinAt, pins-listed, length-pinsIn}
 use Rattle.netbytes.specs.Walk.{pinsFrom, first, rest}
 use Rattle.netbytes.specs.Maps.{ones-in, length-pinsFrom}
 use Rattle.fields.specs.ListLaws.{first-drop, rest-drop}
 use Rattle.rows.specs.declared.SpreadSoFar.{SpreadSoFar}
 use Rattle.rows.specs.Contracts.{Spreading}
-use Rattle.rows.specs.RowLaws.{pinsIn-more, place-absent, place-plain, place-counted}
+use Rattle.rows.specs.RowLaws.{place-absent, place-plain, place-counted}
 
 module _ (p r : ℕ) (counts : List ℕ) where
-  pub spread-none : Spreading p r counts 0 (record { counts = replicate 8 0; pin = 0; used = 0 })
+  pub spread-none : Spreading p r counts 0 (record { counts = replicate mostItems 0; pin = 0; used = 0 })
   unfolding pinsIn
   spread-none = record { result = λ s. refl; pins = omega arith; used = omega arith; long = refl }
 
-  module _ (i : ℕ) (so : SpreadSoFar) (h : i < 6) (w : Spreading p r counts i so) where
-    one-left : 6 - i ≡ suc (6 - (i + 1))
+  module _ (i : ℕ) (so : SpreadSoFar) (h : i < mostPins) (w : Spreading p r counts i so) where
+    one-left : mostPins - i ≡ suc (mostPins - (i + 1))
     one-left = omega arith
 
     -- the places that are left, the next one in front
-    next : (s : List ℕ) → pinsFrom 6 0 p r s counts
-        ≡ pinsIn s (so .counts) 0 (so .pin) ++ pinsFrom (suc (6 - (i + 1))) i p r (drop (so .pin) s) (drop (so .used) counts)
+    next : (s : List ℕ) → pinsFrom mostPins 0 p r s counts
+        ≡ pinsIn s (so .counts) 0 (so .pin) ++ pinsFrom (suc (mostPins - (i + 1))) i p r (drop (so .pin) s) (drop (so .used) counts)
     next s = w .result s ∙ ap (λ (n : ℕ). pinsIn s (so .counts) 0 (so .pin) ++ pinsFrom n i p r (drop (so .pin) s) (drop (so .used) counts)) one-left
 
     pub spread-absent : bit p i ≡ false → Spreading p r counts (i + 1) so
@@ -41,8 +43,8 @@ module _ (p r : ℕ) (counts : List ℕ) where
         let after : i + 1 ≡ suc i = add-one i in
         record {
           result = λ s. next s ∙ ap (λ (l : List Pin). pinsIn s (so .counts) 0 (so .pin) ++ l)
-              (place-absent (6 - (i + 1)) i p r (drop (so .pin) s) (drop (so .used) counts) e
-              ∙ ap (λ (j : ℕ). pinsFrom (6 - (i + 1)) j p r (drop (so .pin) s) (drop (so .used) counts)) (sym after));
+              (place-absent (mostPins - (i + 1)) i p r (drop (so .pin) s) (drop (so .used) counts) e
+              ∙ ap (λ (j : ℕ). pinsFrom (mostPins - (i + 1)) j p r (drop (so .pin) s) (drop (so .used) counts)) (sym after));
           pins = omega arith;
           used = omega arith;
           long = w .long;
@@ -50,10 +52,10 @@ module _ (p r : ℕ) (counts : List ℕ) where
 
     -- a pin whose count is v, and the rest from there on
     placed : (v u : ℕ) (s : List ℕ) (x : Pin) (l : List Pin) → x ≡ record { src = first (drop (so .pin) s); count = v }
-        → l ≡ pinsFrom (6 - (i + 1)) (suc i) p r (rest (drop (so .pin) s)) (drop u counts)
-        → pinsFrom 6 0 p r s counts ≡ pinsIn s (so .counts) 0 (so .pin) ++ (x ∷ l)
-        → pinsFrom 6 0 p r s counts ≡ pinsIn s (set (so .counts) (so .pin) v) 0 (so .pin + 1)
-        ++ pinsFrom (6 - (i + 1)) (i + 1) p r (drop (so .pin + 1) s) (drop u counts)
+        → l ≡ pinsFrom (mostPins - (i + 1)) (suc i) p r (rest (drop (so .pin) s)) (drop u counts)
+        → pinsFrom mostPins 0 p r s counts ≡ pinsIn s (so .counts) 0 (so .pin) ++ (x ∷ l)
+        → pinsFrom mostPins 0 p r s counts ≡ pinsIn s (set (so .counts) (so .pin) v) 0 (so .pin + 1)
+        ++ pinsFrom (mostPins - (i + 1)) (i + 1) p r (drop (so .pin + 1) s) (drop u counts)
     placed v u s x l ex el e =
         let j = so .pin in
         let pins = w .pins in
@@ -65,9 +67,9 @@ module _ (p r : ℕ) (counts : List ℕ) where
         ex ∙ ap₂ (λ (a b : ℕ). record { src = a; count = b }) (first-drop s j) (sym here) in
         let after : suc i ≡ i + 1 = sym (add-one i) in
         let behind : rest (drop j s) ≡ drop (j + 1) s = rest-drop s j ∙ ap (λ (n : ℕ). drop n s) (sym (add-one j)) in
-        e ∙ pinsIn-more s (so .counts) s (set (so .counts) j v) j x l kept isPin
+        e ∙ listed-more (pins-listed s (so .counts)) (pins-listed s (set (so .counts) j v)) j x l kept isPin
         ∙ ap (λ (m : List Pin). pinsIn s (set (so .counts) j v) 0 (j + 1) ++ m)
-        (el ∙ ap₂ (λ (n : ℕ) (t : List ℕ). pinsFrom (6 - (i + 1)) n p r t (drop u counts)) after behind)
+        (el ∙ ap₂ (λ (n : ℕ) (t : List ℕ). pinsFrom (mostPins - (i + 1)) n p r t (drop u counts)) after behind)
 
     pub spread-plain : bit p i ≡ true → bit r i ≡ false
         → Spreading p r counts (i + 1) (record { counts = set (so .counts) (so .pin) 0; pin = so .pin + 1; used = so .used })
@@ -76,9 +78,9 @@ module _ (p r : ℕ) (counts : List ℕ) where
         let used = w .used in
         record {
           result = λ s. placed 0 (so .used) s (record { src = first (drop (so .pin) s); count = 0 })
-              (pinsFrom (6 - (i + 1)) (suc i) p r (rest (drop (so .pin) s)) (drop (so .used) counts)) refl refl
+              (pinsFrom (mostPins - (i + 1)) (suc i) p r (rest (drop (so .pin) s)) (drop (so .used) counts)) refl refl
               (next s ∙ ap (λ (l : List Pin). pinsIn s (so .counts) 0 (so .pin) ++ l)
-              (place-plain (6 - (i + 1)) i p r (drop (so .pin) s) (drop (so .used) counts) e f));
+              (place-plain (mostPins - (i + 1)) i p r (drop (so .pin) s) (drop (so .used) counts) e f));
           pins = omega arith;
           used = omega arith;
           long = length-set (so .counts) (so .pin) 0 ∙ w .long;
@@ -93,26 +95,26 @@ module _ (p r : ℕ) (counts : List ℕ) where
         let behind : rest (drop u counts) ≡ drop (u + 1) counts = rest-drop counts u ∙ ap (λ (n : ℕ). drop n counts) (sym (add-one u)) in
         record {
           result = λ s. placed (getD counts u 0) (u + 1) s (record { src = first (drop (so .pin) s); count = first (drop u counts) })
-              (pinsFrom (6 - (i + 1)) (suc i) p r (rest (drop (so .pin) s)) (rest (drop u counts)))
+              (pinsFrom (mostPins - (i + 1)) (suc i) p r (rest (drop (so .pin) s)) (rest (drop u counts)))
               (ap (λ (n : ℕ). record { src = first (drop (so .pin) s); count = n }) (first-drop counts u))
-              (ap (pinsFrom (6 - (i + 1)) (suc i) p r (rest (drop (so .pin) s))) behind)
+              (ap (pinsFrom (mostPins - (i + 1)) (suc i) p r (rest (drop (so .pin) s))) behind)
               (next s ∙ ap (λ (l : List Pin). pinsIn s (so .counts) 0 (so .pin) ++ l)
-              (place-counted (6 - (i + 1)) i p r (drop (so .pin) s) (drop u counts) e f));
+              (place-counted (mostPins - (i + 1)) i p r (drop (so .pin) s) (drop u counts) e f));
           pins = omega arith;
           used = omega arith;
           long = length-set (so .counts) (so .pin) (getD counts u 0) ∙ w .long;
         }
 
   -- all six places are spread: there are as many pins as the map has ones
-  pub spread-all : (i : ℕ) (so : SpreadSoFar) → 6 ≤ i → i ≤ 6 → p < 64 → Spreading p r counts i so
-      → (s : List ℕ) → pinsFrom 6 0 p r s counts ≡ pinsIn s (so .counts) 0 (ones p)
+  pub spread-all : (i : ℕ) (so : SpreadSoFar) → mostPins ≤ i → i ≤ mostPins → p < 64 → Spreading p r counts i so
+      → (s : List ℕ) → pinsFrom mostPins 0 p r s counts ≡ pinsIn s (so .counts) 0 (ones p)
   unfolding pinsFrom
   spread-all i so l h small w s =
-      let none : 6 - i ≡ 0 = omega arith in
-      let whole : pinsFrom 6 0 p r s counts ≡ pinsIn s (so .counts) 0 (so .pin) =
+      let none : mostPins - i ≡ 0 = omega arith in
+      let whole : pinsFrom mostPins 0 p r s counts ≡ pinsIn s (so .counts) 0 (so .pin) =
       w .result s ∙ ap (λ (n : ℕ). pinsIn s (so .counts) 0 (so .pin) ++ pinsFrom n i p r (drop (so .pin) s) (drop (so .used) counts)) none
       ∙ append-nil (pinsIn s (so .counts) 0 (so .pin)) in
       let many : so .pin ≡ ones p =
-      sym (length-pinsIn s (so .counts) 0 (so .pin)) ∙ ap length (sym whole) ∙ length-pinsFrom 6 0 p r s counts ∙ ap (onesIn 6) (div-one p)
-      ∙ sym (ones-in 6 p small) in
+      sym (length-pinsIn s (so .counts) 0 (so .pin)) ∙ ap length (sym whole) ∙ length-pinsFrom mostPins 0 p r s counts ∙ ap (onesIn mostPins) (div-one p)
+      ∙ sym (ones-in mostPins p small) in
       whole ∙ ap (pinsIn s (so .counts) 0) many

@@ -1,5 +1,6 @@
 // The rows of a net record: one gate, and one output.
 use fields::Field;
+use fields::NetField;
 use fields::Verdict;
 use fields::count_of;
 use fields::has;
@@ -8,7 +9,9 @@ use fields::ones_of;
 use fields::read_byte;
 use fields::read_items;
 use fields::table_bytes;
-use fields::wide;
+use inputs::wide;
+use limits::ITEMS;
+use limits::PINS;
 ghost use mathlib.Core.Path.{_≡_};
 ghost use mathlib.Core.List.{List};
 ghost use Prim.Native.Nat.{ℕ, _+_, _<_};
@@ -30,9 +33,9 @@ struct Maps {
 struct Lists {
     verdict: Verdict,
     at: usize,
-    sources: [u8; 8],
-    counts: [u8; 8],
-    table: [u8; 8],
+    sources: [u8; ITEMS],
+    counts: [u8; ITEMS],
+    table: [u8; ITEMS],
 }
 
 // A gate as read: its number of pins, the source and the count of each, and its table; and the place behind it.
@@ -40,14 +43,14 @@ pub struct GateRow {
     pub verdict: Verdict,
     pub at: usize,
     pub pins: usize,
-    pub sources: [u8; 8],
-    pub counts: [u8; 8],
+    pub sources: [u8; ITEMS],
+    pub counts: [u8; ITEMS],
     pub table: u64,
 }
 
 // The counts of the pins so far, the number of pins and of counts used.
 struct SpreadSoFar {
-    counts: [u8; 8],
+    counts: [u8; ITEMS],
     pin: usize,
     used: usize,
 }
@@ -61,7 +64,13 @@ pub struct OutputRow {
 }
 
 // Place i of the maps: a pin with the next count, a pin with none, or no pin.
-fn spread_one(so: SpreadSoFar, pins: u8, registers: u8, counts: [u8; 8], i: usize) -> SpreadSoFar
+fn spread_one(
+    so: SpreadSoFar,
+    pins: u8,
+    registers: u8,
+    counts: [u8; ITEMS],
+    i: usize,
+) -> SpreadSoFar
     requires { ⌜ i < mostPins ⌝ }
     requires { ⌜ Spreading pins registers counts i so ⌝ }
     ensures { λ r. ⌜ Spreading pins registers counts (i + 1) r ⌝ }
@@ -89,17 +98,17 @@ fn spread_one(so: SpreadSoFar, pins: u8, registers: u8, counts: [u8; 8], i: usiz
 }
 
 // The counts of a gate's pins, rising: those with a register bit take the counts in turn, the others have 0.
-fn spread(pins: u8, registers: u8, counts: [u8; 8]) -> [u8; 8]
+fn spread(pins: u8, registers: u8, counts: [u8; ITEMS]) -> [u8; ITEMS]
     requires { ⌜ pins < 64 ⌝ }
-    ensures { λ r. ⌜ ((s : List ℕ) → pinsFrom 6 0 pins registers s counts ≡ pinsIn s r 0 (ones pins)) ⌝ }
+    ensures { λ r. ⌜ ((s : List ℕ) → pinsFrom mostPins 0 pins registers s counts ≡ pinsIn s r 0 (ones pins)) ⌝ }
 {
     let mut so = SpreadSoFar {
-        counts: [0u8; 8],
+        counts: [0u8; ITEMS],
         pin: 0,
         used: 0,
     };
     let mut i: usize = 0;
-    while i < 6 {
+    while i < PINS {
         so = spread_one(so, pins, registers, counts, i);
         i += 1;
     }
@@ -142,14 +151,14 @@ fn first_of(a: Verdict, b: Verdict) -> Verdict
 fn read_maps(bytes: &[u8], at: usize, k: u32) -> Maps
     ensures { λ r. ⌜ MapsRead (now (bytes .entry)) at k r ⌝ }
 {
-    let pins = read_byte(bytes, at, Field::PinMap, 0);
+    let pins = read_byte(bytes, at, Field::Net(NetField::PinMap), 0);
     let v = pins.verdict;
     if let Verdict::Refused(n) = v {
         return no_maps(n);
     }
     let map = pins.value;
     let pin_width = width(map, k);
-    let registers = read_byte(bytes, pins.at, Field::RegisterMap, wide(map));
+    let registers = read_byte(bytes, pins.at, Field::Net(NetField::RegisterMap), wide(map));
     let register_map = registers.verdict;
     let w = first_of(pin_width, register_map);
     if let Verdict::Refused(n) = w {
@@ -169,9 +178,9 @@ fn no_lists(n: u8) -> Lists
     Lists {
         verdict: Verdict::Refused(n),
         at: 0,
-        sources: [0u8; 8],
-        counts: [0u8; 8],
-        table: [0u8; 8],
+        sources: [0u8; ITEMS],
+        counts: [0u8; ITEMS],
+        table: [0u8; ITEMS],
     }
 }
 
@@ -181,17 +190,19 @@ fn read_lists(bytes: &[u8], at: usize, pins: u8, registers: u8, nodes: usize) ->
     ensures { λ r. ⌜ ListsRead (now (bytes .entry)) at pins registers nodes r ⌝ }
 {
     let m = count_of(pins);
-    let sources = read_items(bytes, at, m, Field::Source, nodes);
+    let sources = read_items(bytes, at, m, Field::Net(NetField::Source), nodes);
     let v = sources.verdict;
     if let Verdict::Refused(n) = v {
         return no_lists(n);
     }
-    let counts = read_items(bytes, sources.at, count_of(registers), Field::Count, 0);
+    let r = count_of(registers);
+    let counts = read_items(bytes, sources.at, r, Field::Net(NetField::Count), 0);
     let w = counts.verdict;
     if let Verdict::Refused(n) = w {
         return no_lists(n);
     }
-    let table = read_items(bytes, counts.at, table_bytes(m), Field::Table, m);
+    let b = table_bytes(m);
+    let table = read_items(bytes, counts.at, b, Field::Net(NetField::Table), m);
     let x = table.verdict;
     if let Verdict::Refused(n) = x {
         return no_lists(n);
@@ -215,8 +226,8 @@ fn no_gate(n: u8) -> GateRow
         verdict: Verdict::Refused(n),
         at: 0,
         pins: 0,
-        sources: [0u8; 8],
-        counts: [0u8; 8],
+        sources: [0u8; ITEMS],
+        counts: [0u8; ITEMS],
         table: 0,
     }
 }
@@ -266,26 +277,28 @@ fn no_output(n: u8) -> OutputRow
 pub fn read_output(bytes: &[u8], at: usize, nodes: usize) -> OutputRow
     ensures { λ r. ⌜ OutputRead (now (bytes .entry)) at nodes r ⌝ }
 {
-    let map = read_byte(bytes, at, Field::OutputMap, 0);
+    let map = read_byte(bytes, at, Field::Net(NetField::OutputMap), 0);
     let v = map.verdict;
     if let Verdict::Refused(n) = v {
         return no_output(n);
     }
-    let source = read_byte(bytes, map.at, Field::Source, nodes);
+    let source = read_byte(bytes, map.at, Field::Net(NetField::Source), nodes);
     let w = source.verdict;
     if let Verdict::Refused(n) = w {
         return no_output(n);
     }
-    let counts = read_items(bytes, source.at, wide(map.value), Field::Count, 0);
+    let m = wide(map.value);
+    let counts = read_items(bytes, source.at, m, Field::Net(NetField::Count), 0);
     let x = counts.verdict;
     if let Verdict::Refused(n) = x {
         return no_output(n);
     }
     let values = counts.values;
+    let count = values[0];
     OutputRow {
         verdict: Verdict::Read,
         at: counts.at,
         source: source.value,
-        count: values[0],
+        count: count,
     }
 }

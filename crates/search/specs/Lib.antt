@@ -1,5 +1,9 @@
 pub mod Table
+pub mod TableLaws
 pub mod Contracts
+pub mod ContractsLaws
 pub mod Visits
+pub mod VisitsLaws
 pub mod Told
 pub mod Roots
+pub mod RootsLaws

@@ -1,21 +1,17 @@
 // One augmenting search over a table of one byte a copy.
 use circuit::Sizes;
+use inputs::wide;
 use limits::PINS;
 ghost use mathlib.Core.Path.{_≡_};
 ghost use mathlib.Core.Bool.{true, false};
 ghost use Prim.Native.Nat.{_+_, _-_, _*_, _/_, _≤_, _<_};
 ghost use lib.ListN.{length, getD};
+ghost use Rattle.limits.specs.Limits.{mostPins};
 ghost use Rattle.circuit.specs.Circuit.{circuit, endingAt, feedingAt};
 ghost use Rattle.search.specs.Table.{viewOf, Touched, withIn, withOut, withFlow};
 ghost use Rattle.search.specs.Visits.{OutAsked, LeaveAsked, InAsked, EnterAsked, OutTold, LeaveTold, InTold, EnterTold};
 ghost use Rattle.search.specs.Roots.{RootAsked, RootPinAsked, RootPinTold, RootAllTold, SearchAsked, SearchTold};
 ghost use Rattle.search.specs.Contracts.{SourceAsked, TouchTold, MarkedInTold, MarkedOutTold, CandidateAsked, CandidateTold, SeekAsked, SeekTold, EntryTold, WayPlace, WayTold, Turn};
-
-fn wide(x: u8) -> usize
-    ensures { λ r. ⌜ (r ≡ x) × (r < 256) ⌝ }
-{
-    x as usize
-}
 
 // ---- the byte of a copy
 
@@ -117,7 +113,7 @@ fn terminal(s: Sizes, x: usize) -> usize
 // The copy that feeds x by pin j.
 pub fn source(s: Sizes, sources: &[usize], counts: &[usize], x: usize, j: usize) -> usize
     requires { ⌜ SourceAsked (s .inputs) (s .width) (now sources) (now counts) x j ⌝ }
-    ensures { λ r. ⌜ r ≡ feedingAt (s .width) (now (sources .entry)) (now (counts .entry)) x (6 * (x / s .width - s .inputs) + j) ⌝ }
+    ensures { λ r. ⌜ r ≡ feedingAt (s .width) (now (sources .entry)) (now (counts .entry)) x (mostPins * (x / s .width - s .inputs) + j) ⌝ }
 {
     let p = PINS * (x / s.width - s.inputs) + j;
     sources[p] * s.width + (x % s.width + counts[p])

@@ -7,4 +7,9 @@ pub mod Subsets
 pub mod Grow
 pub mod Sum
 pub mod Tests
+pub mod TestLaws
 pub mod Zeros
+pub mod Listed
+pub mod Stored
+pub mod StoredLaws
+pub mod Behind

@@ -10,7 +10,8 @@ use lib.Dec.{T}
 use mir.Syntax.{w64}
 use mir.Val.{SFits, toZ, ofZ}
 use mir.ValLaws.{toZ-ofZ}
-use Rattle.integers.specs.Parts.{up, dn, +-parts, sub-parts}
+use Rattle.integers.specs.Parts.{up, dn, ints, +-parts, sub-parts}
+use Rattle.integers.specs.Order.{≤ℤ-antisym}
 use Rattle.signed.specs.Range.{Small, room}
 
 -- the size of a number, by its parts
@@ -37,6 +38,17 @@ fits-of z m a h = record { sfits = omega arith }
 pub small-fits : (z : ℤ) → Small z → SFits w64 z
 small-fits z s = fits-of z room (omega arith) (s .size)
 
+-- numbers between small ones are small
+pub small-between : (a b z : ℤ) → Small a → Small b → a ≤ℤ z → z ≤ℤ b → Small z
+small-between a b z s t h l =
+    let p = mag-parts a room (s .size) in
+    let q = mag-parts b room (t .size) in
+    record { size = go z h l (p .1) (q .0) }
+  where
+    go : (z : ℤ) → a ≤ℤ z → z ≤ℤ b → dn a ≤ suc room → up b ≤ room → mag z ≤ room
+    go (pos n) h l x y = omega (arith, ints, h, l, x, y)
+    go (negsuc n) h l x y = omega (arith, ints, h, l, x, y)
+
 pub minus-mag : (z : ℤ) (n m k : ℕ) → mag z ≤ m → n ≤ k → mag (z -ℤ pos n) ≤ m + k
 minus-mag z n m k h l =
     let p = mag-parts z m h in
@@ -58,3 +70,10 @@ ltZ-true a b e = ltZ-yes (subst T (sym e) tt)
 
 pub ltZ-false : (a b : ℤ) → ltZ a b ≡ false → b ≤ℤ a
 ltZ-false a b e = ltZ-no (subst (λ (t : Bool). T (mathlib.Core.Bool.not t)) (sym e) tt)
+
+pub less-none : (z : ℤ) → (z -ℤ pos 0) ≡ z
+less-none z = ≤ℤ-antisym (omega (arith, ints, sub-parts z (pos 0))) (omega (arith, ints, sub-parts z (pos 0)))
+
+-- what a test told, of equal numbers
+pub told-of : {b : Bool} {x x′ y y′ : ℤ} → x ≡ x′ → y ≡ y′ → (b ≡ true → x <ℤ y) × (b ≡ false → y ≤ℤ x) → (b ≡ true → x′ <ℤ y′) × (b ≡ false → y′ ≤ℤ x′)
+told-of e f t = (λ h. rw (sym e, sym f) (t .0 h), λ h. rw (sym e, sym f) (t .1 h))

@@ -1,9 +1,2 @@
-pub mod Counts
-pub mod Found
-pub mod Planned
-pub mod Entries
-pub mod Covering
-pub mod Engines
-pub mod Ready
-pub mod Checking
 pub mod Settling
+pub mod SettlingLaws

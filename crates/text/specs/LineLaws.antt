@@ -7,24 +7,16 @@ use native.Mathlib.Omega.{arith}
 use borrow.Author.Tests.{ne-eqb}
 use lib.IntN.{ℤ}
 use lib.ListN.{length, getD}
-use mir.Syntax.{w64}
-use mir.Val.{toZ, ofZ}
 use Rattle.integers.specs.Lag.{lag}
 use Rattle.netlist.specs.Arrays.{stride, copiesFrom}
 use Rattle.netlist.specs.ArrayLaws.{length-copiesFrom}
 use Rattle.netlist.specs.Net.{Net}
 use Rattle.covers.specs.Key.{Entry}
-use Rattle.records.specs.Kept.{Kept, entryAt, entriesFrom, entriesIn}
-use Rattle.records.specs.Listing.{decimal, signed, tableText, leafText, lutLine, lutLines, coverText, registerCount, lutWord, labelWord, lagWord, tableWord, leavesWord, newline, periodWord, lutsWord, registersWord, refusedWord, refusalText, excessWord, excessText}
-use Rattle.signed.specs.Range.{Small}
-use Rattle.signed.specs.RangeLaws.{back, small-fits}
+use Rattle.records.specs.Kept.{Kept, entryAt, entriesFrom, entriesIn, labelAt}
+use Rattle.records.specs.Listing.{decimal, signed, tableText, leafText, lutLine, lutLines, coverText, registerCount, lutWord, labelWord, lagWord, tableWord, leavesWord, newline, periodWord, lutsWord, registersWord}
 use Rattle.writer.specs.Writing.{marked}
 use Rattle.writer.specs.CoverLaws.{entries-split, count-entries}
-use Rattle.text.specs.Text.{Put, labelIn, lineFront, lineBack, firstLine, lineAt, linesFrom}
-
--- a stored number
-pub put-stored : {m at r : ℕ} {before after : List ℕ} (word : List ℕ) (z : ℤ) → Small z → Put m at (word ++ signed (toZ w64 (ofZ w64 z))) before after r → Put m at (word ++ signed z) before after r
-put-stored word z s w = rw (back z (small-fits z s)) at w
+use Rattle.text.specs.Text.{lineFront, lineBack, firstLine, lineAt, linesFrom}
 
 -- ---- leaves
 
@@ -54,24 +46,24 @@ regroup : (f a b c d e : List ℕ) → f ++ a ++ b ++ c ++ d ++ e ≡ f ++ (a ++
 regroup f a b c d e = simp append-assoc
 
 module _ (a : Kept) (g : ℕ) where
-  line-text : lutLine (labelIn a) (entryAt a g)
-      ≡ lineFront (a .inputs + g) (labelIn a (a .inputs + g)) (lag (a .period) (labelIn a (a .inputs + g))) ++ lineBack (getD (a .sizes) g 0) (getD (a .tables) g 0) (a .nodes) (a .backs) (stride * g)
+  line-text : lutLine (labelAt a) (entryAt a g)
+      ≡ lineFront (a .inputs + g) (labelAt a (a .inputs + g)) (lag (a .period) (labelAt a (a .inputs + g))) ++ lineBack (getD (a .sizes) g 0) (getD (a .tables) g 0) (a .nodes) (a .backs) (stride * g)
   unfolding lutLine entryAt lineFront lineBack
   line-text =
       let L = copiesFrom (a .nodes) (a .backs) (stride * g) (getD (a .sizes) g 0) in
       let t = getD (a .tables) g 0 in
-      ap (λ (n : ℕ). lutWord ++ decimal (a .inputs + g) ++ labelWord ++ signed (labelIn a (a .inputs + g)) ++ lagWord ++ signed (lag (a .period) (labelIn a (a .inputs + g))) ++ tableWord ++ tableText n t ++ leavesWord ++ leafText L ++ newline)
+      ap (λ (n : ℕ). lutWord ++ decimal (a .inputs + g) ++ labelWord ++ signed (labelAt a (a .inputs + g)) ++ lagWord ++ signed (lag (a .period) (labelAt a (a .inputs + g))) ++ tableWord ++ tableText n t ++ leavesWord ++ leafText L ++ newline)
       (length-copiesFrom (a .nodes) (a .backs) (stride * g) (getD (a .sizes) g 0))
-      ∙ regroup (lutWord ++ decimal (a .inputs + g) ++ labelWord ++ signed (labelIn a (a .inputs + g)) ++ lagWord ++ signed (lag (a .period) (labelIn a (a .inputs + g)))) tableWord (tableText (getD (a .sizes) g 0) t) leavesWord (leafText L) newline
+      ∙ regroup (lutWord ++ decimal (a .inputs + g) ++ labelWord ++ signed (labelAt a (a .inputs + g)) ++ lagWord ++ signed (lag (a .period) (labelAt a (a .inputs + g)))) tableWord (tableText (getD (a .sizes) g 0) t) leavesWord (leafText L) newline
 
   pub line-none : getD (a .marks) g 0 ≡ 0 → lineAt a g ≡ []
   unfolding lineAt entriesFrom lutLines
   line-none m = rw m refl
 
   pub line-some : (getD (a .marks) g 0 ≡ 0 → ⊥)
-      → lineAt a g ≡ lineFront (a .inputs + g) (labelIn a (a .inputs + g)) (lag (a .period) (labelIn a (a .inputs + g))) ++ lineBack (getD (a .sizes) g 0) (getD (a .tables) g 0) (a .nodes) (a .backs) (stride * g)
+      → lineAt a g ≡ lineFront (a .inputs + g) (labelAt a (a .inputs + g)) (lag (a .period) (labelAt a (a .inputs + g))) ++ lineBack (getD (a .sizes) g 0) (getD (a .tables) g 0) (a .nodes) (a .backs) (stride * g)
   unfolding lineAt entriesFrom lutLines
-  line-some m = rw (ne-eqb (getD (a .marks) g 0) 0 m) (append-nil (lutLine (labelIn a) (entryAt a g)) ∙ line-text)
+  line-some m = rw (ne-eqb (getD (a .marks) g 0) 0 m) (append-nil (lutLine (labelAt a) (entryAt a g)) ∙ line-text)
 
 -- ---- all lines
 
@@ -88,8 +80,8 @@ pub lines-more : (a : Kept) (g : ℕ) → g < a .gates → linesFrom a g ≡ lin
 unfolding linesFrom lineAt
 lines-more a g h =
     let e : a .gates - g ≡ 1 + (a .gates - (g + 1)) = omega arith in
-    ap (λ (n : ℕ). lutLines (labelIn a) (entriesFrom a g n)) e ∙ ap (lutLines (labelIn a)) (entries-split a g 1 (a .gates - (g + 1)))
-    ∙ lines-append (labelIn a) (entriesFrom a g 1) (entriesFrom a (g + 1) (a .gates - (g + 1)))
+    ap (λ (n : ℕ). lutLines (labelAt a) (entriesFrom a g n)) e ∙ ap (lutLines (labelAt a)) (entries-split a g 1 (a .gates - (g + 1)))
+    ∙ lines-append (labelAt a) (entriesFrom a g 1) (entriesFrom a (g + 1) (a .gates - (g + 1)))
 
 -- ---- the text
 
@@ -101,17 +93,9 @@ unfolding firstLine
 first-text period count registers = pairs periodWord (decimal period) lutsWord (decimal count) registersWord (signed registers) newline
 
 pub cover-text : (N : Net) (a : Kept) (count : ℕ) (registers : ℤ) → count ≡ marked (a .marks) (a .gates) → registers ≡ registerCount N (entriesIn a)
-    → firstLine (a .period) count registers ++ linesFrom a 0 ≡ coverText N (a .period) (labelIn a) (entriesIn a)
+    → firstLine (a .period) count registers ++ linesFrom a 0 ≡ coverText N (a .period) (labelAt a) (entriesIn a)
 unfolding firstLine linesFrom coverText entriesIn
 cover-text N a count registers e f =
     let g : a .gates - 0 ≡ a .gates = omega arith in
     ap₂ (λ (n : ℕ) (z : ℤ). firstLine (a .period) n z ++ linesFrom a 0) (e ∙ sym (count-entries a (a .gates))) f
-    ∙ ap (λ (n : ℕ). firstLine (a .period) (length (entriesIn a)) (registerCount N (entriesIn a)) ++ lutLines (labelIn a) (entriesFrom a 0 n)) g
-
-pub refusal-text : (n : ℕ) → (refusedWord ++ decimal n) ++ newline ≡ refusalText n
-unfolding refusalText
-refusal-text n = refl
-
-pub excess-text : (n : ℕ) → (excessWord ++ decimal n) ++ newline ≡ excessText n
-unfolding excessText
-excess-text n = refl
+    ∙ ap (λ (n : ℕ). firstLine (a .period) (length (entriesIn a)) (registerCount N (entriesIn a)) ++ lutLines (labelAt a) (entriesFrom a 0 n)) g

@@ -11,7 +11,7 @@ use Rattle.netlist.specs.Arrays.{stride, pinsIn, copiesFrom}
 use Rattle.netlist.specs.Net.{Net}
 use Rattle.limits.specs.Limits.{mostGates, mostOutputs, textRoom, depthRoom}
 use Rattle.covers.specs.Key.{Entry}
-use Rattle.records.specs.Kept.{Kept, kept, entriesFrom, entriesIn}
+use Rattle.records.specs.Kept.{Kept, kept, entriesFrom, entriesIn, labelAt}
 use Rattle.records.specs.Listing.{coverText, digitText, reversed, hexLow, decimal, signed, tableText, leafText, lutWord, labelWord, lagWord, tableWord, leavesWord, newline, periodWord, lutsWord, registersWord, lutLines, lutSum, outputSum}
 use Rattle.records.specs.RoundTrip.{SmallLag}
 use Rattle.signed.specs.Range.{Small}
@@ -30,25 +30,9 @@ pub record Listable (a : Kept) (os oc : List ℕ) (n : ℕ) (out : List ℕ) : T
   pub small : Below depthRoom oc 0 n
   pub room : textRoom ≤ length out
 
--- the label of a node
-abbrev pub labelIn : Kept → ℕ → ℤ
-labelIn a u = getD (a .labels) u (pos 0)
-
 -- the text of the cover, for every net that has these outputs
 pub record Lists (a : Kept) (os oc : List ℕ) (n : ℕ) (before after : List ℕ) (r : ℕ) : Type 0 where
-  pub each : (N : Net) → N .outputs ≡ pinsIn os oc 0 n → Wrote (coverText N (a .period) (labelIn a) (entriesIn a)) before after r
-
--- ---- a part of the text
-
--- bytes put from place `at` on, at most so many; the place behind them is told
-pub record Put (most at : ℕ) (bytes before after : List ℕ) (r : ℕ) : Type 0 where
-  pub ends : r ≡ at + length bytes
-  pub few : length bytes ≤ most
-  pub area : after ≡ sets before at bytes
-
--- n hexadecimal digits
-unfoldable pub hexText : ℕ → ℕ → List ℕ
-hexText n w = digitText (reversed (hexLow n w) [])
+  pub each : (N : Net) → N .outputs ≡ pinsIn os oc 0 n → Wrote (coverText N (a .period) (labelAt a) (entriesIn a)) before after r
 
 -- a LUT's line up to its lag, and from its table on
 unfoldable pub lineFront : ℕ → ℤ → ℤ → List ℕ
@@ -63,11 +47,11 @@ firstLine period count registers = periodWord ++ decimal period ++ lutsWord ++ d
 
 -- the line of gate g, none where it has no LUT
 unfoldable pub lineAt : Kept → ℕ → List ℕ
-lineAt a g = lutLines (labelIn a) (entriesFrom a g 1)
+lineAt a g = lutLines (labelAt a) (entriesFrom a g 1)
 
 -- the lines of the gates from gate g on
 unfoldable pub linesFrom : Kept → ℕ → List ℕ
-linesFrom a g = lutLines (labelIn a) (entriesFrom a g (a .gates - g))
+linesFrom a g = lutLines (labelAt a) (entriesFrom a g (a .gates - g))
 
 -- gate g of the arrays, and room for its line
 pub record GateAsked (a : Kept) (g at : ℕ) (out : List ℕ) : Type 0 where
@@ -82,46 +66,3 @@ pub record GatesAsked (a : Kept) (g at : ℕ) (out : List ℕ) : Type 0 where
   pub luts : LutsHeld a
   pub gate : g ≤ a .gates
   pub room : at + 361 * (a .gates - g) ≤ length out
-
--- ---- sums
-
--- a whole number from −m to m
-pub record Within (m : ℕ) (z : ℤ) : Type 0 where
-  pub high : up z ≤ m
-  pub low : dn z ≤ m
-
--- r is z, from −m to m
-pub record Counted (m : ℕ) (z r : ℤ) : Type 0 where
-  pub same : r ≡ z
-  pub within : Within m r
-
--- the arrays of labels and marks alone
-abbrev pub marking : ℕ → ℕ → ℕ → List ℤ → List ℕ → Kept
-marking inputs gates period labels marks = kept inputs gates period labels marks [] [] [] []
-
--- the lags of the marked gates
-abbrev pub lagsOf : Kept → List Entry
-lagsOf a = entriesIn (marking (a .inputs) (a .gates) (a .period) (a .labels) (a .marks))
-
--- the register count for n outputs
-unfoldable pub registersOf : Kept → List ℕ → List ℕ → ℕ → ℤ
-registersOf a os oc n = lutSum (lagsOf a) (entriesFrom a 0 (a .gates)) +ℤ outputSum (lagsOf a) (pinsIn os oc 0 n)
-
--- the arrays are long enough, and the lags of the marked gates are small
-pub record LagsHeld (a : Kept) : Type 0 where
-  pub marks : a .gates ≤ length (a .marks)
-  pub labels : a .inputs + a .gates ≤ length (a .labels)
-  pub least : 1 ≤ a .period
-  pub period : a .period < 256
-  pub label : (g : ℕ) → g < a .gates → (getD (a .marks) g 0 ≡ 0 → ⊥) → Small (labelIn a (a .inputs + g))
-  pub small : (g : ℕ) → g < a .gates → (getD (a .marks) g 0 ≡ 0 → ⊥) → SmallLag (lag (a .period) (labelIn a (a .inputs + g)))
-
--- the arrays hold the leaves of the marked gates, without their tables
-pub record LeavesHeld (a : Kept) : Type 0 where
-  pub lags : LagsHeld (marking (a .inputs) (a .gates) (a .period) (a .labels) (a .marks))
-  pub few : a .gates ≤ mostGates
-  pub sizes : a .gates ≤ length (a .sizes)
-  pub nodes : stride * a .gates ≤ length (a .nodes)
-  pub backs : stride * a .gates ≤ length (a .backs)
-  pub leaves : (g : ℕ) → g < a .gates → (getD (a .marks) g 0 ≡ 0 → ⊥) → getD (a .sizes) g 0 ≤ stride
-  pub small : (g : ℕ) → g < a .gates → (getD (a .marks) g 0 ≡ 0 → ⊥) → Below depthRoom (a .backs) (stride * g) (getD (a .sizes) g 0)

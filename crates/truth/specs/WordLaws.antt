@@ -9,6 +9,7 @@ use native.Mathlib.Omega.{arith}
 use lib.Dec.{T, eqb}
 use lib.ListN.{length, getD, take, drop, length-map, length-drop, length-take, drop-of-length-le}
 use lib.Seq.{drop-cons, length-take-le, getD-take}
+use Rattle.limits.specs.Limits.{mostPins}
 use Rattle.netlist.specs.Tables.{bit, asNumber, index, apply, pack}
 use Rattle.tables.specs.Words.{bit-pack, pack-small, pack-same, index-small}
 use Rattle.truth.specs.Words.{LeafWord, leafTable, valuesAt, Composed}
@@ -47,13 +48,13 @@ at-below f (suc n) i t h = let p = both-parts (f n) (allBelow f n) t in go (p .0
     go p rest (no m) = rest (omega arith)
 
 -- One test over the whole table: bit i of word j is bit j of i.
-leaf-test : T (allBelow (λ j. allBelow (λ i. agree (bit (getD leafTable j 0) i) (bit i j)) 64) 6)
+leaf-test : T (allBelow (λ j. allBelow (λ i. agree (bit (getD leafTable j 0) i) (bit i j)) 64) mostPins)
 leaf-test = tt
 
-pub leaf-words : (j : ℕ) → j < 6 → LeafWord j (getD leafTable j 0)
+pub leaf-words : (j : ℕ) → j < mostPins → LeafWord j (getD leafTable j 0)
 leaf-words j h i k =
     agree-same (bit (getD leafTable j 0) i) (bit i j)
-    (at-below (λ b. agree (bit (getD leafTable j 0) b) (bit b j)) 64 i (at-below (λ a. allBelow (λ b. agree (bit (getD leafTable a 0) b) (bit b a)) 64) 6 j leaf-test h) k)
+    (at-below (λ b. agree (bit (getD leafTable j 0) b) (bit b j)) 64 i (at-below (λ a. allBelow (λ b. agree (bit (getD leafTable a 0) b) (bit b a)) 64) mostPins j leaf-test h) k)
 
 -- ---- a bit as a number
 
@@ -96,8 +97,8 @@ module _ (words : List ℕ) (m i : ℕ) (fits : m ≤ length words) where
       a
 
   -- at most six words: an index below 64
-  pub index-low : m ≤ 6 → (j : ℕ) → indexFrom words m i j < 64
-  index-low h j = few-bits (indexFrom words m i j) (m - j) 6 (index-bound j) (omega arith)
+  pub index-low : m ≤ mostPins → (j : ℕ) → indexFrom words m i j < 64
+  index-low h j = few-bits (indexFrom words m i j) (m - j) mostPins (index-bound j) (omega arith)
 
   pub index-next : (j at v : ℕ) → 0 < j → j ≤ m → at ≡ indexFrom words m i j → v ≡ asNumber (bit (getD words (j - 1) 0) i) → 2 * at + v ≡ indexFrom words m i (j - 1)
   index-next j at v p h e f =
@@ -146,9 +147,9 @@ packFrom-low f n i h p = few-bits (packFrom f n i) (n - i) 63 (packFrom-bound f 
 abbrev pub valueOf : ℕ → List ℕ → ℕ → ℕ → Bool
 valueOf table words m i = apply table (valuesAt words m i)
 
-pub values-low : (words : List ℕ) (m i : ℕ) → m ≤ 6 → index (valuesAt words m i) < 64
+pub values-low : (words : List ℕ) (m i : ℕ) → m ≤ mostPins → index (valuesAt words m i) < 64
 values-low words m i h =
-    few-bits (index (valuesAt words m i)) (length (valuesAt words m i)) 6 (index-small (valuesAt words m i))
+    few-bits (index (valuesAt words m i)) (length (valuesAt words m i)) mostPins (index-small (valuesAt words m i))
     (let a = length-map (take m words) (λ (w : ℕ). bit w i) in let b = length-take m words in omega arith)
 
 pub composed : (table : ℕ) (words : List ℕ) (m n r i : ℕ) → i ≡ 0 → r ≡ packFrom (valueOf table words m) n i → Composed table words m n r

@@ -1,3 +1,4 @@
 pub mod Visits
+pub mod BoundLaws
+pub mod ReadyLaws
 pub mod VisitLaws
-pub mod Visiting

@@ -1,91 +1,22 @@
 // One visit of a gate: its label raised to what every labelling reaches, unless nothing can change or it would pass its ceiling.
 use circuit::Sizes;
 use limits::PINS;
+use pinheights::best_pin;
+use pinheights::pin_height;
 use query::question;
-use signed::minus;
 use signed::no_higher;
 use signed::plus_one;
 use signed::whole;
 ghost use mathlib.Core.Path.{_≡_};
 ghost use mathlib.Core.Bool.{true, false};
-ghost use Prim.Native.Nat.{ℕ, _+_, _*_, _≤_, _<_};
+ghost use Prim.Native.Nat.{_+_, _*_, _≤_, _<_};
 ghost use lib.IntN.{pos, _+ℤ_};
 ghost use lib.ListN.{length, set};
 ghost use lib.Signed.{_≤ℤ_, _<ℤ_};
-ghost use Rattle.signed.specs.Range.{Small, room};
+ghost use Rattle.signed.specs.Range.{Small, room, labelIn};
 ghost use Rattle.circuit.specs.Circuit.{circuit};
-ghost use Rattle.query.specs.Question.{AtRest, labelIn};
-ghost use Rattle.visits.specs.Visits.{wiring, heightAt, PinMax, PinFits, Best, Raised, Ready, Ceilings, Visited};
-
-// Whether the pin at place a is lower than the pin at place b.
-fn pin_less(
-    sources: &[usize],
-    counts: &[usize],
-    labels: &[i64],
-    phi: usize,
-    a: usize,
-    b: usize,
-) -> bool
-    requires { ⌜ PinFits (now sources) (now counts) (now labels) phi a × PinFits (now sources) (now counts) (now labels) phi b ⌝ }
-    ensures yes { λ r. ⌜ (r ≡ true → heightAt (now (sources .entry)) (now (counts .entry)) (now (labels .entry)) phi a <ℤ heightAt (now (sources .entry)) (now (counts .entry)) (now (labels .entry)) phi b) ⌝ }
-    ensures no { λ r. ⌜ (r ≡ false → heightAt (now (sources .entry)) (now (counts .entry)) (now (labels .entry)) phi b ≤ℤ heightAt (now (sources .entry)) (now (counts .entry)) (now (labels .entry)) phi a) ⌝ }
-{
-    let high = pin_height(sources, counts, labels, phi, b);
-    let node = sources[a];
-    let shift = phi * counts[a];
-    no_higher(labels[node], shift, high)
-}
-
-// label(u) − φ·w for the pin at place i.
-pub fn pin_height(sources: &[usize], counts: &[usize], labels: &[i64], phi: usize, i: usize) -> i64
-    requires { ⌜ PinFits (now sources) (now counts) (now labels) phi i ⌝ }
-    ensures { λ r. ⌜ r ≡ heightAt (now (sources .entry)) (now (counts .entry)) (now (labels .entry)) phi i ⌝ }
-{
-    let node = sources[i];
-    let shift = phi * counts[i];
-    minus(labels[node], shift)
-}
-
-// Pin j where it is higher than the best so far.
-fn better(
-    sources: &[usize],
-    counts: &[usize],
-    labels: &[i64],
-    phi: usize,
-    at: usize,
-    best: usize,
-    j: usize,
-) -> usize
-    requires { ⌜ (at + j < length (now sources)) × PinFits (now sources) (now counts) (now labels) phi (at + best) × PinFits (now sources) (now counts) (now labels) phi (at + j) × Best (now sources) (now counts) (now labels) phi at j best ⌝ }
-    ensures { λ r. ⌜ Best (now (sources .entry)) (now (counts .entry)) (now (labels .entry)) phi at (j + 1) r ⌝ }
-{
-    if pin_less(sources, counts, labels, phi, at + best, at + j) {
-        j
-    } else {
-        best
-    }
-}
-
-// The highest of n pins from place `at` on.
-fn best_pin(
-    sources: &[usize],
-    counts: &[usize],
-    labels: &[i64],
-    phi: usize,
-    at: usize,
-    n: usize,
-) -> usize
-    requires { ⌜ (0 < n) × (at + n ≤ length (now sources)) × ((j : ℕ) → j < n → PinFits (now sources) (now counts) (now labels) phi (at + j)) ⌝ }
-    ensures { λ r. ⌜ Best (now (sources .entry)) (now (counts .entry)) (now (labels .entry)) phi at n r ⌝ }
-{
-    let mut best = 0;
-    let mut j = 1;
-    while j < n {
-        best = better(sources, counts, labels, phi, at, best, j);
-        j += 1;
-    }
-    best
-}
+ghost use Rattle.query.specs.Question.{AtRest};
+ghost use Rattle.visits.specs.Visits.{wiring, PinMax, Raised, Ready, Ceilings, Visited};
 
 // Raises a label to p: 1 if it was lower.
 fn raise(labels: &mut [i64], v: usize, p: i64) -> usize

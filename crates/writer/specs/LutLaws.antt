@@ -9,7 +9,7 @@ use native.Mathlib.Omega.{arith}
 use borrow.Author.Tests.{ne-eqb}
 use lib.IntN.{ℤ}
 use lib.ListN.{length, length-map, getD, length-append}
-use Rattle.limits.specs.Limits.{depthRoom}
+use Rattle.limits.specs.Limits.{depthRoom, mostPins}
 use Rattle.netlist.specs.Arrays.{copyAt, copiesFrom}
 use Rattle.netlist.specs.ArrayLaws.{length-copiesFrom}
 use Rattle.netlist.specs.Copies.{Copy, copy}
@@ -131,14 +131,14 @@ map-more backs at n j h =
     rw (e, ← f) refl
 
 -- at most six leaves give a map below 64
-pub map-below : (nodes backs : List ℕ) (at n : ℕ) → n ≤ 6 → leafMap (copiesFrom nodes backs at n) < 64
+pub map-below : (nodes backs : List ℕ) (at n : ℕ) → n ≤ mostPins → leafMap (copiesFrom nodes backs at n) < 64
 map-below nodes backs at n h =
     let a = leafMap-small (copiesFrom nodes backs at n) in
     let b = length-copiesFrom nodes backs at n in
-    let c : 2 ^ length (copiesFrom nodes backs at n) ≤ 2 ^ 6 = lib.Pow.pow-mono {i = length (copiesFrom nodes backs at n)} {j = 6} (omega arith) in
+    let c : 2 ^ length (copiesFrom nodes backs at n) ≤ 2 ^ mostPins = lib.Pow.pow-mono {i = length (copiesFrom nodes backs at n)} {j = mostPins} (omega arith) in
     omega arith
 
-pub map-small : (backs : List ℕ) (at n j : ℕ) → n ≤ 6 → mapFrom backs at n j < 64
+pub map-small : (backs : List ℕ) (at n j : ℕ) → n ≤ mostPins → mapFrom backs at n j < 64
 unfolding mapFrom
 map-small backs at n j h = map-below [] backs (at + j) (n - j) (omega arith)
 

@@ -1,4 +1,5 @@
 // A cover kept in arrays, written as a cover record: each LUT into the part of the area that starts behind the last one.
+use limits::PINS;
 ghost use mathlib.Core.Path.{_≡_};
 ghost use mathlib.Core.Bool.{cond};
 ghost use mathlib.Core.List.{[], _∷_, map};
@@ -216,7 +217,7 @@ fn write_gate(
     }
     let root = s.inputs + g;
     let lag = lag_of(labels[root], s.period);
-    write_lut(root, nodes, backs, 6 * g, sizes[g], lag, tables[g], area)
+    write_lut(root, nodes, backs, PINS * g, sizes[g], lag, tables[g], area)
 }
 
 // The LUTs, each behind the last.

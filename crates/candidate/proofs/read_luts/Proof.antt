@@ -1,8 +1,9 @@
 -- `candidate::read_luts` meets its contract: the loop keeps that reading the LUTs that are left gives the same as reading all.
-use borrow.Author.Tests.{not-true, not-false}
+use borrow.Author.Needs.{needs}
 use denote.Ref.{now}
 use Prim.Native.Nat.{_-_}
-use mathlib.Core.Bool.{false≢true}
+use mathlib.Core.Path.{refl}
+use Rattle.fields.specs.FieldLaws.{not-both}
 use native.Mathlib.Omega.{arith}
 use Rattle.candidate.specs.StoreLaws.{LutsSoFar, luts-none, luts-one, luts-stop, luts-all, luts-small}
 use Rattle.candidate.proofs.read_luts.Statement.{statement}
@@ -20,16 +21,22 @@ loop-holds c = let a = c .before .args in luts-none (now (a .bytes)) (a .at) (a 
 read-lut-requires : tie.Need-read-lut-requires Inv-loop μ-loop
 read-lut-requires c κs = c .before .before .before .pre .0
 
+enum-known-v : tie.Need-enum-known-v Inv-loop μ-loop
+enum-known-v c = search needs
+
 returns : tie.Need-returns Inv-loop μ-loop
 returns c =
-    let a = c .before .before .before .before .before .before .args in
-    let l = c .before .before .before .before .loop in
-    let r = c .before .before .read-lut in
+    let a = c .before .before .before .before .before .before .before .args in
+    let l = c .before .before .before .before .before .loop in
+    let r = c .before .before .before .read-lut in
     record {
-      result = luts-stop (now (a .bytes)) (a .at) (a .nodes) (a .k) (a .inputs) (a .luts) (l .out) (l .next) (l .least) (l .i) (l .inv) (r .result) (c .before .before .before .loop-test .taken) (r .ensures) (not-true _ (c .if1 .taken));
+      result = luts-stop (now (a .bytes)) (a .at) (a .nodes) (a .k) (a .inputs) (a .luts) (l .out) (l .next) (l .least) (l .i) (l .inv) (r .result) (c .before .before .before .before .loop-test .taken) (r .ensures) (c .before .v .given .1);
       same = l .inv .same;
-      small = λ good. absurd (false≢true good);
+      small = λ good. absurd (not-both good refl);
     }
+
+enum-told : tie.Need-enum-told Inv-loop μ-loop
+enum-told c = search needs
 
 add-least : tie.Need-add-least Inv-loop μ-loop
 add-least c = omega (arith, c .before .before .before .read-lut .ensures .root)
@@ -48,7 +55,7 @@ loop-again c =
     let a = c .before .before .before .before .before .before .before .before .args in
     let l = c .before .before .before .before .before .before .loop in
     let r = c .before .before .before .before .read-lut in
-    luts-one (now (a .bytes)) (a .at) (a .nodes) (a .k) (a .inputs) (a .luts) (l .out) (l .next) (l .least) (l .i) (l .inv) (r .result) (c .store-lut .result) _ (c .before .before .before .before .before .loop-test .taken) (r .ensures) (not-false _ (c .before .before .if1 .left)) (c .store-lut .ensures) (omega arith)
+    luts-one (now (a .bytes)) (a .at) (a .nodes) (a .k) (a .inputs) (a .luts) (l .out) (l .next) (l .least) (l .i) (l .inv) (r .result) (c .store-lut .result) _ (c .before .before .before .before .before .loop-test .taken) (r .ensures) (c .before .before .enum-told .given .1) (c .store-lut .ensures) (omega arith)
 
 returns-2 : tie.Need-returns-2 Inv-loop μ-loop
 returns-2 c =
@@ -68,7 +75,9 @@ read-luts-spec =
     μ-loop
     loop-holds
     read-lut-requires
+    enum-known-v
     returns
+    enum-told
     add-least
     store-lut-requires
     add-i

@@ -3,19 +3,21 @@ use borrow.Author.Needs.{needs}
 use mathlib.Core.Path.{_≡_}
 use Prim.Native.Nat.{_≤_, _-_}
 use native.Mathlib.Omega.{arith}
+use lib.ListN.{length}
+use Rattle.limits.specs.Limits.{mostLeaves, mostPins}
 use Rattle.candidate.specs.Contracts.{LeavesStored}
 use Rattle.candidate.specs.StoreLaws.{leaves-none, leaves-one}
 use Rattle.candidate.proofs.store_leaves.Statement.{statement}
 use Rattle.candidate.proofs.store_leaves.Tie as tie
 
 abbrev Inv-loop : tie.InvT-loop
-Inv-loop i nodes backs out₀ j₀ out j = (j ≤ 6) × LeavesStored out₀ i nodes backs j out
+Inv-loop i nodes backs out₀ j₀ out j = (j ≤ mostPins) × LeavesStored out₀ i nodes backs j out
 
 abbrev μ-loop : tie.MeasureT-loop
-μ-loop i nodes backs out₀ j₀ out j = 6 - j
+μ-loop i nodes backs out₀ j₀ out j = mostPins - j
 
 loop-holds : tie.Need-loop-holds Inv-loop μ-loop
-loop-holds c = (omega arith, leaves-none (c .before .before .args .luts) (c .before .before .args .i) (c .before .before .args .row .nodes) (c .before .before .args .row .backs) (search needs) (search needs))
+loop-holds c = (omega arith, leaves-none (c .before .before .args .luts) (c .before .before .args .i) (c .before .before .args .row .nodes) (c .before .before .args .row .backs))
 
 mul-store-leaf : tie.Need-mul-store-leaf Inv-loop μ-loop
 mul-store-leaf c = omega arith
@@ -45,11 +47,16 @@ loop-less : tie.Need-loop-less Inv-loop μ-loop
 loop-less c = omega arith
 
 loop-again : tie.Need-loop-again Inv-loop μ-loop
-loop-again c = (omega arith, rw (c .store-leaf .ensures, c .before .wide .ensures) (leaves-one (c .before .before .before .before .before .before .args .luts) (c .before .before .before .before .before .before .args .i) (c .before .before .before .before .before .before .args .row .nodes) (c .before .before .before .before .before .before .args .row .backs) (c .before .before .before .loop .j) (c .before .before .before .loop .out) (c .before .before .before .loop .inv .1) (omega arith) (omega arith)))
+loop-again c =
+    let a = c .before .before .before .before .before .before .args in
+    let l = c .before .before .before .loop in
+    let ln : length (a .luts .nodes) ≡ mostLeaves = let good = c .before .before .before .before .before .before .good .0 .1 .1 .1 .1 .1 .1 .1 .0 in search needs in
+    let lb : length (a .luts .backs) ≡ mostLeaves = let good = c .before .before .before .before .before .before .good .0 .1 .1 .1 .1 .1 .1 .1 .1 .0 in search needs in
+    (omega arith, rw (c .store-leaf .ensures, c .before .wide .ensures) (leaves-one (a .luts) (a .i) (a .row .nodes) (a .row .backs) (l .j) (l .out) (l .inv .1) (omega arith) (omega arith)))
 
 returns : tie.Need-returns Inv-loop μ-loop
 returns c =
-    let end : c .before .loop .j ≡ 6 = omega arith in
+    let end : c .before .loop .j ≡ mostPins = omega arith in
     rw end at (c .before .loop .inv .1)
 
 pub store-leaves-spec : {M : Type 1} → statement M

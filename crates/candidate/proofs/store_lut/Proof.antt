@@ -3,6 +3,7 @@ use mathlib.Core.Path.{_≡_}
 use lib.ListN.{length}
 use mir.Syntax.{w64}
 use mir.Val.{SFits}
+use Rattle.limits.specs.Limits.{mostLuts}
 use Rattle.signed.specs.RangeLaws.{back}
 use Rattle.candidate.specs.StoreLaws.{lut-stored}
 use borrow.Author.Needs.{needs}
@@ -41,10 +42,10 @@ returns c =
     let a = c .before .before .args in
     let p = c .before .before .pre in
     let fits : SFits w64 (a .row .lag) = search needs in
-    let lr : length (a .luts .roots) ≡ 32 = let good = c .before .before .good .0 .1 .1 .1 .1 .1 .0 in search needs in
-    let ls : length (a .luts .sizes) ≡ 32 = let good = c .before .before .good .0 .1 .1 .1 .1 .1 .1 .0 in search needs in
-    let ll : length (a .luts .lags) ≡ 32 = let good = c .before .before .good .0 .1 .1 .1 .1 .1 .1 .1 .1 .1 .0 in search needs in
-    let lt : length (a .luts .tables) ≡ 32 = let good = c .before .before .good .0 .1 .1 .1 .1 .1 .1 .1 .1 .1 .1 .0 in search needs in
+    let lr : length (a .luts .roots) ≡ mostLuts = let good = c .before .before .good .0 .1 .1 .1 .1 .1 .0 in search needs in
+    let ls : length (a .luts .sizes) ≡ mostLuts = let good = c .before .before .good .0 .1 .1 .1 .1 .1 .1 .0 in search needs in
+    let ll : length (a .luts .lags) ≡ mostLuts = let good = c .before .before .good .0 .1 .1 .1 .1 .1 .1 .1 .1 .1 .0 in search needs in
+    let lt : length (a .luts .tables) ≡ mostLuts = let good = c .before .before .good .0 .1 .1 .1 .1 .1 .1 .1 .1 .1 .1 .0 in search needs in
     rw (back (a .row .lag) fits) (lut-stored (a .luts) (a .i) (a .row) (c .store-leaves .result) (c .store-leaves .ensures) (p .0) (p .1 .0) (p .1 .1) lr ls ll lt)
 
 pub store-lut-spec : {M : Type 1} → statement M

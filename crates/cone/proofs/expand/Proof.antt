@@ -7,7 +7,8 @@ use native.Mathlib.Omega.{arith}
 use Rattle.copies.specs.Lists.{Room, copiesIn}
 use Rattle.copies.specs.ListLaws.{length-copiesIn, place}
 use Rattle.cone.specs.StepLaws.{room-next}
-use Rattle.cone.specs.Growing.{Growth, Expanded, growth-none, growth-next, growth-stop, growth-at}
+use Rattle.cone.specs.Growing.{Growth, Expanded}
+use Rattle.cone.specs.GrowingLaws.{growth-none, growth-next, growth-stop, growth-at}
 use Rattle.cone.proofs.expand.Statement.{statement}
 use Rattle.cone.proofs.expand.Tie as tie
 

@@ -5,7 +5,8 @@ use Prim.Native.Nat.{_-_}
 use native.Mathlib.Omega.{arith}
 use Rattle.copies.specs.Lists.{copiesIn, members}
 use Rattle.copies.specs.ListLaws.{member}
-use Rattle.cone.specs.Growing.{Turn, turn-first, turn-next, turn-stop, turn-last}
+use Rattle.cone.specs.Growing.{Turn}
+use Rattle.cone.specs.GrowingLaws.{turn-first, turn-next, turn-stop, turn-last}
 use Rattle.cone.proofs.grow.Statement.{statement}
 use Rattle.cone.proofs.grow.Tie as tie
 

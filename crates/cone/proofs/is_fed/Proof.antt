@@ -5,9 +5,9 @@ use denote.Ref.{now}
 use mathlib.Core.Path.{_≡_}
 use Prim.Native.Nat.{ℕ, _-_, _≤_, _<_}
 use native.Mathlib.Omega.{arith}
+use Rattle.sequences.specs.TestLaws.{tells-some, tells-none}
 use Rattle.netlist.specs.Copies.{copy}
 use Rattle.copies.specs.Lists.{sourceAt}
-use Rattle.copies.specs.ListLaws.{tells-some, tells-none}
 use Rattle.cone.proofs.is_fed.Statement.{statement}
 use Rattle.cone.proofs.is_fed.Tie as tie
 

@@ -5,8 +5,9 @@ use denote.Ref.{now}
 use Prim.Native.Nat.{ℕ, _-_, _≤_, _<_}
 use native.Mathlib.Omega.{arith}
 use lib.ListN.{getD}
+use Rattle.sequences.specs.TestLaws.{tells-some, tells-none}
 use Rattle.netlist.specs.Copies.{copy}
-use Rattle.copies.specs.ListLaws.{tells-some, tells-none, place, member}
+use Rattle.copies.specs.ListLaws.{place, member}
 use Rattle.cone.specs.Steps.{Fed}
 use Rattle.cone.proofs.is_touched.Statement.{statement}
 use Rattle.cone.proofs.is_touched.Tie as tie
@@ -61,7 +62,7 @@ shared-slice-read-is-fed c =
     let r = start .pre .1 in
     let w = start .pre .0 in
     let m = member (now (start .args .nodes)) (now (start .args .backs)) (start .args .len) (c .before .before .before .loop .p) (start .pre .2) (omega arith) in
-    let s = w .sizes in
+    let s = w .wires .sizes in
     let g = m .gate in
     omega arith
 

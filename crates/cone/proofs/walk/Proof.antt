@@ -4,8 +4,8 @@ use denote.Ref.{now}
 use mathlib.Core.Path.{refl, _∙_}
 use Prim.Native.Nat.{_+_}
 use native.Mathlib.Omega.{arith}
-use Rattle.cone.specs.Growing.{grown-sweep}
-use Rattle.cone.specs.Told.{start-list, start-room, start-leaves, start-bounded, told-root, told-stop, told-all, told-some}
+use Rattle.cone.specs.GrowingLaws.{grown-sweep}
+use Rattle.cone.specs.ToldLaws.{start-list, start-room, start-leaves, start-bounded, told-root, told-stop, told-all, told-some}
 use Rattle.cone.proofs.walk.Statement.{statement}
 use Rattle.cone.proofs.walk.Tie as tie
 

@@ -3,7 +3,7 @@ use borrow.Author.Needs.{needs}
 use denote.Ref.{now}
 use native.Mathlib.Omega.{arith}
 use Rattle.copies.specs.ListLaws.{place, member}
-use Rattle.conetable.specs.Words.{choices, choices-low, composed-choices}
+use Rattle.conetable.specs.WordsLaws.{choices, choices-low, composed-choices}
 use Rattle.conetable.proofs.copy_word.Statement.{statement}
 use Rattle.conetable.proofs.copy_word.Tie as tie
 
@@ -37,7 +37,7 @@ shared-slice-read-m c =
     let m = member (now (start .args .nodes)) (now (start .args .backs)) (start .args .len) (start .args .p) (start .pre .0 .bounded) (start .pre .2) in
     let g = m .gate in
     let d = w .gates in
-    let s = w .sizes in
+    let s = w .wires .sizes in
     omega arith
 
 mul-gather : tie.Need-mul-gather
@@ -56,7 +56,7 @@ gather-requires c κs =
     let d = w .gates in
     let n = m .near in
     let f = r .fits in
-    ((start .pre .0 .few, start .pre .0 .leafNodes, start .pre .0 .leafBacks, let e = r .nodes in omega arith, let e = r .backs in omega arith, let e = start .pre .1 in omega arith), λ j h. place _ j w g h, omega arith, w .pins _ g, omega arith)
+    ((start .pre .0 .few, start .pre .0 .leafNodes, start .pre .0 .leafBacks, let e = r .nodes in omega arith, let e = r .backs in omega arith, let e = start .pre .1 in omega arith), λ j h. place _ j w g h, omega arith, w .wires .pins _ g, omega arith)
 
 mul-compose : tie.Need-mul-compose
 mul-compose c =
@@ -90,7 +90,7 @@ compose-requires c κs =
     let m = member (now (start .args .nodes)) (now (start .args .backs)) (start .args .len) (start .args .p) (start .pre .0 .bounded) (start .pre .2) in
     let g = m .gate in
     let d = w .gates in
-    (w .pins _ g, let n = start .args .n in omega (arith, choices n (start .pre .0 .few), choices-low n (start .pre .0 .few)))
+    (w .wires .pins _ g, let n = start .args .n in omega (arith, choices n (start .pre .0 .few), choices-low n (start .pre .0 .few)))
 
 returns : tie.Need-returns
 returns c =

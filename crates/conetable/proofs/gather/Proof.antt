@@ -5,6 +5,7 @@ use mathlib.Core.Path.{_≡_, refl, _∙_}
 use Prim.Native.Nat.{ℕ, _-_, _≤_, _<_}
 use native.Mathlib.Omega.{arith}
 use lib.ListN.{length, getD, length-set}
+use Rattle.limits.specs.Limits.{mostPins}
 use Rattle.copies.specs.Lists.{copiesIn, sourceAt}
 use Rattle.copies.specs.ListLaws.{each-set}
 use Rattle.conetable.specs.Words.{Carries}
@@ -12,7 +13,7 @@ use Rattle.conetable.proofs.gather.Statement.{statement}
 use Rattle.conetable.proofs.gather.Tie as tie
 
 abbrev Inv-loop : tie.InvT-loop
-Inv-loop sources counts leaf-nodes leaf-backs n nodes backs len words g m base fed₀ j₀ fed j = (j ≤ m) × (length fed ≡ 6) × ((i : ℕ) → i < j → Carries (copiesIn leaf-nodes leaf-backs n) (copiesIn nodes backs len) words (sourceAt sources counts g base i) (getD fed i 0))
+Inv-loop sources counts leaf-nodes leaf-backs n nodes backs len words g m base fed₀ j₀ fed j = (j ≤ m) × (length fed ≡ mostPins) × ((i : ℕ) → i < j → Carries (copiesIn leaf-nodes leaf-backs n) (copiesIn nodes backs len) words (sourceAt sources counts g base i) (getD fed i 0))
 
 abbrev μ-loop : tie.MeasureT-loop
 μ-loop sources counts leaf-nodes leaf-backs n nodes backs len words g m base fed₀ j₀ fed j = m - j

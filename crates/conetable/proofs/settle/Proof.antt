@@ -6,12 +6,13 @@ use Prim.Native.Nat.{_^_, _-_, _≤_}
 use native.Mathlib.Omega.{arith}
 use lib.ListN.{length, length-set}
 use Rattle.copies.specs.Lists.{copiesIn, members}
-use Rattle.conetable.specs.Words.{Settled, choices-low, settled-none, settled-next, settled-all}
+use Rattle.conetable.specs.Words.{WordsSettled}
+use Rattle.conetable.specs.WordsLaws.{choices-low, settled-none, settled-next, settled-all}
 use Rattle.conetable.proofs.settle.Statement.{statement}
 use Rattle.conetable.proofs.settle.Tie as tie
 
 abbrev Inv-loop : tie.InvT-loop
-Inv-loop inputs gates pins sources counts tables leaf-nodes leaf-backs n nodes backs len words₀ p₀ words p = (p ≤ len) × (length words ≡ members) × Settled inputs gates pins sources counts tables (copiesIn leaf-nodes leaf-backs n) nodes backs len words (2 ^ n) p
+Inv-loop inputs gates pins sources counts tables leaf-nodes leaf-backs n nodes backs len words₀ p₀ words p = (p ≤ len) × (length words ≡ members) × WordsSettled inputs gates pins sources counts tables (copiesIn leaf-nodes leaf-backs n) nodes backs len words (2 ^ n) p
 
 abbrev μ-loop : tie.MeasureT-loop
 μ-loop inputs gates pins sources counts tables leaf-nodes leaf-backs n nodes backs len words₀ p₀ words p = len - p

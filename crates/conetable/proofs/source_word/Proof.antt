@@ -3,7 +3,7 @@ use borrow.Author.Needs.{needs}
 use denote.Ref.{now}
 use native.Mathlib.Omega.{arith}
 use Rattle.netlist.specs.Copies.{copy}
-use Rattle.conetable.specs.Words.{carries-leaf, carries-copy, carries-none}
+use Rattle.conetable.specs.WordsLaws.{carries-leaf, carries-copy, carries-none}
 use Rattle.conetable.proofs.source_word.Statement.{statement}
 use Rattle.conetable.proofs.source_word.Tie as tie
 

@@ -3,7 +3,7 @@ use borrow.Author.Needs.{needs}
 use denote.Ref.{now}
 use Prim.Native.Nat.{_+_}
 use native.Mathlib.Omega.{arith}
-use Rattle.conetable.specs.Words.{table-found, table-missing}
+use Rattle.conetable.specs.WordsLaws.{table-found, table-missing}
 use Rattle.conetable.proofs.table.Statement.{statement}
 use Rattle.conetable.proofs.table.Tie as tie
 

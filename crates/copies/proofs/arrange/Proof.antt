@@ -1,7 +1,7 @@
 -- `copies::arrange` meets its contract.
 use borrow.Author.Needs.{needs}
 use mathlib.Core.Path.{_∙_}
-use Rattle.copies.specs.Ordering.{mixed-bounded, arranged-after}
+use Rattle.copies.specs.OrderingLaws.{mixed-bounded, arranged-after}
 use Rattle.copies.proofs.arrange.Statement.{statement}
 use Rattle.copies.proofs.arrange.Tie as tie
 

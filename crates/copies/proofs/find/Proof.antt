@@ -5,9 +5,9 @@ use denote.Ref.{now}
 use mathlib.Core.Path.{_≡_}
 use Prim.Native.Nat.{ℕ, _-_, _≤_, _<_}
 use native.Mathlib.Omega.{arith}
+use Rattle.sequences.specs.TestLaws.{first-here, first-none}
 use Rattle.netlist.specs.Copies.{copy}
 use Rattle.netlist.specs.Arrays.{copyAt}
-use Rattle.copies.specs.ListLaws.{first-here, first-none}
 use Rattle.copies.proofs.find.Statement.{statement}
 use Rattle.copies.proofs.find.Tie as tie
 

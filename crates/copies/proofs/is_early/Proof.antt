@@ -2,9 +2,9 @@
 use borrow.Author.Needs.{needs}
 use denote.Ref.{now}
 use native.Mathlib.Omega.{arith}
+use Rattle.sequences.specs.TestLaws.{tells-yes, tells-no}
 use Rattle.netlist.specs.Copies.{copy}
-use Rattle.copies.specs.ListLaws.{tells-yes, tells-no}
-use Rattle.copies.specs.Ordering.{early-below, early-not, early-absent}
+use Rattle.copies.specs.OrderingLaws.{early-below, early-not, early-absent}
 use Rattle.copies.proofs.is_early.Statement.{statement}
 use Rattle.copies.proofs.is_early.Tie as tie
 

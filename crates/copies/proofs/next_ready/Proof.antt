@@ -4,9 +4,10 @@ use borrow.Author.Count.{below-more}
 use denote.Ref.{now}
 use Prim.Native.Nat.{ℕ, _-_, _≤_, _<_}
 use native.Mathlib.Omega.{arith}
+use Rattle.sequences.specs.TestLaws.{first-here, first-none}
 use Rattle.netlist.specs.Arrays.{copyAt}
 use Rattle.copies.specs.Lists.{ReadyCopy}
-use Rattle.copies.specs.ListLaws.{first-here, first-none, place, member}
+use Rattle.copies.specs.ListLaws.{place, member}
 use Rattle.copies.proofs.next_ready.Statement.{statement}
 use Rattle.copies.proofs.next_ready.Tie as tie
 
@@ -52,7 +53,7 @@ shared-slice-read-ready : tie.Need-shared-slice-read-ready Inv-loop μ-loop
 shared-slice-read-ready c =
     let s = c .before .before .before .before .before .before .before .before .before in
     let m = member (now (s .args .nodes)) (now (s .args .backs)) (s .args .len) (c .before .before .before .loop .q) (s .pre .2) (omega arith) in
-    let d = s .pre .0 .sizes in
+    let d = s .pre .0 .wires .sizes in
     let g = m .gate in
     omega arith
 

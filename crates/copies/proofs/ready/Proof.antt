@@ -5,8 +5,8 @@ use borrow.Author.Tests.{not-true, not-false}
 use denote.Ref.{now}
 use Prim.Native.Nat.{ℕ, _-_, _≤_, _<_}
 use native.Mathlib.Omega.{arith}
+use Rattle.sequences.specs.TestLaws.{tells-all, tells-not}
 use Rattle.copies.specs.Lists.{Early, sourceAt}
-use Rattle.copies.specs.ListLaws.{tells-all, tells-not}
 use Rattle.copies.proofs.ready.Statement.{statement}
 use Rattle.copies.proofs.ready.Tie as tie
 

@@ -6,7 +6,7 @@ use Prim.Native.Nat.{_-_}
 use native.Mathlib.Omega.{arith}
 use lib.ListN.{length}
 use Rattle.copies.specs.Lists.{copiesIn, Mixed, members}
-use Rattle.copies.specs.Ordering.{mixed-refl, mixed-trans, swapped-mixed}
+use Rattle.copies.specs.OrderingLaws.{mixed-refl, mixed-trans, swapped-mixed}
 use Rattle.copies.proofs.reverse.Statement.{statement}
 use Rattle.copies.proofs.reverse.Tie as tie
 

@@ -3,7 +3,8 @@ use borrow.Author.Needs.{needs}
 use mathlib.Core.Path.{sym, _∙_}
 use Prim.Native.Nat.{_-_}
 use native.Mathlib.Omega.{arith}
-use Rattle.copies.specs.Ordering.{Selected, selected-none, selected-next, selected-all, selected-stop}
+use Rattle.copies.specs.Ordering.{Selected}
+use Rattle.copies.specs.OrderingLaws.{selected-none, selected-next, selected-all, selected-stop}
 use Rattle.copies.proofs.select.Statement.{statement}
 use Rattle.copies.proofs.select.Tie as tie
 

@@ -1,7 +1,7 @@
 -- `copies::swap` meets its contract.
 use borrow.Author.Needs.{needs}
 use denote.Ref.{now}
-use Rattle.copies.specs.Ordering.{swapped}
+use Rattle.copies.specs.OrderingLaws.{swapped}
 use Rattle.copies.proofs.swap.Statement.{statement}
 use Rattle.copies.proofs.swap.Tie as tie
 

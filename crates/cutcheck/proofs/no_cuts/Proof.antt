@@ -5,13 +5,13 @@ use Prim.Native.Nat.{ℕ, _-_, _≤_}
 use native.Mathlib.Omega.{arith}
 use lib.ListN.{length, length-set}
 use Rattle.cutcheck.specs.Cuts.{AllGood}
-use Rattle.cutcheck.specs.CutLaws.{good-none, good-next, cuts-all, cuts-not}
+use Rattle.cutcheck.specs.CutLaws.{lut-row, good-none, good-next, cuts-all, cuts-not}
 use borrow.Author.Needs.{needs}
 use Rattle.cutcheck.proofs.no_cuts.Statement.{statement}
 use Rattle.cutcheck.proofs.no_cuts.Tie as tie
 use Rattle.cutcheck.proofs.no_cuts.Reads as reads
 use Rattle.cutcheck.proofs.no_cuts.Lts as lts
-use Rattle.cutcheck.proofs.try_at.Reads as try-at-reads
+use Rattle.luts.proofs.try_row.Reads as try-row-reads
 
 abbrev Inv-loop : tie.InvT-loop
 Inv-loop inputs gates pins sources counts tables roots sizes nodes backs k n right₀ i₀ right i = (i ≤ n) × (length right ≡ length right₀) × AllGood inputs gates pins sources counts tables roots sizes nodes backs k i right
@@ -19,51 +19,53 @@ Inv-loop inputs gates pins sources counts tables roots sizes nodes backs k n rig
 abbrev μ-loop : tie.MeasureT-loop
 μ-loop inputs gates pins sources counts tables roots sizes nodes backs k n right₀ i₀ right i = n - i
 
--- src/lib.rt:126:5
 loop-holds : tie.Need-loop-holds Inv-loop μ-loop
 loop-holds c = (omega arith, refl, good-none (c .before .before .before .before .before .before .before .before .before .pre .0))
 
--- src/lib.rt:127:13
-try-at-requires : tie.Need-try-at-requires Inv-loop μ-loop
-try-at-requires c κs = (c .before .before .before .before .before .before .before .before .before .before .before .pre .0, c .loop-test .taken, c .before .before .before .before .before .before .before .before .before .before .before .pre .1)
+mul-g : tie.Need-mul-g Inv-loop μ-loop
+mul-g c = let p = c .before .before .before .before .before .before .before .before .before .before .before .pre in let s = p .0 .atRoots in let m = p .1 in let h = c .loop-test .taken in search needs
 
--- src/lib.rt:144:13
+shared-slice-read-g : tie.Need-shared-slice-read-g Inv-loop μ-loop
+shared-slice-read-g c = let s = c .before .before .before .before .before .before .before .before .before .before .before .before .pre .0 .atRoots in let h = c .before .loop-test .taken in search needs
+
+sub-g : tie.Need-sub-g Inv-loop μ-loop
+sub-g c = let l = c .before .before .before .before .before .before .before .before .before .before .before .before .pre .0 .low (c .before .before .loop .i) (c .before .loop-test .taken) in search needs
+
+try-row-requires : tie.Need-try-row-requires Inv-loop μ-loop
+try-row-requires c κs =
+    let p = c .before .before .before .before .before .before .before .before .before .before .before .before .pre .0 in
+    let i = c .before .before .loop .i in
+    let h = c .before .loop-test .taken in
+    (p .wires, p .atTables, lut-row p i h, let l = p .low i h in let u = p .high i h in omega arith)
+
 same-length : tie.Need-same-length Inv-loop μ-loop
-same-length c = c .before .before .before .loop .inv .1
+same-length c = c .before .before .before .before .loop .inv .1
 
--- src/lib.rt:144:13
 returns : tie.Need-returns Inv-loop μ-loop
-returns c = cuts-not (c .before .before .before .before .before .before .before .before .before .before .before .before .before .pre .0) (c .before .before .before .loop .i) (c .before .before .loop-test .taken) (c .before .try-at .ensures) (c .if1 .taken)
+returns c = cuts-not (c .before .before .before .before .before .before .before .before .before .before .before .before .before .before .pre .0) (c .before .before .before .before .loop .i) (c .before .before .before .loop-test .taken) (c .before .try-row .ensures) (c .if1 .taken)
 
--- src/lib.rt:146:9
 mul-right : tie.Need-mul-right Inv-loop μ-loop
-mul-right c = let a = c .before .before .before .before .before .before .before .before .before .before .before .before .before .pre .2 in let e = c .before .before .before .loop .inv .1 in let h = c .before .before .loop-test .taken in search needs
+mul-right c = let a = c .before .before .before .before .before .before .before .before .before .before .before .before .before .before .pre .2 in let e = c .before .before .before .before .loop .inv .1 in let h = c .before .before .before .loop-test .taken in search needs
 
--- src/lib.rt:146:9
 slice-write-right : tie.Need-slice-write-right Inv-loop μ-loop
-slice-write-right c = let a = c .before .before .before .before .before .before .before .before .before .before .before .before .before .pre .2 in let e = c .before .before .before .loop .inv .1 in let h = c .before .before .loop-test .taken in search needs
+slice-write-right c = let a = c .before .before .before .before .before .before .before .before .before .before .before .before .before .before .pre .2 in let e = c .before .before .before .before .loop .inv .1 in let h = c .before .before .before .loop-test .taken in search needs
 
--- src/lib.rt:147:9
 add-i : tie.Need-add-i Inv-loop μ-loop
-add-i c = let h = c .before .before .loop-test .taken in let a = c .before .before .before .before .before .before .before .before .before .before .before .before .before .pre .1 in search needs
+add-i c = let h = c .before .before .before .loop-test .taken in let a = c .before .before .before .before .before .before .before .before .before .before .before .before .before .before .pre .1 in search needs
 
--- src/lib.rt:126:5
 loop-less : tie.Need-loop-less Inv-loop μ-loop
-loop-less c = let h = c .before .before .loop-test .taken in omega arith
+loop-less c = let h = c .before .before .before .loop-test .taken in omega arith
 
--- src/lib.rt:126:5
 loop-again : tie.Need-loop-again Inv-loop μ-loop
 loop-again c =
-    let h = c .before .before .loop-test .taken in
-    let e = c .before .before .before .loop .inv .1 in
-    let room = c .before .before .before .before .before .before .before .before .before .before .before .before .before .pre .2 in
-    (omega arith, length-set (c .before .before .before .loop .right) (c .before .before .before .loop .i) _ ∙ e, good-next (c .before .before .before .before .before .before .before .before .before .before .before .before .before .pre .0) (c .before .before .before .loop .right) (c .before .before .before .loop .i) h (omega arith) (c .before .before .before .loop .inv .2) (c .before .try-at .ensures) (c .if1 .left))
+    let h = c .before .before .before .loop-test .taken in
+    let e = c .before .before .before .before .loop .inv .1 in
+    let room = c .before .before .before .before .before .before .before .before .before .before .before .before .before .before .pre .2 in
+    (omega arith, length-set (c .before .before .before .before .loop .right) (c .before .before .before .before .loop .i) _ ∙ e, good-next (c .before .before .before .before .before .before .before .before .before .before .before .before .before .before .pre .0) (c .before .before .before .before .loop .right) (c .before .before .before .before .loop .i) h (omega arith) (c .before .before .before .before .loop .inv .2) (c .before .try-row .ensures) (c .if1 .left))
 
--- src/lib.rt:107:1
 same-length-2 : tie.Need-same-length-2 Inv-loop μ-loop
 same-length-2 c = c .before .loop .inv .1
 
--- src/lib.rt:107:1
 returns-2 : tie.Need-returns-2 Inv-loop μ-loop
 returns-2 c = cuts-all (c .before .before .before .before .before .before .before .before .before .before .before .pre .0) (omega (arith, c .loop-test .left)) (c .before .loop .inv .2)
 
@@ -74,7 +76,10 @@ no-cuts-spec =
     Inv-loop
     μ-loop
     loop-holds
-    try-at-requires
+    mul-g
+    shared-slice-read-g
+    sub-g
+    try-row-requires
     same-length
     returns
     mul-right

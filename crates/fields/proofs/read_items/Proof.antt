@@ -34,6 +34,7 @@ returns c =
     record {
       result = items-stop (fieldByte (a .field) (a .limit)) (now (a .bytes)) (a .at) (a .n) (l .values) (l .next) (l .i) (l .inv) h (stopped (b .result .value) (drop (b .result .at) (now (a .bytes))) (b .ensures) (c .before .v .given .1));
       spare = items-spare (fieldByte (a .field) (a .limit)) (now (a .bytes)) (a .at) (a .n) (l .values) (l .next) (l .i) (l .inv);
+      long = l .inv .long;
     }
 
 enum-told : tie.Need-enum-told Inv-loop μ-loop
@@ -64,6 +65,7 @@ returns-2 c =
     record {
       result = items-all (fieldByte (a .field) (a .limit)) (now (a .bytes)) (a .at) (a .n) (l .values) (l .next) (l .i) (l .inv) h;
       spare = items-spare (fieldByte (a .field) (a .limit)) (now (a .bytes)) (a .at) (a .n) (l .values) (l .next) (l .i) (l .inv);
+      long = l .inv .long;
     }
 
 pub read-items-spec : {M : Type 1} → statement M

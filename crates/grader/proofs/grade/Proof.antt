@@ -1,8 +1,8 @@
 -- `grader::grade` meets its contract.
 use denote.Ref.{now}
 use mathlib.Core.Path.{_≡_, refl, _∙_}
-use Rattle.text.specs.PutLaws.{wrote-as}
-use Rattle.luts.specs.LutLaws.{behind}
+use Rattle.digits.specs.PutLaws.{wrote-as}
+use Rattle.sequences.specs.Behind.{behind}
 use Rattle.grader.specs.Inputs.{graded-parts}
 use borrow.Author.Needs.{needs}
 use Rattle.grader.proofs.grade.Statement.{statement}

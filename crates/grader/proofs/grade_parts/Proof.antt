@@ -2,18 +2,18 @@
 use denote.Ref.{now}
 use mathlib.Core.Path.{_≡_, sym, ap, _∙_}
 use Rattle.records.specs.Outcomes.{turnedBack}
-use Rattle.marker.specs.Answers.{answerOf}
-use Rattle.text.specs.PutLaws.{wrote-as}
+use Rattle.judge.specs.Answers.{answerOf}
+use Rattle.digits.specs.PutLaws.{wrote-as}
 use Rattle.grader.specs.Inputs.{marking-excess, marking-refused}
 use borrow.Author.Needs.{needs}
 use Rattle.grader.proofs.grade_parts.Statement.{statement}
 use Rattle.grader.proofs.grade_parts.Tie as tie
 use Rattle.grader.proofs.grade_parts.Reads as reads
 use Rattle.grader.proofs.grade_parts.Lts as lts
-use Rattle.inputs.proofs.number.Reads as number-reads
+use Rattle.inputs.proofs.wide.Reads as wide-reads
 use Rattle.marker.proofs.mark.Reads as mark-reads
-use Rattle.text.proofs.write_excess.Reads as write-excess-reads
-use Rattle.text.proofs.write_refusal.Reads as write-refusal-reads
+use Rattle.digits.proofs.write_excess.Reads as write-excess-reads
+use Rattle.digits.proofs.write_refusal.Reads as write-refusal-reads
 
 -- src/lib.rt:28:33
 slice-aggregate-mark : tie.Need-slice-aggregate-mark
@@ -36,8 +36,8 @@ enum-known-m-2 : tie.Need-enum-known-m-2
 enum-known-m-2 c = search needs
 
 -- src/lib.rt:31:44
-number-requires : tie.Need-number-requires
-number-requires c κs = search needs
+wide-requires : tie.Need-wide-requires
+wide-requires c κs = search needs
 
 -- src/lib.rt:31:30
 write-refusal-requires : tie.Need-write-refusal-requires
@@ -57,7 +57,7 @@ same-length-2 c = search needs
 
 -- src/lib.rt:23:1
 returns-2 : tie.Need-returns-2
-returns-2 c = let a = c .before .before .before .before .before .before .before .before .before .before .before .before .before .before .args in wrote-as (marking-refused (now (a .net)) (now (a .cover)) (a .k) (c .before .before .before .before .before .before .before .before .before .mark .ensures .0) (ap answerOf (c .before .before .before .before .before .before .m2 .given .1) ∙ ap turnedBack (sym (c .before .before .before .before .number .ensures)))) (c .before .before .write-refusal .ensures)
+returns-2 c = let a = c .before .before .before .before .before .before .before .before .before .before .before .before .before .before .args in wrote-as (marking-refused (now (a .net)) (now (a .cover)) (a .k) (c .before .before .before .before .before .before .before .before .before .mark .ensures .0) (ap answerOf (c .before .before .before .before .before .before .m2 .given .1) ∙ ap turnedBack (sym (c .before .before .before .before .wide .ensures)))) (c .before .before .write-refusal .ensures)
 
 pub grade-parts-spec : {M : Type 1} → statement M
 grade-parts-spec =
@@ -68,7 +68,7 @@ grade-parts-spec =
     enum-known-m
     write-excess-requires
     enum-known-m-2
-    number-requires
+    wide-requires
     write-refusal-requires
     same-length
     returns

@@ -4,10 +4,11 @@ use native.Mathlib.Omega.{arith}
 use lib.IntN.{pos, _-ℤ_}
 use mir.Syntax.{w64}
 use mir.Val.{SFits}
+use Rattle.limits.specs.Limits.{coverArea}
 use Rattle.signed.specs.RangeLaws.{back, fits-of, minus-mag}
 use Rattle.records.specs.Outcomes.{MapOutcome}
-use Rattle.mapper.specs.Answers.{answerOf, InRange}
-use Rattle.mapper.specs.declared.Answer.{Answer}
+use Rattle.netmap.specs.Answers.{answerOf, InRange}
+use Rattle.netmap.specs.declared.Answer.{Answer}
 use Rattle.kamfelu.specs.Coded.{coded, coded-as}
 use borrow.Author.Needs.{needs}
 use Rattle.kamfelu.proofs.kamfelu_map.Statement.{statement}
@@ -52,7 +53,7 @@ same-length-2 c = search needs
 
 -- src/lib.rt:11:1
 returns : tie.Need-returns
-returns c = let n = c .before .before .answer .given .0 .0 in let h = subst (λ (a : Answer). InRange (answerOf a)) (c .before .before .answer .given .1) (c .before .before .before .before .before .before .before .before .map .ensures .1) in let e = c .before .before .before .before .before .before .before .before .map .ensures .0 in (coded-as (ap (λ (o : MapOutcome). o .answer) e) (back (c .whole .result) (subst (SFits w64) (sym (c .whole .ensures)) (fits-of (pos n) 962 (omega arith) h)) ∙ c .whole .ensures ∙ ap (λ (a : Answer). coded (answerOf a)) (sym (c .before .before .answer .given .1))), (sym (ap (λ (o : MapOutcome). o .area) e), sym (ap (λ (o : MapOutcome). o .scratch) e)))
+returns c = let n = c .before .before .answer .given .0 .0 in let h = subst (λ (a : Answer). InRange (answerOf a)) (c .before .before .answer .given .1) (c .before .before .before .before .before .before .before .before .map .ensures .1) in let e = c .before .before .before .before .before .before .before .before .map .ensures .0 in (coded-as (ap (λ (o : MapOutcome). o .answer) e) (back (c .whole .result) (subst (SFits w64) (sym (c .whole .ensures)) (fits-of (pos n) coverArea (omega arith) h)) ∙ c .whole .ensures ∙ ap (λ (a : Answer). coded (answerOf a)) (sym (c .before .before .answer .given .1))), (sym (ap (λ (o : MapOutcome). o .area) e), sym (ap (λ (o : MapOutcome). o .scratch) e)))
 
 -- src/lib.rt:11:1
 same-length-3 : tie.Need-same-length-3

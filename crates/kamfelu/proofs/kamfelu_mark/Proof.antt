@@ -4,10 +4,11 @@ use native.Mathlib.Omega.{arith}
 use lib.IntN.{pos, _-ℤ_}
 use mir.Syntax.{w64}
 use mir.Val.{SFits}
+use Rattle.limits.specs.Limits.{mostPeriod}
 use Rattle.signed.specs.RangeLaws.{back, fits-of, minus-mag}
 use Rattle.records.specs.Outcomes.{MarkOutcome}
-use Rattle.marker.specs.Answers.{answerOf, InRange}
-use Rattle.marker.specs.declared.Grade.{Grade}
+use Rattle.judge.specs.Answers.{answerOf, InRange}
+use Rattle.judge.specs.declared.Grade.{Grade}
 use Rattle.kamfelu.specs.Coded.{coded, coded-as}
 use borrow.Author.Needs.{needs}
 use Rattle.kamfelu.proofs.kamfelu_mark.Statement.{statement}
@@ -48,7 +49,7 @@ same-length c = search needs
 
 -- src/lib.rt:11:1
 returns : tie.Need-returns
-returns c = let n = c .before .before .m .given .0 .0 in let h = subst (λ (a : Grade). InRange (answerOf a)) (c .before .before .m .given .1) (c .before .before .before .before .before .before .mark .ensures .1) in let e = c .before .before .before .before .before .before .mark .ensures .0 in (coded-as (ap (λ (o : MarkOutcome). o .answer) e) (back (c .whole .result) (subst (SFits w64) (sym (c .whole .ensures)) (fits-of (pos n) 32 (omega arith) h)) ∙ c .whole .ensures ∙ ap (λ (a : Grade). coded (answerOf a)) (sym (c .before .before .m .given .1))), sym (ap (λ (o : MarkOutcome). o .scratch) e))
+returns c = let n = c .before .before .m .given .0 .0 in let h = subst (λ (a : Grade). InRange (answerOf a)) (c .before .before .m .given .1) (c .before .before .before .before .before .before .mark .ensures .1) in let e = c .before .before .before .before .before .before .mark .ensures .0 in (coded-as (ap (λ (o : MarkOutcome). o .answer) e) (back (c .whole .result) (subst (SFits w64) (sym (c .whole .ensures)) (fits-of (pos n) mostPeriod (omega arith) h)) ∙ c .whole .ensures ∙ ap (λ (a : Grade). coded (answerOf a)) (sym (c .before .before .m .given .1))), sym (ap (λ (o : MarkOutcome). o .scratch) e))
 
 -- src/lib.rt:11:1
 same-length-2 : tie.Need-same-length-2

@@ -1,7 +1,6 @@
-use Rattle.labels.specs.Starting.{started, filled-of}
-use Rattle.query.specs.Question.{labelIn}
+use Rattle.labels.specs.StartingLaws.{started, filled-of}
+use Rattle.signed.specs.Range.{labelIn, Small, room}
 use Rattle.signed.specs.RangeLaws.{back, fits-of, small-fits, minus-mag, plus-mag}
-use Rattle.signed.specs.Range.{Small, room}
 use Prim.Native.Nat.{ℕ, _+_, _-_, _*_, _≤_, _<_}
 use lib.ListN.{length, getD, set}
 use denote.Ref.{now}

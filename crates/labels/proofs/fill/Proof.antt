@@ -1,11 +1,10 @@
 use mir.Val.{toZ, ofZ}
 use mir.Syntax.{w64}
-use Rattle.labels.specs.Starting.{filled-of, filled-none, filled-next, filled-at}
+use Rattle.labels.specs.StartingLaws.{filled-of, filled-none, filled-next, filled-at}
 use Rattle.labels.specs.Sweeps.{Filled}
 use borrow.Author.Needs.{needs}
-use Rattle.query.specs.Question.{labelIn}
+use Rattle.signed.specs.Range.{labelIn, Small, room}
 use Rattle.signed.specs.RangeLaws.{back, fits-of, small-fits, minus-mag, plus-mag}
-use Rattle.signed.specs.Range.{Small, room}
 use Prim.Native.Nat.{ℕ, _+_, _-_, _*_, _≤_, _<_}
 use lib.ListN.{length, getD, set}
 use denote.Ref.{now}

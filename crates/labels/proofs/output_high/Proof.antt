@@ -1,11 +1,9 @@
-use Rattle.signed.specs.RangeLaws.{ltZ-true, ltZ-false}
-use Rattle.visits.specs.Visiting.{height-back}
-use Rattle.visits.specs.Visits.{heightAt}
+use Rattle.signed.specs.RangeLaws.{ltZ-true, ltZ-false, back, fits-of, small-fits, minus-mag, plus-mag}
+use Rattle.pinheights.specs.PinHeightLaws.{height-back}
+use Rattle.pinheights.specs.PinHeights.{heightAt}
 use mir.Val.{toZ, ofZ}
 use mir.Syntax.{w64}
-use Rattle.query.specs.Question.{labelIn}
-use Rattle.signed.specs.RangeLaws.{back, fits-of, small-fits, minus-mag, plus-mag}
-use Rattle.signed.specs.Range.{Small, room}
+use Rattle.signed.specs.Range.{labelIn, Small, room}
 use Prim.Native.Nat.{ℕ, _+_, _-_, _*_, _≤_, _<_}
 use lib.ListN.{length, getD, set}
 use denote.Ref.{now}
@@ -17,7 +15,7 @@ use Rattle.labels.proofs.output_high.Statement.{statement}
 use Rattle.labels.proofs.output_high.Tie as tie
 use Rattle.labels.proofs.output_high.Reads as reads
 use Rattle.labels.proofs.output_high.Lts as lts
-use Rattle.visits.proofs.pin_height.Reads as pin-height-reads
+use Rattle.pinheights.proofs.pin_height.Reads as pin-height-reads
 use Rattle.signed.proofs.whole.Reads as whole-reads
 
 -- src/lib.rt:323:9

@@ -1,12 +1,11 @@
-use Rattle.visits.specs.Visits.{heightAt}
+use Rattle.pinheights.specs.PinHeights.{heightAt}
 use Rattle.integers.specs.Parts.{ints}
 use mathlib.Core.Bool.{true, false, true≢false, false≢true}
 use lib.Signed.{_≤ℤ_, _<ℤ_}
 use borrow.Author.Count.{below-more}
 use borrow.Author.Needs.{needs}
-use Rattle.query.specs.Question.{labelIn}
+use Rattle.signed.specs.Range.{labelIn, Small, room}
 use Rattle.signed.specs.RangeLaws.{back, fits-of, small-fits, minus-mag, plus-mag}
-use Rattle.signed.specs.Range.{Small, room}
 use Prim.Native.Nat.{ℕ, _+_, _-_, _*_, _≤_, _<_}
 use lib.ListN.{length, getD, set}
 use denote.Ref.{now}

@@ -1,11 +1,10 @@
-use Rattle.labels.specs.Starting.{small-low, low-shift, ready-of, start-bounds, labelled-past, labelled-rest, out-fits, rest-zero}
+use Rattle.labels.specs.StartingLaws.{small-low, low-shift, ready-of, start-bounds, labelled-past, labelled-rest, out-fits, rest-zero}
 use Rattle.visits.specs.Visits.{wiring}
 use mir.Val.{toZ, ofZ}
 use mir.Syntax.{w64}
 use Prim.Native.Nat.{ℕ, _+_, _-_, _*_, _/_, _≤_, _<_}
-use Rattle.query.specs.Question.{labelIn}
+use Rattle.signed.specs.Range.{labelIn, Small, room}
 use Rattle.signed.specs.RangeLaws.{back, fits-of, small-fits, minus-mag, plus-mag}
-use Rattle.signed.specs.Range.{Small, room}
 use lib.ListN.{length, getD, set}
 use denote.Ref.{now}
 use native.Mathlib.Omega.{arith}

@@ -1,5 +1,5 @@
 use Rattle.labels.specs.Sweeping.{settling-first, settling-next, quiet-none, next-stop, swept-falls, fallen}
-use Rattle.visits.specs.Visiting.{ready-fine, ready-after}
+use Rattle.visits.specs.ReadyLaws.{ready-fine, ready-after}
 use Rattle.visits.specs.Visits.{wiring, left}
 use Rattle.labels.specs.Sweeps.{QuietFrom, Settling}
 use Rattle.query.specs.Question.{AtRest}

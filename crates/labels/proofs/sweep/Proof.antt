@@ -1,5 +1,5 @@
 use Rattle.labels.specs.Sweeping.{sweep-none, sweep-next, swept-end, swept-past}
-use Rattle.visits.specs.Visiting.{ready-few, ready-fine, ready-after}
+use Rattle.visits.specs.ReadyLaws.{ready-few, ready-fine, ready-after}
 use Rattle.visits.specs.Visits.{wiring}
 use Rattle.labels.specs.Sweeps.{Sweep}
 use Rattle.query.specs.Question.{AtRest}

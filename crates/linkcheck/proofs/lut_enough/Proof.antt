@@ -6,7 +6,7 @@ use mathlib.Core.Path.{_≡_, refl}
 use Prim.Native.Nat.{ℕ, _-_, _≤_, _<_}
 use native.Mathlib.Omega.{arith}
 use lib.ListN.{getD}
-use Rattle.copies.specs.ListLaws.{tells-all, tells-not}
+use Rattle.sequences.specs.TestLaws.{tells-all, tells-not}
 use Rattle.linkcheck.specs.Places.{LeafEnough}
 use Rattle.linkcheck.specs.PlaceLaws.{leaf-asked}
 use Rattle.linkcheck.proofs.lut_enough.Statement.{statement}

@@ -5,7 +5,7 @@ use mathlib.Core.Path.{_≡_, refl}
 use Prim.Native.Nat.{ℕ, _-_, _≤_, _<_}
 use native.Mathlib.Omega.{arith}
 use lib.ListN.{getD}
-use Rattle.copies.specs.ListLaws.{tells-some, tells-none}
+use Rattle.sequences.specs.TestLaws.{tells-some, tells-none}
 use Rattle.linkcheck.specs.Places.{LeafLong, Marked}
 use Rattle.linkcheck.specs.PlaceLaws.{leaf-asked}
 use Rattle.linkcheck.proofs.lut_long.Statement.{statement}

@@ -5,7 +5,7 @@ use borrow.Author.Tests.{not-true, not-false}
 use denote.Ref.{now}
 use Prim.Native.Nat.{ℕ, _-_, _≤_, _<_}
 use native.Mathlib.Omega.{arith}
-use Rattle.copies.specs.ListLaws.{tells-all, tells-not}
+use Rattle.sequences.specs.TestLaws.{tells-all, tells-not}
 use Rattle.linkcheck.specs.Places.{LutFed}
 use Rattle.linkcheck.proofs.luts_fed.Statement.{statement}
 use Rattle.linkcheck.proofs.luts_fed.Tie as tie

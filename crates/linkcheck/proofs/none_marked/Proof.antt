@@ -6,7 +6,7 @@ use mathlib.Core.Path.{_≡_}
 use Prim.Native.Nat.{ℕ, _-_, _≤_, _<_}
 use native.Mathlib.Omega.{arith}
 use lib.ListN.{getD}
-use Rattle.copies.specs.ListLaws.{tells-all, tells-not}
+use Rattle.sequences.specs.TestLaws.{tells-all, tells-not}
 use Rattle.linkcheck.proofs.none_marked.Statement.{statement}
 use Rattle.linkcheck.proofs.none_marked.Tie as tie
 

@@ -6,7 +6,7 @@ use denote.Ref.{now}
 use Prim.Native.Nat.{ℕ, _-_, _≤_, _<_}
 use native.Mathlib.Omega.{arith}
 use lib.ListN.{getD}
-use Rattle.copies.specs.ListLaws.{tells-all, tells-not}
+use Rattle.sequences.specs.TestLaws.{tells-all, tells-not}
 use Rattle.linkcheck.specs.Places.{Found}
 use Rattle.linkcheck.proofs.outputs_fed.Statement.{statement}
 use Rattle.linkcheck.proofs.outputs_fed.Tie as tie

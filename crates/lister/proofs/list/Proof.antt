@@ -1,8 +1,8 @@
 -- `lister::list` meets its contract: the listing of the input's parts.
 use denote.Ref.{now}
 use mathlib.Core.Path.{_∙_}
-use Rattle.luts.specs.LutLaws.{behind}
-use Rattle.text.specs.PutLaws.{wrote-as}
+use Rattle.sequences.specs.Behind.{behind}
+use Rattle.digits.specs.PutLaws.{wrote-as}
 use Rattle.lister.specs.Inputs.{listed-parts}
 use borrow.Author.Needs.{needs}
 use Rattle.lister.proofs.list.Statement.{statement}

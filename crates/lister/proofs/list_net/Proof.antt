@@ -7,10 +7,10 @@ use Rattle.lister.proofs.list_net.Tie as tie
 use Rattle.lister.proofs.list_net.Reads as reads
 use Rattle.lister.proofs.list_net.Lts as lts
 use Rattle.lister.proofs.list_read.Reads as list-read-reads
-use Rattle.inputs.proofs.number.Reads as number-reads
 use Rattle.inputs.proofs.wide.Reads as wide-reads
+use Rattle.inputs.proofs.word.Reads as word-reads
 use Rattle.reader.proofs.read_net.Reads as read-net-reads
-use Rattle.text.proofs.write_refusal.Reads as write-refusal-reads
+use Rattle.digits.proofs.write_refusal.Reads as write-refusal-reads
 
 -- src/lib.rt:88:9
 read-net-requires : tie.Need-read-net-requires
@@ -21,8 +21,8 @@ enum-known-v : tie.Need-enum-known-v
 enum-known-v c = search needs
 
 -- src/lib.rt:91:30
-number-requires : tie.Need-number-requires
-number-requires c κs = search needs
+wide-requires : tie.Need-wide-requires
+wide-requires c κs = search needs
 
 -- src/lib.rt:91:9
 write-refusal-requires : tie.Need-write-refusal-requires
@@ -34,22 +34,22 @@ same-length c = search needs
 
 -- src/lib.rt:91:9
 returns : tie.Need-returns
-returns c = walk-refused (c .before .before .before .before .before .before .before .before .before .before .before .args .k) (c .before .before .before .before .before .before .before .before .before .before .before .args .target) (now (c .before .before .before .before .before .before .before .before .before .before .before .args .net)) (c .before .before .before .before .before .before .before .before .read-net .result) (c .before .before .before .before .before .before .before .before .read-net .ensures) (c .before .before .before .before .before .before .v .given .1) (c .before .before .before .before .number .ensures) (c .before .before .write-refusal .ensures)
+returns c = walk-refused (c .before .before .before .before .before .before .before .before .before .before .before .args .k) (c .before .before .before .before .before .before .before .before .before .before .before .args .target) (now (c .before .before .before .before .before .before .before .before .before .before .before .args .net)) (c .before .before .before .before .before .before .before .before .read-net .result) (c .before .before .before .before .before .before .before .before .read-net .ensures) (c .before .before .before .before .before .before .v .given .1) (c .before .before .before .before .wide .ensures) (c .before .before .write-refusal .ensures)
 
 enum-told : tie.Need-enum-told
 enum-told c = search needs
 
 -- src/lib.rt:93:22
-wide-requires : tie.Need-wide-requires
-wide-requires c κs = search needs
+word-requires : tie.Need-word-requires
+word-requires c κs = search needs
 
 -- src/lib.rt:93:31
-wide-requires-2 : tie.Need-wide-requires-2
-wide-requires-2 c κs = search needs
+word-requires-2 : tie.Need-word-requires-2
+word-requires-2 c κs = search needs
 
 -- src/lib.rt:93:5
 list-read-requires : tie.Need-list-read-requires
-list-read-requires c κs = let p = c .before .before .before .before .before .before .before .before .pre in walk-listing (c .before .before .before .before .before .before .before .before .args .k) (c .before .before .before .before .before .before .before .before .args .target) (now (c .before .before .before .before .before .before .before .before .args .net)) (c .before .before .before .before .before .read-net .result) (c .before .before .before .before .before .read-net .ensures) (c .before .before .before .enum-told .given .1) (c .before .before .wide .ensures) (c .before .wide2 .ensures) (p .0) (p .1) (p .2) (p .3)
+list-read-requires c κs = let p = c .before .before .before .before .before .before .before .before .pre in walk-listing (c .before .before .before .before .before .before .before .before .args .k) (c .before .before .before .before .before .before .before .before .args .target) (now (c .before .before .before .before .before .before .before .before .args .net)) (c .before .before .before .before .before .read-net .result) (c .before .before .before .before .before .read-net .ensures) (c .before .before .before .enum-told .given .1) (c .before .before .word .ensures) (c .before .word2 .ensures) (p .0) (p .1) (p .2) (p .3)
 
 -- src/lib.rt:84:1
 same-length-2 : tie.Need-same-length-2
@@ -57,7 +57,7 @@ same-length-2 c = search needs
 
 -- src/lib.rt:84:1
 returns-2 : tie.Need-returns-2
-returns-2 c = walk-lists (c .before .before .before .before .before .before .before .before .before .before .before .args .k) (c .before .before .before .before .before .before .before .before .before .before .before .args .target) (now (c .before .before .before .before .before .before .before .before .before .before .before .args .net)) (c .before .before .before .before .before .before .before .before .read-net .result) (c .before .before .before .before .before .before .before .before .read-net .ensures) (c .before .before .before .before .before .before .enum-told .given .1) (c .before .before .before .before .before .wide .ensures) (c .before .before .before .before .wide2 .ensures) (c .before .before .list-read .ensures)
+returns-2 c = walk-lists (c .before .before .before .before .before .before .before .before .before .before .before .args .k) (c .before .before .before .before .before .before .before .before .before .before .before .args .target) (now (c .before .before .before .before .before .before .before .before .before .before .before .args .net)) (c .before .before .before .before .before .before .before .before .read-net .result) (c .before .before .before .before .before .before .before .before .read-net .ensures) (c .before .before .before .before .before .before .enum-told .given .1) (c .before .before .before .before .before .word .ensures) (c .before .before .before .before .word2 .ensures) (c .before .before .list-read .ensures)
 
 pub list-net-spec : {M : Type 1} → statement M
 list-net-spec =
@@ -65,13 +65,13 @@ list-net-spec =
     (tie.spec
     read-net-requires
     enum-known-v
-    number-requires
+    wide-requires
     write-refusal-requires
     same-length
     returns
     enum-told
-    wide-requires
-    wide-requires-2
+    word-requires
+    word-requires-2
     list-read-requires
     same-length-2
     returns-2)

@@ -1,77 +1,60 @@
--- `lister::list_parts` meets its contract: one law for each way out.
+-- `lister::list_parts` meets its contract: the refusal, or all that follows.
 use denote.Ref.{now}
+use mathlib.Core.Path.{_∙_}
 use native.Mathlib.Omega.{arith}
-use Rattle.text.specs.PutLaws.{wrote-as}
-use Rattle.lister.specs.Inputs.{list-low, list-high, list-far, list-near}
+use Rattle.limits.specs.Limits.{coverArea, scratchArea}
+use Rattle.sizes.specs.SizeLaws.{fit, zero-of, list-refused, list-passed}
+use Rattle.digits.specs.PutLaws.{wrote-as}
 use borrow.Author.Needs.{needs}
 use Rattle.lister.proofs.list_parts.Statement.{statement}
 use Rattle.lister.proofs.list_parts.Tie as tie
 use Rattle.lister.proofs.list_parts.Reads as reads
 use Rattle.lister.proofs.list_parts.Lts as lts
 use Rattle.lister.proofs.list_net.Reads as list-net-reads
-use Rattle.text.proofs.write_refusal.Reads as write-refusal-reads
+use Rattle.sizes.proofs.check_sizes.Reads as check-sizes-reads
+use Rattle.inputs.proofs.wide.Reads as wide-reads
+use Rattle.digits.proofs.write_refusal.Reads as write-refusal-reads
 
--- src/lib.rt:102:9
+check-sizes-requires : tie.Need-check-sizes-requires
+check-sizes-requires c κs = search needs
+
+wide-requires : tie.Need-wide-requires
+wide-requires c κs = search needs
+
 write-refusal-requires : tie.Need-write-refusal-requires
 write-refusal-requires c κs = search needs
 
--- src/lib.rt:102:9
 same-length : tie.Need-same-length
 same-length c = search needs
 
--- src/lib.rt:102:9
 returns : tie.Need-returns
-returns c = wrote-as (list-low (c .before .before .before .before .before .before .before .args .k) (c .before .before .before .before .before .before .before .args .target) (now (c .before .before .before .before .before .before .before .args .net)) (c .before .before .before .before .if1 .taken)) (c .before .before .write-refusal .ensures)
+returns c =
+    let a = c .before .before .before .before .before .before .before .before .before .args in
+    wrote-as (list-refused (a .k) (a .target) (now (a .net)) (c .before .before .before .before .wide .result) (c .before .before .before .before .wide .ensures ∙ c .before .before .before .before .before .before .check-sizes .ensures) (omega (arith, c .before .before .before .before .before .if1 .taken, c .before .before .before .before .wide .ensures))) (c .before .before .write-refusal .ensures)
 
--- src/lib.rt:105:9
-write-refusal-requires-2 : tie.Need-write-refusal-requires-2
-write-refusal-requires-2 c κs = search needs
+list-net-requires : tie.Need-list-net-requires
+list-net-requires c κs =
+    let a = c .before .before .before .before .before .args in
+    let f = fit (a .k) (a .target) coverArea scratchArea (zero-of (c .before .before .check-sizes .ensures) (omega (arith, c .before .if1 .left))) in
+    (f .low, f .high, f .near, c .before .before .before .before .before .pre)
 
--- src/lib.rt:105:9
 same-length-2 : tie.Need-same-length-2
 same-length-2 c = search needs
 
--- src/lib.rt:105:9
 returns-2 : tie.Need-returns-2
-returns-2 c = wrote-as (list-high (c .before .before .before .before .before .before .before .before .args .k) (c .before .before .before .before .before .before .before .before .args .target) (now (c .before .before .before .before .before .before .before .before .args .net)) (omega (arith, c .before .before .before .before .before .if1 .left)) (c .before .before .before .before .if2 .taken)) (c .before .before .write-refusal2 .ensures)
-
--- src/lib.rt:108:9
-write-refusal-requires-3 : tie.Need-write-refusal-requires-3
-write-refusal-requires-3 c κs = search needs
-
--- src/lib.rt:108:9
-same-length-3 : tie.Need-same-length-3
-same-length-3 c = search needs
-
--- src/lib.rt:108:9
-returns-3 : tie.Need-returns-3
-returns-3 c = wrote-as (list-far (c .before .before .before .before .before .before .before .before .before .args .k) (c .before .before .before .before .before .before .before .before .before .args .target) (now (c .before .before .before .before .before .before .before .before .before .args .net)) (omega (arith, c .before .before .before .before .before .before .if1 .left)) (omega (arith, c .before .before .before .before .before .if2 .left)) (c .before .before .before .before .if3 .taken)) (c .before .before .write-refusal3 .ensures)
-
--- src/lib.rt:110:5
-list-net-requires : tie.Need-list-net-requires
-list-net-requires c κs = search needs
-
--- src/lib.rt:97:1
-same-length-4 : tie.Need-same-length-4
-same-length-4 c = search needs
-
--- src/lib.rt:97:1
-returns-4 : tie.Need-returns-4
-returns-4 c = wrote-as (list-near (c .before .before .before .before .before .before .before .before .before .args .k) (c .before .before .before .before .before .before .before .before .before .args .target) (now (c .before .before .before .before .before .before .before .before .before .args .net)) (omega (arith, c .before .before .before .before .before .before .if1 .left)) (omega (arith, c .before .before .before .before .before .if2 .left)) (omega (arith, c .before .before .before .before .if3 .left))) (c .before .before .list-net .ensures)
+returns-2 c =
+    let a = c .before .before .before .before .before .before .before .before .args in
+    wrote-as (list-passed (a .k) (a .target) (now (a .net)) (c .before .before .before .before .before .check-sizes .result) (c .before .before .before .before .before .check-sizes .ensures) (omega (arith, c .before .before .before .before .if1 .left))) (c .before .before .list-net .ensures)
 
 pub list-parts-spec : {M : Type 1} → statement M
 list-parts-spec =
     tie.close
     (tie.spec
+    check-sizes-requires
+    wide-requires
     write-refusal-requires
     same-length
     returns
-    write-refusal-requires-2
-    same-length-2
-    returns-2
-    write-refusal-requires-3
-    same-length-3
-    returns-3
     list-net-requires
-    same-length-4
-    returns-4)
+    same-length-2
+    returns-2)

@@ -3,9 +3,10 @@ use mathlib.Core.Path.{refl}
 use Prim.Native.Nat.{ℕ}
 use native.Mathlib.Omega.{arith}
 use lib.ListN.{length-replicate}
-use Rattle.solver.specs.Planned.{Lengths}
-use Rattle.mapper.specs.Outcome.{net-sure, zero-room}
-use Rattle.mapper.specs.Recording.{Long}
+use Rattle.reader.specs.Lengths.{Lengths}
+use Rattle.solver.specs.SettlingLaws.{cover-settled}
+use Rattle.planner.specs.Ready.{zero-room}
+use Rattle.netmap.specs.Recording.{Long}
 use Rattle.lister.specs.Texts.{lists-refused, lists-covered, cover-listable}
 use borrow.Author.Needs.{needs}
 use Rattle.lister.proofs.list_read.Statement.{statement}
@@ -13,7 +14,7 @@ use Rattle.lister.proofs.list_read.Tie as tie
 use Rattle.lister.proofs.list_read.Reads as reads
 use Rattle.lister.proofs.list_read.Lts as lts
 use Rattle.solver.proofs.settle.Reads as settle-reads
-use Rattle.text.proofs.write_refusal.Reads as write-refusal-reads
+use Rattle.digits.proofs.write_refusal.Reads as write-refusal-reads
 use Rattle.text.proofs.write_text.Reads as write-text-reads
 
 -- src/lib.rt:52:9
@@ -97,7 +98,7 @@ write-text-requires : tie.Need-write-text-requires
 write-text-requires c κs =
     let good = c .before .before .before .before .before .before .before .before .before .before .before .before .before .before .before .before .before .before .before .before .before .before .before .before .before .before .before .before .good .0 in
     let k = c .before .before .before .before .before .before .before .before .before .before .before .before .before .before .before .before .before .before .before .settle .kept in
-    let u = net-sure (c .before .before .before .before .before .before .before .before .before .before .before .before .before .before .before .before .before .before .before .settle .ensures) (omega (arith, c .before .before .before .before .before .before .before .before .before .before .before .if1 .left)) in
+    let u = cover-settled (c .before .before .before .before .before .before .before .before .before .before .before .before .before .before .before .before .before .before .before .settle .ensures) (omega (arith, c .before .before .before .before .before .before .before .before .before .before .before .if1 .left)) in
     let l : Lengths (c .before .before .before .before .before .before .before .before .before .before .before .before .before .before .before .before .before .before .before .before .before .before .before .before .before .before .before .before .args .net) = record { atPins = search needs; atSources = search needs; atCounts = search needs; atTables = search needs; atOuts = search needs; atDelays = search needs } in
     cover-listable (c .before .before .before .before .before .before .before .before .before .before .before .before .before .before .before .before .before .before .before .before .before .before .before .before .before .before .before .before .pre) refl refl (record { atLabels = k .1 .1 .1 .1 .0; atMarks = k .1 .1 .1 .1 .1 .0; atSizes = k .1 .1 .1 .1 .1 .1 .0; atNodes = k .1 .1 .1 .1 .1 .1 .1 .0; atBacks = k .1 .1 .1 .1 .1 .1 .1 .1 .0; atTables = k .1 .1 .1 .1 .1 .1 .1 .1 .1 .0 }) l u
 
@@ -107,7 +108,7 @@ same-length-2 c = search needs
 
 -- src/lib.rt:37:1
 returns-2 : tie.Need-returns-2
-returns-2 c = lists-covered (net-sure (c .before .before .before .before .before .before .before .before .before .before .before .before .before .before .before .before .before .before .before .before .before .before .settle .ensures) (omega (arith, c .before .before .before .before .before .before .before .before .before .before .before .before .before .before .if1 .left))) (c .before .before .write-text .ensures)
+returns-2 c = lists-covered (cover-settled (c .before .before .before .before .before .before .before .before .before .before .before .before .before .before .before .before .before .before .before .before .before .before .settle .ensures) (omega (arith, c .before .before .before .before .before .before .before .before .before .before .before .before .before .before .if1 .left))) (c .before .before .write-text .ensures)
 
 pub list-read-spec : {M : Type 1} → statement M
 list-read-spec =

@@ -5,86 +5,69 @@ use Prim.Native.Nat.{_≤_}
 use native.Mathlib.Omega.{arith}
 use lib.ListN.{length, drop, length-append, length-drop}
 use lib.Seq.{length-take-le, length-front}
-use Rattle.mapper.specs.Sizing.{fit, map-sizes, map-rest, sizes-small, zero-of}
+use Rattle.limits.specs.Limits.{scratchArea}
+use Rattle.sizes.specs.SizeLaws.{fit, sizes-small, zero-of}
+use Rattle.mapper.specs.Sizing.{map-sizes, map-rest}
 use borrow.Author.Needs.{needs}
 use Rattle.mapper.proofs.map.Statement.{statement}
 use Rattle.mapper.proofs.map.Tie as tie
 use Rattle.mapper.proofs.map.Reads as reads
 use Rattle.mapper.proofs.map.Lts as lts
-use Rattle.mapper.proofs.check_sizes.Reads as check-sizes-reads
+use Rattle.sizes.proofs.check_sizes.Reads as check-sizes-reads
 use Rattle.mapper.proofs.map_bytes.Reads as map-bytes-reads
 use Rattle.scratch.proofs.clear_first.Reads as clear-first-reads
 
--- src/lib.rt:116:9
 check-sizes-requires : tie.Need-check-sizes-requires
 check-sizes-requires c κs = search needs
 
--- src/lib.rt:118:9
+returns : tie.Need-returns
+returns c = (map-sizes (c .before .before .before .before .before .args .k) (c .before .before .before .before .before .args .target) (now (c .before .before .before .before .before .args .area)) (now (c .before .before .before .before .before .args .scratch)) (now (c .before .before .before .before .before .args .net)) (c .before .check-sizes .result) (c .before .check-sizes .ensures) (c .if1 .taken), (let h = sizes-small (c .before .before .before .before .before .args .k) (c .before .before .before .before .before .args .target) (length (now (c .before .before .before .before .before .args .area))) (length (now (c .before .before .before .before .before .args .scratch))) in let e = c .before .check-sizes .ensures in omega arith))
+
+slice-relend-prefix-map-bytes : tie.Need-slice-relend-prefix-map-bytes
+slice-relend-prefix-map-bytes c =
+    let f = fit (c .before .before .before .before .before .before .args .k) (c .before .before .before .before .before .before .args .target) (length (now (c .before .before .before .before .before .before .args .area))) (length (now (c .before .before .before .before .before .before .args .scratch))) (zero-of (c .before .before .check-sizes .ensures) (omega (arith, c .before .if1 .left))) in
+    f .space
+
+slice-aggregate-map-bytes : tie.Need-slice-aggregate-map-bytes
+slice-aggregate-map-bytes c =
+    let f = fit (c .before .before .before .before .before .before .before .args .k) (c .before .before .before .before .before .before .before .args .target) (length (now (c .before .before .before .before .before .before .before .args .area))) (length (now (c .before .before .before .before .before .before .before .args .scratch))) (zero-of (c .before .before .before .check-sizes .ensures) (omega (arith, c .before .before .if1 .left))) in
+    sym (length-take-le scratchArea (now (c .before .before .before .before .before .before .before .args .scratch)) (f .space))
+
+map-bytes-requires : tie.Need-map-bytes-requires
+map-bytes-requires c κs =
+    let f = fit (c .before .before .before .before .before .before .before .args .k) (c .before .before .before .before .before .before .before .args .target) (length (now (c .before .before .before .before .before .before .before .args .area))) (length (now (c .before .before .before .before .before .before .before .args .scratch))) (zero-of (c .before .before .before .check-sizes .ensures) (omega (arith, c .before .before .if1 .left))) in
+    let e = length-take-le scratchArea (now (c .before .before .before .before .before .before .before .args .scratch)) (f .space) in
+    (f .low, f .high, f .near, f .room, omega arith)
+
+clear-first-requires : tie.Need-clear-first-requires
+clear-first-requires c κs =
+    let f = fit (c .before .before .before .before .before .before .before .before .before .before .before .before .before .args .k) (c .before .before .before .before .before .before .before .before .before .before .before .before .before .args .target) (length (now (c .before .before .before .before .before .before .before .before .before .before .before .before .before .args .area))) (length (now (c .before .before .before .before .before .before .before .before .before .before .before .before .before .args .scratch))) (zero-of (c .before .before .before .before .before .before .before .before .before .check-sizes .ensures) (omega (arith, c .before .before .before .before .before .before .before .before .if1 .left))) in
+    let e = c .before .before .before .before .before .map-bytes .kept .1 .1 .1 .1 .0 ∙ length-take-le scratchArea (now (c .before .before .before .before .before .before .before .before .before .before .before .before .before .args .scratch)) (f .space) in
+    let b = length-append (c .before .before .before .before .before .map-bytes .last .1 .1 .1 .1 .0) (drop scratchArea (now (c .before .before .before .before .before .before .before .before .before .before .before .before .before .args .scratch))) in
+    omega arith
+
 same-length : tie.Need-same-length
 same-length c = search needs
 
--- src/lib.rt:118:9
 same-length-2 : tie.Need-same-length-2
-same-length-2 c = search needs
+same-length-2 c = c .before .before .clear-first .kept .0 ∙ length-front (now (c .before .before .before .before .before .before .before .before .before .before .before .before .before .before .before .before .args .scratch)) (c .before .before .before .before .before .before .before .before .map-bytes .last .1 .1 .1 .1 .0) scratchArea (c .before .before .before .before .before .before .before .before .map-bytes .kept .1 .1 .1 .1 .0)
 
--- src/lib.rt:118:9
-returns : tie.Need-returns
-returns c = (map-sizes (c .before .before .before .before .before .before .before .args .k) (c .before .before .before .before .before .before .before .args .target) (now (c .before .before .before .before .before .before .before .args .area)) (now (c .before .before .before .before .before .before .before .args .scratch)) (now (c .before .before .before .before .before .before .before .args .net)) (c .before .check-sizes .result) (c .before .check-sizes .ensures) (c .if1 .taken), (let h = sizes-small (c .before .before .before .before .before .before .before .args .k) (c .before .before .before .before .before .before .before .args .target) (now (c .before .before .before .before .before .before .before .args .area)) (now (c .before .before .before .before .before .before .before .args .scratch)) in let e = c .before .check-sizes .ensures in omega arith))
-
--- src/lib.rt:120:50
-slice-relend-prefix-map-bytes : tie.Need-slice-relend-prefix-map-bytes
-slice-relend-prefix-map-bytes c =
-    let f = fit (c .before .before .before .before .before .before .before .before .args .k) (c .before .before .before .before .before .before .before .before .args .target) (now (c .before .before .before .before .before .before .before .before .args .area)) (now (c .before .before .before .before .before .before .before .before .args .scratch)) (zero-of (c .before .before .check-sizes .ensures) (omega (arith, c .before .if1 .left))) in
-    f .space
-
--- src/lib.rt:120:50
-slice-aggregate-map-bytes : tie.Need-slice-aggregate-map-bytes
-slice-aggregate-map-bytes c =
-    let f = fit (c .before .before .before .before .before .before .before .before .before .args .k) (c .before .before .before .before .before .before .before .before .before .args .target) (now (c .before .before .before .before .before .before .before .before .before .args .area)) (now (c .before .before .before .before .before .before .before .before .before .args .scratch)) (zero-of (c .before .before .before .check-sizes .ensures) (omega (arith, c .before .before .if1 .left))) in
-    sym (length-take-le 65536 (now (c .before .before .before .before .before .before .before .before .before .args .scratch)) (f .space))
-
--- src/lib.rt:120:9
-map-bytes-requires : tie.Need-map-bytes-requires
-map-bytes-requires c κs =
-    let f = fit (c .before .before .before .before .before .before .before .before .before .args .k) (c .before .before .before .before .before .before .before .before .before .args .target) (now (c .before .before .before .before .before .before .before .before .before .args .area)) (now (c .before .before .before .before .before .before .before .before .before .args .scratch)) (zero-of (c .before .before .before .check-sizes .ensures) (omega (arith, c .before .before .if1 .left))) in
-    let e = length-take-le 65536 (now (c .before .before .before .before .before .before .before .before .before .args .scratch)) (f .space) in
-    (f .low, f .high, f .near, f .room, omega arith)
-
--- src/lib.rt:121:5
-clear-first-requires : tie.Need-clear-first-requires
-clear-first-requires c κs =
-    let f = fit (c .before .before .before .before .before .before .before .before .before .before .before .before .before .before .before .args .k) (c .before .before .before .before .before .before .before .before .before .before .before .before .before .before .before .args .target) (now (c .before .before .before .before .before .before .before .before .before .before .before .before .before .before .before .args .area)) (now (c .before .before .before .before .before .before .before .before .before .before .before .before .before .before .before .args .scratch)) (zero-of (c .before .before .before .before .before .before .before .before .before .check-sizes .ensures) (omega (arith, c .before .before .before .before .before .before .before .before .if1 .left))) in
-    let e = c .before .before .before .before .before .map-bytes .kept .1 .1 .1 .1 .0 ∙ length-take-le 65536 (now (c .before .before .before .before .before .before .before .before .before .before .before .before .before .before .before .args .scratch)) (f .space) in
-    let b = length-append (c .before .before .before .before .before .map-bytes .last .1 .1 .1 .1 .0) (drop 65536 (now (c .before .before .before .before .before .before .before .before .before .before .before .before .before .before .before .args .scratch))) in
-    omega arith
-
--- src/lib.rt:113:1
-same-length-3 : tie.Need-same-length-3
-same-length-3 c = search needs
-
--- src/lib.rt:113:1
-same-length-4 : tie.Need-same-length-4
-same-length-4 c = c .before .before .clear-first .kept .0 ∙ length-front (now (c .before .before .before .before .before .before .before .before .before .before .before .before .before .before .before .before .before .before .args .scratch)) (c .before .before .before .before .before .before .before .before .map-bytes .last .1 .1 .1 .1 .0) 65536 (c .before .before .before .before .before .before .before .before .map-bytes .kept .1 .1 .1 .1 .0)
-
--- src/lib.rt:113:1
 returns-2 : tie.Need-returns-2
 returns-2 c =
-    let f = fit (c .before .before .before .before .before .before .before .before .before .before .before .before .before .before .before .before .before .before .args .k) (c .before .before .before .before .before .before .before .before .before .before .before .before .before .before .before .before .before .before .args .target) (now (c .before .before .before .before .before .before .before .before .before .before .before .before .before .before .before .before .before .before .args .area)) (now (c .before .before .before .before .before .before .before .before .before .before .before .before .before .before .before .before .before .before .args .scratch)) (zero-of (c .before .before .before .before .before .before .before .before .before .before .before .before .check-sizes .ensures) (omega (arith, c .before .before .before .before .before .before .before .before .before .before .before .if1 .left))) in
-    let e = c .before .before .before .before .before .before .before .before .map-bytes .kept .1 .1 .1 .1 .0 ∙ length-take-le 65536 (now (c .before .before .before .before .before .before .before .before .before .before .before .before .before .before .before .before .before .before .args .scratch)) (f .space) in
-    (map-rest (c .before .before .before .before .before .before .before .before .before .before .before .before .before .before .before .before .before .before .args .k) (c .before .before .before .before .before .before .before .before .before .before .before .before .before .before .before .before .before .before .args .target) (now (c .before .before .before .before .before .before .before .before .before .before .before .before .before .before .before .before .before .before .args .area)) (now (c .before .before .before .before .before .before .before .before .before .before .before .before .before .before .before .before .before .before .args .scratch)) (now (c .before .before .before .before .before .before .before .before .before .before .before .before .before .before .before .before .before .before .args .net)) _ (c .before .before .before .before .before .before .before .before .map-bytes .last .1 .1 .1 .1 .0) _ _ (zero-of (c .before .before .before .before .before .before .before .before .before .before .before .before .check-sizes .ensures) (omega (arith, c .before .before .before .before .before .before .before .before .before .before .before .if1 .left))) (c .before .before .before .before .before .before .before .before .map-bytes .ensures) e (c .before .before .clear-first .ensures), c .before .before .before .before .before .before .before .before .map-bytes .ensures .small)
+    let f = fit (c .before .before .before .before .before .before .before .before .before .before .before .before .before .before .before .before .args .k) (c .before .before .before .before .before .before .before .before .before .before .before .before .before .before .before .before .args .target) (length (now (c .before .before .before .before .before .before .before .before .before .before .before .before .before .before .before .before .args .area))) (length (now (c .before .before .before .before .before .before .before .before .before .before .before .before .before .before .before .before .args .scratch))) (zero-of (c .before .before .before .before .before .before .before .before .before .before .before .before .check-sizes .ensures) (omega (arith, c .before .before .before .before .before .before .before .before .before .before .before .if1 .left))) in
+    let e = c .before .before .before .before .before .before .before .before .map-bytes .kept .1 .1 .1 .1 .0 ∙ length-take-le scratchArea (now (c .before .before .before .before .before .before .before .before .before .before .before .before .before .before .before .before .args .scratch)) (f .space) in
+    (map-rest (c .before .before .before .before .before .before .before .before .before .before .before .before .before .before .before .before .args .k) (c .before .before .before .before .before .before .before .before .before .before .before .before .before .before .before .before .args .target) (now (c .before .before .before .before .before .before .before .before .before .before .before .before .before .before .before .before .args .area)) (now (c .before .before .before .before .before .before .before .before .before .before .before .before .before .before .before .before .args .scratch)) (now (c .before .before .before .before .before .before .before .before .before .before .before .before .before .before .before .before .args .net)) _ (c .before .before .before .before .before .before .before .before .map-bytes .last .1 .1 .1 .1 .0) _ _ (zero-of (c .before .before .before .before .before .before .before .before .before .before .before .before .check-sizes .ensures) (omega (arith, c .before .before .before .before .before .before .before .before .before .before .before .if1 .left))) (c .before .before .before .before .before .before .before .before .map-bytes .ensures) e (c .before .before .clear-first .ensures), c .before .before .before .before .before .before .before .before .map-bytes .ensures .small)
 
 pub map-spec : {M : Type 1} → statement M
 map-spec =
     tie.close
     (tie.spec
     check-sizes-requires
-    same-length
-    same-length-2
     returns
     slice-relend-prefix-map-bytes
     slice-aggregate-map-bytes
     map-bytes-requires
     clear-first-requires
-    same-length-3
-    same-length-4
+    same-length
+    same-length-2
     returns-2)

@@ -6,8 +6,8 @@ use Rattle.mapper.proofs.map_bytes.Statement.{statement}
 use Rattle.mapper.proofs.map_bytes.Tie as tie
 use Rattle.mapper.proofs.map_bytes.Reads as reads
 use Rattle.mapper.proofs.map_bytes.Lts as lts
-use Rattle.mapper.proofs.map_read.Reads as map-read-reads
-use Rattle.inputs.proofs.wide.Reads as wide-reads
+use Rattle.netmap.proofs.map_read.Reads as map-read-reads
+use Rattle.inputs.proofs.word.Reads as word-reads
 use Rattle.reader.proofs.read_net.Reads as read-net-reads
 
 -- src/lib.rt:104:9
@@ -26,16 +26,16 @@ enum-told : tie.Need-enum-told
 enum-told c = search needs
 
 -- src/lib.rt:109:21
-wide-requires : tie.Need-wide-requires
-wide-requires c κs = search needs
+word-requires : tie.Need-word-requires
+word-requires c κs = search needs
 
 -- src/lib.rt:109:30
-wide-requires-2 : tie.Need-wide-requires-2
-wide-requires-2 c κs = search needs
+word-requires-2 : tie.Need-word-requires-2
+word-requires-2 c κs = search needs
 
 -- src/lib.rt:109:5
 map-read-requires : tie.Need-map-read-requires
-map-read-requires c κs = let p = c .before .before .before .before .before .before .before .before .before .before .pre in walk-mapping (c .before .before .before .before .before .before .before .before .before .before .args .k) (c .before .before .before .before .before .before .before .before .before .before .args .target) (now (c .before .before .before .before .before .before .before .before .before .before .args .net)) (c .before .before .before .before .before .before .read-net .result) (c .before .before .before .before .before .before .read-net .ensures) (c .before .before .before .before .enum-told .given .1) (c .before .before .before .wide .ensures) (c .before .before .wide2 .ensures) (p .0) (p .1) (p .2) (p .3) (p .4)
+map-read-requires c κs = let p = c .before .before .before .before .before .before .before .before .before .before .pre in walk-mapping (c .before .before .before .before .before .before .before .before .before .before .args .k) (c .before .before .before .before .before .before .before .before .before .before .args .target) (now (c .before .before .before .before .before .before .before .before .before .before .args .net)) (c .before .before .before .before .before .before .read-net .result) (c .before .before .before .before .before .before .read-net .ensures) (c .before .before .before .before .enum-told .given .1) (c .before .before .before .word .ensures) (c .before .before .word2 .ensures) (p .0) (p .1) (p .2) (p .3) (p .4)
 
 -- src/lib.rt:100:1
 same-length : tie.Need-same-length
@@ -47,7 +47,7 @@ same-length-2 c = search needs
 
 -- src/lib.rt:100:1
 returns-2 : tie.Need-returns-2
-returns-2 c = walk-maps (c .before .before .before .before .before .before .before .before .before .before .before .before .before .before .before .args .k) (c .before .before .before .before .before .before .before .before .before .before .before .before .before .before .before .args .target) (now (c .before .before .before .before .before .before .before .before .before .before .before .before .before .before .before .args .net)) (c .before .before .before .before .before .before .before .before .before .before .before .read-net .result) (c .before .before .before .before .before .before .before .before .before .before .before .read-net .ensures) (c .before .before .before .before .before .before .before .before .before .enum-told .given .1) (c .before .before .before .before .before .before .before .before .wide .ensures) (c .before .before .before .before .before .before .before .wide2 .ensures) (c .before .before .before .before .map-read .ensures)
+returns-2 c = walk-maps (c .before .before .before .before .before .before .before .before .before .before .before .before .before .before .before .args .k) (c .before .before .before .before .before .before .before .before .before .before .before .before .before .before .before .args .target) (now (c .before .before .before .before .before .before .before .before .before .before .before .before .before .before .before .args .net)) (c .before .before .before .before .before .before .before .before .before .before .before .read-net .result) (c .before .before .before .before .before .before .before .before .before .before .before .read-net .ensures) (c .before .before .before .before .before .before .before .before .before .enum-told .given .1) (c .before .before .before .before .before .before .before .before .word .ensures) (c .before .before .before .before .before .before .before .word2 .ensures) (c .before .before .before .before .map-read .ensures)
 
 pub map-bytes-spec : {M : Type 1} → statement M
 map-bytes-spec =
@@ -57,8 +57,8 @@ map-bytes-spec =
     enum-known-v
     returns
     enum-told
-    wide-requires
-    wide-requires-2
+    word-requires
+    word-requires-2
     map-read-requires
     same-length
     same-length-2

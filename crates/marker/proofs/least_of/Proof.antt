@@ -1,6 +1,6 @@
 -- `marker::least_of` meets its contract.
 use native.Mathlib.Omega.{arith}
-use Rattle.mapper.specs.Outcome.{zero-room}
+use Rattle.planner.specs.Ready.{zero-room}
 use borrow.Author.Needs.{needs}
 use Rattle.marker.proofs.least_of.Statement.{statement}
 use Rattle.marker.proofs.least_of.Tie as tie

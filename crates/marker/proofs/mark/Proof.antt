@@ -5,73 +5,61 @@ use Prim.Native.Nat.{_≤_}
 use native.Mathlib.Omega.{arith}
 use lib.ListN.{length, drop, length-append, length-drop}
 use lib.Seq.{length-take-le, length-front}
-use Rattle.mapper.specs.Sizing.{zero-of}
-use Rattle.marker.specs.Sizing.{fit, mark-sizes, mark-rest, sizes-small}
+use Rattle.limits.specs.Limits.{coverArea, scratchArea}
+use Rattle.sizes.specs.SizeLaws.{fit, sizes-small, zero-of}
+use Rattle.marker.specs.Sizing.{mark-sizes, mark-rest}
 use borrow.Author.Needs.{needs}
 use Rattle.marker.proofs.mark.Statement.{statement}
 use Rattle.marker.proofs.mark.Tie as tie
 use Rattle.marker.proofs.mark.Reads as reads
 use Rattle.marker.proofs.mark.Lts as lts
-use Rattle.marker.proofs.check_sizes.Reads as check-sizes-reads
+use Rattle.sizes.proofs.check_sizes.Reads as check-sizes-reads
 use Rattle.marker.proofs.mark_bytes.Reads as mark-bytes-reads
 use Rattle.scratch.proofs.clear_first.Reads as clear-first-reads
 
--- src/lib.rt:189:9
 check-sizes-requires : tie.Need-check-sizes-requires
 check-sizes-requires c κs = search needs
 
--- src/lib.rt:191:9
-same-length : tie.Need-same-length
-same-length c = search needs
-
--- src/lib.rt:191:9
 returns : tie.Need-returns
-returns c = (mark-sizes (c .before .before .before .before .before .before .args .k) (now (c .before .before .before .before .before .before .args .scratch)) (now (c .before .before .before .before .before .before .args .net)) (now (c .before .before .before .before .before .before .args .cover)) (c .before .check-sizes .result) (c .before .check-sizes .ensures) (c .if1 .taken), (let h = sizes-small (c .before .before .before .before .before .before .args .k) (now (c .before .before .before .before .before .before .args .scratch)) in let e = c .before .check-sizes .ensures in omega arith))
+returns c = (mark-sizes (c .before .before .before .before .before .args .k) (now (c .before .before .before .before .before .args .scratch)) (now (c .before .before .before .before .before .args .net)) (now (c .before .before .before .before .before .args .cover)) (c .before .check-sizes .result) (c .before .check-sizes .ensures) (c .if1 .taken), (let h = sizes-small (c .before .before .before .before .before .args .k) 0 coverArea (length (now (c .before .before .before .before .before .args .scratch))) in let e = c .before .check-sizes .ensures in omega arith))
 
--- src/lib.rt:193:44
 slice-relend-prefix-mark-bytes : tie.Need-slice-relend-prefix-mark-bytes
-slice-relend-prefix-mark-bytes c = let f = fit (c .before .before .before .before .before .before .args .k) (now (c .before .before .before .before .before .before .args .scratch)) (zero-of (c .before .check-sizes .ensures) (omega (arith, c .if1 .left))) in f .space
+slice-relend-prefix-mark-bytes c = let f = fit (c .before .before .before .before .before .args .k) 0 coverArea (length (now (c .before .before .before .before .before .args .scratch))) (zero-of (c .before .check-sizes .ensures) (omega (arith, c .if1 .left))) in f .space
 
--- src/lib.rt:193:44
 slice-aggregate-mark-bytes : tie.Need-slice-aggregate-mark-bytes
-slice-aggregate-mark-bytes c = let f = fit (c .before .before .before .before .before .before .before .args .k) (now (c .before .before .before .before .before .before .before .args .scratch)) (zero-of (c .before .before .check-sizes .ensures) (omega (arith, c .before .if1 .left))) in sym (length-take-le 65536 (now (c .before .before .before .before .before .before .before .args .scratch)) (f .space))
+slice-aggregate-mark-bytes c = let f = fit (c .before .before .before .before .before .before .args .k) 0 coverArea (length (now (c .before .before .before .before .before .before .args .scratch))) (zero-of (c .before .before .check-sizes .ensures) (omega (arith, c .before .if1 .left))) in sym (length-take-le scratchArea (now (c .before .before .before .before .before .before .args .scratch)) (f .space))
 
--- src/lib.rt:193:9
 mark-bytes-requires : tie.Need-mark-bytes-requires
 mark-bytes-requires c κs =
-    let f = fit (c .before .before .before .before .before .before .before .args .k) (now (c .before .before .before .before .before .before .before .args .scratch)) (zero-of (c .before .before .check-sizes .ensures) (omega (arith, c .before .if1 .left))) in
-    let e = length-take-le 65536 (now (c .before .before .before .before .before .before .before .args .scratch)) (f .space) in
+    let f = fit (c .before .before .before .before .before .before .args .k) 0 coverArea (length (now (c .before .before .before .before .before .before .args .scratch))) (zero-of (c .before .before .check-sizes .ensures) (omega (arith, c .before .if1 .left))) in
+    let e = length-take-le scratchArea (now (c .before .before .before .before .before .before .args .scratch)) (f .space) in
     (f .low, f .high, omega arith)
 
--- src/lib.rt:194:5
 clear-first-requires : tie.Need-clear-first-requires
 clear-first-requires c κs =
-    let f = fit (c .before .before .before .before .before .before .before .before .before .before .before .args .k) (now (c .before .before .before .before .before .before .before .before .before .before .before .args .scratch)) (zero-of (c .before .before .before .before .before .before .check-sizes .ensures) (omega (arith, c .before .before .before .before .before .if1 .left))) in
-    let e = c .before .before .before .mark-bytes .kept .1 .1 .1 .0 ∙ length-take-le 65536 (now (c .before .before .before .before .before .before .before .before .before .before .before .args .scratch)) (f .space) in
-    let b = length-append (c .before .before .before .mark-bytes .last .1 .1 .1 .0) (drop 65536 (now (c .before .before .before .before .before .before .before .before .before .before .before .args .scratch))) in
+    let f = fit (c .before .before .before .before .before .before .before .before .before .before .args .k) 0 coverArea (length (now (c .before .before .before .before .before .before .before .before .before .before .args .scratch))) (zero-of (c .before .before .before .before .before .before .check-sizes .ensures) (omega (arith, c .before .before .before .before .before .if1 .left))) in
+    let e = c .before .before .before .mark-bytes .kept .1 .1 .1 .0 ∙ length-take-le scratchArea (now (c .before .before .before .before .before .before .before .before .before .before .args .scratch)) (f .space) in
+    let b = length-append (c .before .before .before .mark-bytes .last .1 .1 .1 .0) (drop scratchArea (now (c .before .before .before .before .before .before .before .before .before .before .args .scratch))) in
     omega arith
 
--- src/lib.rt:185:1
-same-length-2 : tie.Need-same-length-2
-same-length-2 c = c .before .before .clear-first .kept .0 ∙ length-front (now (c .before .before .before .before .before .before .before .before .before .before .before .before .before .before .args .scratch)) (c .before .before .before .before .before .before .mark-bytes .last .1 .1 .1 .0) 65536 (c .before .before .before .before .before .before .mark-bytes .kept .1 .1 .1 .0)
+same-length : tie.Need-same-length
+same-length c = c .before .before .clear-first .kept .0 ∙ length-front (now (c .before .before .before .before .before .before .before .before .before .before .before .before .before .args .scratch)) (c .before .before .before .before .before .before .mark-bytes .last .1 .1 .1 .0) scratchArea (c .before .before .before .before .before .before .mark-bytes .kept .1 .1 .1 .0)
 
--- src/lib.rt:185:1
 returns-2 : tie.Need-returns-2
 returns-2 c =
-    let f = fit (c .before .before .before .before .before .before .before .before .before .before .before .before .before .before .args .k) (now (c .before .before .before .before .before .before .before .before .before .before .before .before .before .before .args .scratch)) (zero-of (c .before .before .before .before .before .before .before .before .before .check-sizes .ensures) (omega (arith, c .before .before .before .before .before .before .before .before .if1 .left))) in
-    let e = c .before .before .before .before .before .before .mark-bytes .kept .1 .1 .1 .0 ∙ length-take-le 65536 (now (c .before .before .before .before .before .before .before .before .before .before .before .before .before .before .args .scratch)) (f .space) in
-    (mark-rest (c .before .before .before .before .before .before .before .before .before .before .before .before .before .before .args .k) (now (c .before .before .before .before .before .before .before .before .before .before .before .before .before .before .args .scratch)) (now (c .before .before .before .before .before .before .before .before .before .before .before .before .before .before .args .net)) (now (c .before .before .before .before .before .before .before .before .before .before .before .before .before .before .args .cover)) (c .before .before .before .before .before .before .mark-bytes .last .1 .1 .1 .0) _ _ (zero-of (c .before .before .before .before .before .before .before .before .before .check-sizes .ensures) (omega (arith, c .before .before .before .before .before .before .before .before .if1 .left))) (c .before .before .before .before .before .before .mark-bytes .ensures) e (c .before .before .clear-first .ensures), c .before .before .before .before .before .before .mark-bytes .ensures .small)
+    let f = fit (c .before .before .before .before .before .before .before .before .before .before .before .before .before .args .k) 0 coverArea (length (now (c .before .before .before .before .before .before .before .before .before .before .before .before .before .args .scratch))) (zero-of (c .before .before .before .before .before .before .before .before .before .check-sizes .ensures) (omega (arith, c .before .before .before .before .before .before .before .before .if1 .left))) in
+    let e = c .before .before .before .before .before .before .mark-bytes .kept .1 .1 .1 .0 ∙ length-take-le scratchArea (now (c .before .before .before .before .before .before .before .before .before .before .before .before .before .args .scratch)) (f .space) in
+    (mark-rest (c .before .before .before .before .before .before .before .before .before .before .before .before .before .args .k) (now (c .before .before .before .before .before .before .before .before .before .before .before .before .before .args .scratch)) (now (c .before .before .before .before .before .before .before .before .before .before .before .before .before .args .net)) (now (c .before .before .before .before .before .before .before .before .before .before .before .before .before .args .cover)) (c .before .before .before .before .before .before .mark-bytes .last .1 .1 .1 .0) _ _ (zero-of (c .before .before .before .before .before .before .before .before .before .check-sizes .ensures) (omega (arith, c .before .before .before .before .before .before .before .before .if1 .left))) (c .before .before .before .before .before .before .mark-bytes .ensures) e (c .before .before .clear-first .ensures), c .before .before .before .before .before .before .mark-bytes .ensures .small)
 
 pub mark-spec : {M : Type 1} → statement M
 mark-spec =
     tie.close
     (tie.spec
     check-sizes-requires
-    same-length
     returns
     slice-relend-prefix-mark-bytes
     slice-aggregate-mark-bytes
     mark-bytes-requires
     clear-first-requires
-    same-length-2
+    same-length
     returns-2)

@@ -6,7 +6,7 @@ use Rattle.marker.proofs.mark_bytes.Statement.{statement}
 use Rattle.marker.proofs.mark_bytes.Tie as tie
 use Rattle.marker.proofs.mark_bytes.Reads as reads
 use Rattle.marker.proofs.mark_bytes.Lts as lts
-use Rattle.inputs.proofs.wide.Reads as wide-reads
+use Rattle.inputs.proofs.word.Reads as word-reads
 use Rattle.marker.proofs.mark_read.Reads as mark-read-reads
 use Rattle.reader.proofs.read_net.Reads as read-net-reads
 
@@ -26,12 +26,12 @@ enum-told : tie.Need-enum-told
 enum-told c = search needs
 
 -- src/lib.rt:181:22
-wide-requires : tie.Need-wide-requires
-wide-requires c κs = search needs
+word-requires : tie.Need-word-requires
+word-requires c κs = search needs
 
 -- src/lib.rt:181:5
 mark-read-requires : tie.Need-mark-read-requires
-mark-read-requires c κs = let p = c .before .before .before .before .before .before .before .before .pre in walk-marking (c .before .before .before .before .before .before .before .before .args .k) (now (c .before .before .before .before .before .before .before .before .args .net)) (c .before .before .before .before .read-net .result) (c .before .before .before .before .read-net .ensures) (c .before .before .enum-told .given .1) (c .before .wide .ensures) (p .0) (p .1) (p .2)
+mark-read-requires c κs = let p = c .before .before .before .before .before .before .before .before .pre in walk-marking (c .before .before .before .before .before .before .before .before .args .k) (now (c .before .before .before .before .before .before .before .before .args .net)) (c .before .before .before .before .read-net .result) (c .before .before .before .before .read-net .ensures) (c .before .before .enum-told .given .1) (c .before .word .ensures) (p .0) (p .1) (p .2)
 
 -- src/lib.rt:172:1
 same-length : tie.Need-same-length
@@ -39,7 +39,7 @@ same-length c = search needs
 
 -- src/lib.rt:172:1
 returns-2 : tie.Need-returns-2
-returns-2 c = walk-marks (c .before .before .before .before .before .before .before .before .before .before .before .args .k) (now (c .before .before .before .before .before .before .before .before .before .before .before .args .net)) (c .before .before .before .before .before .before .before .read-net .result) (c .before .before .before .before .before .before .before .read-net .ensures) (c .before .before .before .before .before .enum-told .given .1) (c .before .before .before .before .wide .ensures) (c .before .before .mark-read .ensures)
+returns-2 c = walk-marks (c .before .before .before .before .before .before .before .before .before .before .before .args .k) (now (c .before .before .before .before .before .before .before .before .before .before .before .args .net)) (c .before .before .before .before .before .before .before .read-net .result) (c .before .before .before .before .before .before .before .read-net .ensures) (c .before .before .before .before .before .enum-told .given .1) (c .before .before .before .before .word .ensures) (c .before .before .mark-read .ensures)
 
 pub mark-bytes-spec : {M : Type 1} → statement M
 mark-bytes-spec =
@@ -49,7 +49,7 @@ mark-bytes-spec =
     enum-known-v
     returns
     enum-told
-    wide-requires
+    word-requires
     mark-read-requires
     same-length
     returns-2)

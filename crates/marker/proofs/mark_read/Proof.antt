@@ -1,15 +1,15 @@
 -- `marker::mark_read` meets its contract: a refusal of the net, or the answer for the record.
 use denote.Ref.{now}
 use native.Mathlib.Omega.{arith}
-use Rattle.mapper.specs.Outcome.{settled-small}
-use Rattle.marker.specs.Outcome.{net-refused, least-judging}
+use Rattle.solver.specs.SettlingLaws.{settled-small}
+use Rattle.judge.specs.Outcome.{net-refused, least-judging}
 use borrow.Author.Needs.{needs}
 use Rattle.marker.proofs.mark_read.Statement.{statement}
 use Rattle.marker.proofs.mark_read.Tie as tie
 use Rattle.marker.proofs.mark_read.Reads as reads
 use Rattle.marker.proofs.mark_read.Lts as lts
 use Rattle.inputs.proofs.narrow.Reads as narrow-reads
-use Rattle.marker.proofs.judge.Reads as judge-reads
+use Rattle.judge.proofs.judge.Reads as judge-reads
 use Rattle.marker.proofs.least_of.Reads as least-of-reads
 
 -- src/lib.rt:163:9

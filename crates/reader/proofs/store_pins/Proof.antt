@@ -3,19 +3,21 @@ use borrow.Author.Needs.{needs}
 use Prim.Native.Nat.{_≤_, _-_}
 use mathlib.Core.Path.{_≡_}
 use native.Mathlib.Omega.{arith}
+use lib.ListN.{length}
+use Rattle.limits.specs.Limits.{mostPins, mostPlaces}
 use Rattle.reader.specs.Contracts.{PinsStored}
 use Rattle.reader.specs.StoreLaws.{pins-none, pins-one}
 use Rattle.reader.proofs.store_pins.Statement.{statement}
 use Rattle.reader.proofs.store_pins.Tie as tie
 
 abbrev Inv-loop : tie.InvT-loop
-Inv-loop g sources counts out₀ j₀ out j = (j ≤ 6) × PinsStored out₀ g sources counts j out
+Inv-loop g sources counts out₀ j₀ out j = (j ≤ mostPins) × PinsStored out₀ g sources counts j out
 
 abbrev μ-loop : tie.MeasureT-loop
-μ-loop g sources counts out₀ j₀ out j = 6 - j
+μ-loop g sources counts out₀ j₀ out j = mostPins - j
 
 loop-holds : tie.Need-loop-holds Inv-loop μ-loop
-loop-holds c = (omega arith, pins-none (c .before .before .args .net) (c .before .before .args .g) (c .before .before .args .row .sources) (c .before .before .args .row .counts) (search needs) (search needs))
+loop-holds c = (omega arith, pins-none (c .before .before .args .net) (c .before .before .args .g) (c .before .before .args .row .sources) (c .before .before .args .row .counts))
 
 mul-at : tie.Need-mul-at Inv-loop μ-loop
 mul-at c = omega arith
@@ -54,10 +56,15 @@ loop-less : tie.Need-loop-less Inv-loop μ-loop
 loop-less c = omega arith
 
 loop-again : tie.Need-loop-again Inv-loop μ-loop
-loop-again c = (omega arith, rw (c .before .wide .ensures, c .wide2 .ensures) (pins-one (c .before .before .before .before .before .before .args .net) (c .before .before .before .before .before .before .args .g) (c .before .before .before .before .before .before .args .row .sources) (c .before .before .before .before .before .before .args .row .counts) (c .before .before .before .loop .j) (c .before .before .before .loop .out) (c .before .before .before .loop .inv .1) (omega arith) (omega arith)))
+loop-again c =
+    let a = c .before .before .before .before .before .before .args in
+    let l = c .before .before .before .loop in
+    let ls : length (a .net .sources) ≡ mostPlaces = let good = c .before .before .before .before .before .before .good in search needs in
+    let lc : length (a .net .counts) ≡ mostPlaces = let good = c .before .before .before .before .before .before .good in search needs in
+    (omega arith, rw (c .before .wide .ensures, c .wide2 .ensures) (pins-one (a .net) (a .g) (a .row .sources) (a .row .counts) (l .j) (l .out) (l .inv .1) (omega arith) (omega arith)))
 
 returns : tie.Need-returns Inv-loop μ-loop
-returns c = let end : c .before .loop .j ≡ 6 = omega arith in rw end at (c .before .loop .inv .1)
+returns c = let end : c .before .loop .j ≡ mostPins = omega arith in rw end at (c .before .loop .inv .1)
 
 pub store-pins-spec : {M : Type 1} → statement M
 store-pins-spec =

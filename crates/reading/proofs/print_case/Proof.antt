@@ -2,7 +2,7 @@
 use mathlib.Core.Path.{sym}
 use native.Mathlib.Omega.{arith}
 use lib.Seq.{length-take-le}
-use Rattle.text.specs.PutLaws.{wrote-within}
+use Rattle.digits.specs.PutLaws.{wrote-within}
 use borrow.Author.Needs.{needs}
 use Rattle.reading.proofs.print_case.Statement.{statement}
 use Rattle.reading.proofs.print_case.Tie as tie

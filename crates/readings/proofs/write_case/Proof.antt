@@ -1,7 +1,7 @@
 -- `readings::write_case` meets its contract: k and the net are the case's parts.
 use denote.Ref.{now}
 use mathlib.Core.Path.{sym}
-use Rattle.text.specs.PutLaws.{wrote-as}
+use Rattle.digits.specs.PutLaws.{wrote-as}
 use Rattle.readings.specs.ReadingLaws.{case-net, case-text}
 use borrow.Author.Needs.{needs}
 use Rattle.readings.proofs.write_case.Statement.{statement}

@@ -6,10 +6,10 @@ use Rattle.readings.proofs.write_reading.Statement.{statement}
 use Rattle.readings.proofs.write_reading.Tie as tie
 use Rattle.readings.proofs.write_reading.Reads as reads
 use Rattle.readings.proofs.write_reading.Lts as lts
-use Rattle.inputs.proofs.number.Reads as number-reads
+use Rattle.inputs.proofs.wide.Reads as wide-reads
 use Rattle.reader.proofs.read_net.Reads as read-net-reads
 use Rattle.readings.proofs.write_sizes.Reads as write-sizes-reads
-use Rattle.text.proofs.write_refusal.Reads as write-refusal-reads
+use Rattle.digits.proofs.write_refusal.Reads as write-refusal-reads
 
 -- src/lib.rt:34:9
 read-net-requires : tie.Need-read-net-requires
@@ -20,8 +20,8 @@ enum-known-v : tie.Need-enum-known-v
 enum-known-v c = search needs
 
 -- src/lib.rt:37:30
-number-requires : tie.Need-number-requires
-number-requires c κs = search needs
+wide-requires : tie.Need-wide-requires
+wide-requires c κs = search needs
 
 -- src/lib.rt:37:9
 write-refusal-requires : tie.Need-write-refusal-requires
@@ -33,7 +33,7 @@ same-length c = search needs
 
 -- src/lib.rt:37:9
 returns : tie.Need-returns
-returns c = reading-refused (c .before .before .before .before .before .before .before .before .before .before .before .args .k) (now (c .before .before .before .before .before .before .before .before .before .before .before .args .net)) (c .before .before .before .before .before .before .before .before .read-net .result) (c .before .before .before .before .before .before .before .before .read-net .ensures) (c .before .before .before .before .before .before .v .given .1) (c .before .before .before .before .number .ensures) (c .before .before .write-refusal .ensures)
+returns c = reading-refused (c .before .before .before .before .before .before .before .before .before .before .before .args .k) (now (c .before .before .before .before .before .before .before .before .before .before .before .args .net)) (c .before .before .before .before .before .before .before .before .read-net .result) (c .before .before .before .before .before .before .before .before .read-net .ensures) (c .before .before .before .before .before .before .v .given .1) (c .before .before .before .before .wide .ensures) (c .before .before .write-refusal .ensures)
 
 enum-told : tie.Need-enum-told
 enum-told c = search needs
@@ -56,7 +56,7 @@ write-reading-spec =
     (tie.spec
     read-net-requires
     enum-known-v
-    number-requires
+    wide-requires
     write-refusal-requires
     same-length
     returns

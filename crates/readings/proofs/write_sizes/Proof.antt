@@ -1,13 +1,13 @@
 -- `readings::write_sizes` meets its contract.
-use Rattle.text.specs.PutLaws.{put-then, put-same, put-wrote}
+use Rattle.digits.specs.PutLaws.{put-then, put-same, put-wrote}
 use Rattle.readings.specs.ReadingLaws.{sizes-text}
 use borrow.Author.Needs.{needs}
 use Rattle.readings.proofs.write_sizes.Statement.{statement}
 use Rattle.readings.proofs.write_sizes.Tie as tie
 use Rattle.readings.proofs.write_sizes.Reads as reads
 use Rattle.readings.proofs.write_sizes.Lts as lts
-use Rattle.text.proofs.put_byte.Reads as put-byte-reads
-use Rattle.text.proofs.put_field.Reads as put-field-reads
+use Rattle.digits.proofs.put_byte.Reads as put-byte-reads
+use Rattle.digits.proofs.put_field.Reads as put-field-reads
 
 -- src/lib.rt:23:23
 slice-aggregate-put-field : tie.Need-slice-aggregate-put-field

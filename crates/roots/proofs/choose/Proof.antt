@@ -3,10 +3,11 @@ use mathlib.Core.Path.{_≡_, refl, _∙_}
 use native.Mathlib.Omega.{arith}
 use lib.ListN.{length}
 use Rattle.circuit.specs.Circuit.{circuit}
-use Rattle.query.specs.Question.{AtRest}
-use Rattle.query.specs.Forcing.{wires}
 use Rattle.roots.specs.Marking.{Pending, left}
-use Rattle.roots.specs.Rounds.{Choosing, places-kept, choosing-first, choosing-next, choosing-last, taken-less}
+use Rattle.roots.specs.Rounds.{Choosing}
+use Rattle.roots.specs.RoundsLaws.{places-kept, choosing-first, choosing-next, choosing-last, taken-less}
+use Rattle.query.specs.Question.{AtRest}
+use Rattle.forcing.specs.Forcing.{wires}
 use Rattle.roots.proofs.choose.Statement.{statement}
 use Rattle.roots.proofs.choose.Tie as tie
 

@@ -5,9 +5,9 @@ use native.Mathlib.Omega.{arith}
 use denote.Ref.{now}
 use Rattle.signed.specs.RangeLaws.{back, small-fits}
 use Rattle.netlist.specs.Arrays.{stride}
-use Rattle.query.specs.Question.{labelIn}
+use Rattle.signed.specs.Range.{labelIn}
 use Rattle.roots.specs.KeyCut.{asks-of, takes-of, part-length}
-use Rattle.roots.specs.Rounds.{cut-written}
+use Rattle.roots.specs.RoundsLaws.{cut-written}
 use borrow.Author.Needs.{needs}
 use Rattle.roots.proofs.cut_of.Statement.{statement}
 use Rattle.roots.proofs.cut_of.Tie as tie

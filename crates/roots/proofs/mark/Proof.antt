@@ -1,7 +1,7 @@
 -- `roots::mark` meets its contract: no gate, marked already, or newly marked.
 use native.Mathlib.Omega.{arith}
 use denote.Ref.{now}
-use Rattle.roots.specs.Marking.{marks-there, marks-one}
+use Rattle.roots.specs.MarkingLaws.{marks-there, marks-one}
 use borrow.Author.Needs.{needs}
 use Rattle.roots.proofs.mark.Statement.{statement}
 use Rattle.roots.proofs.mark.Tie as tie

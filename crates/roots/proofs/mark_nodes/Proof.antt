@@ -5,7 +5,8 @@ use Prim.Native.Nat.{_-_, _≤_}
 use native.Mathlib.Omega.{arith}
 use lib.ListN.{length}
 use denote.Ref.{now}
-use Rattle.roots.specs.Marking.{Marks, Among, among-none, among-next, among-at}
+use Rattle.roots.specs.Marking.{Marks, Among}
+use Rattle.roots.specs.MarkingLaws.{among-none, among-next, among-at}
 use Rattle.roots.proofs.mark_nodes.Statement.{statement}
 use Rattle.roots.proofs.mark_nodes.Tie as tie
 

@@ -3,7 +3,7 @@ use mathlib.Core.Path.{_∙_}
 use native.Mathlib.Omega.{arith}
 use lib.ListN.{length-set}
 use denote.Ref.{now}
-use Rattle.roots.specs.Rounds.{stored-none, stored-some}
+use Rattle.roots.specs.RoundsLaws.{stored-none, stored-some}
 use borrow.Author.Needs.{needs}
 use Rattle.roots.proofs.store.Statement.{statement}
 use Rattle.roots.proofs.store.Tie as tie

@@ -4,6 +4,7 @@ use mathlib.Core.Path.{ap, _∙_}
 use native.Mathlib.Omega.{arith}
 use lib.Count.{ones-le}
 use lib.ListN.{drop}
+use Rattle.limits.specs.Limits.{mostPins}
 use Rattle.netlist.specs.Net.{Gate}
 use Rattle.netbytes.specs.Reading.{got}
 use Rattle.netbytes.specs.Stages.{madeGate}
@@ -84,7 +85,7 @@ returns-3 c =
           ∙ ap (λ (g : Gate). got g (drop (l .result .at) s))
           (made-row p r (l .result .sources) (l .result .counts) (l .result .table) (c .before .before .spread .result) (c .before .count-of .result) (c .number .result)
           (c .before .before .spread .ensures) (c .before .count-of .ensures .is) (c .number .ensures));
-      most = omega (arith, c .before .count-of .ensures .is, ones-le 6 p (m .ensures .small));
+      most = omega (arith, c .before .count-of .ensures .is, ones-le mostPins p (m .ensures .small));
     }
 
 pub read-gate-spec : {M : Type 1} → statement M

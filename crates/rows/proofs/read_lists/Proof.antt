@@ -4,6 +4,7 @@ use mathlib.Core.Path.{refl, ap, _∙_}
 use native.Mathlib.Omega.{arith}
 use lib.Count.{ones, ones-le}
 use lib.ListN.{drop, take}
+use Rattle.limits.specs.Limits.{mostPins}
 use Rattle.netlist.specs.Net.{Gate}
 use Rattle.netbytes.specs.Reading.{got}
 use Rattle.netbytes.specs.Walk.{tableBytes}
@@ -67,7 +68,7 @@ enum-told-2 : tie.Need-enum-told-2
 enum-told-2 c = search needs
 
 table-bytes-requires : tie.Need-table-bytes-requires
-table-bytes-requires c κs = omega (arith, c .before .before .before .before .before .before .before .count-of .ensures .is, ones-le 6 (c .before .before .before .before .before .before .before .before .before .args .pins) (c .before .before .before .before .before .before .before .before .before .pre))
+table-bytes-requires c κs = omega (arith, c .before .before .before .before .before .before .before .count-of .ensures .is, ones-le mostPins (c .before .before .before .before .before .before .before .before .before .args .pins) (c .before .before .before .before .before .before .before .before .before .pre))
 
 read-items-requires-3 : tie.Need-read-items-requires-3
 read-items-requires-3 c κs = search needs

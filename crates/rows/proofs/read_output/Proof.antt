@@ -84,8 +84,8 @@ returns-3 c =
 enum-told-3 : tie.Need-enum-told-3
 enum-told-3 c = search needs
 
-array-read-t19 : tie.Need-array-read-t19
-array-read-t19 c = search needs
+array-read-count : tie.Need-array-read-count
+array-read-count c = search needs
 
 returns-4 : tie.Need-returns-4
 returns-4 c =
@@ -120,5 +120,5 @@ read-output-spec =
     no-output-requires-3
     returns-3
     enum-told-3
-    array-read-t19
+    array-read-count
     returns-4)

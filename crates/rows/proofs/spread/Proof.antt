@@ -1,16 +1,17 @@
 -- `rows::spread` meets its contract. The loop's invariant: the places below i are spread.
 use Prim.Native.Nat.{_≤_, _-_}
 use native.Mathlib.Omega.{arith}
+use Rattle.limits.specs.Limits.{mostPins}
 use Rattle.rows.specs.Contracts.{Spreading}
 use Rattle.rows.specs.SpreadLaws.{spread-none, spread-all}
 use Rattle.rows.proofs.spread.Statement.{statement}
 use Rattle.rows.proofs.spread.Tie as tie
 
 abbrev Inv-loop : tie.InvT-loop
-Inv-loop pins registers counts so₀ i₀ so i = (i ≤ 6) × Spreading pins registers counts i so
+Inv-loop pins registers counts so₀ i₀ so i = (i ≤ mostPins) × Spreading pins registers counts i so
 
 abbrev μ-loop : tie.MeasureT-loop
-μ-loop pins registers counts so₀ i₀ so i = 6 - i
+μ-loop pins registers counts so₀ i₀ so i = mostPins - i
 
 loop-holds : tie.Need-loop-holds Inv-loop μ-loop
 loop-holds c = (omega arith, spread-none (c .args .pins) (c .args .registers) (c .args .counts))

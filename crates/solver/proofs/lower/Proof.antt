@@ -5,7 +5,8 @@ use mathlib.Core.Path.{_≡_, refl, _∙_}
 use Prim.Native.Nat.{ℕ, _-_, _≤_}
 use native.Mathlib.Omega.{arith}
 use lib.ListN.{length, length-set}
-use Rattle.solver.specs.Counts.{Lowered, lowered-none, lowered-next, lowered-all}
+use Rattle.solver.specs.Settling.{Lowered}
+use Rattle.solver.specs.SettlingLaws.{lowered-none, lowered-next, lowered-all}
 use Rattle.solver.proofs.lower.Statement.{statement}
 use Rattle.solver.proofs.lower.Tie as tie
 use Rattle.solver.proofs.lower.Reads as reads

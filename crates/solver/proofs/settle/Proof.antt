@@ -3,6 +3,7 @@ use mathlib.Core.Path.{sym, refl}
 use lib.ListN.{length, replicate}
 use lib.Seq.{length-take-le}
 use borrow.Author.Needs.{needs}
+use Rattle.limits.specs.Limits.{mostGates}
 use Rattle.solver.proofs.settle.Statement.{statement}
 use Rattle.solver.proofs.settle.Tie as tie
 use Rattle.solver.proofs.settle.Reads as reads
@@ -15,7 +16,7 @@ array-borrow-prefix-placed c = search needs
 
 -- src/lib.rt:512:9
 slice-aggregate-settle-with : tie.Need-slice-aggregate-settle-with
-slice-aggregate-settle-with c = sym (length-take-le (c .before .before .before .before .before .before .before .args .net .gates) (replicate 32 0) (c .before .before .before .before .before .before .before .pre .0 .facts .gates-high))
+slice-aggregate-settle-with c = sym (length-take-le (c .before .before .before .before .before .before .before .args .net .gates) (replicate mostGates 0) (c .before .before .before .before .before .before .before .pre .0 .facts .gates-high))
 
 -- src/lib.rt:513:9
 array-borrow-prefix-order : tie.Need-array-borrow-prefix-order
@@ -23,7 +24,7 @@ array-borrow-prefix-order c = search needs
 
 -- src/lib.rt:513:9
 slice-aggregate-settle-with-2 : tie.Need-slice-aggregate-settle-with-2
-slice-aggregate-settle-with-2 c = sym (length-take-le (c .before .before .before .before .before .before .before .before .args .net .gates) (replicate 32 0) (c .before .before .before .before .before .before .before .before .pre .0 .facts .gates-high))
+slice-aggregate-settle-with-2 c = sym (length-take-le (c .before .before .before .before .before .before .before .before .args .net .gates) (replicate mostGates 0) (c .before .before .before .before .before .before .before .before .pre .0 .facts .gates-high))
 
 -- src/lib.rt:514:9
 array-borrow-prefix-first : tie.Need-array-borrow-prefix-first
@@ -31,7 +32,7 @@ array-borrow-prefix-first c = search needs
 
 -- src/lib.rt:514:9
 slice-aggregate-settle-with-3 : tie.Need-slice-aggregate-settle-with-3
-slice-aggregate-settle-with-3 c = sym (length-take-le (c .before .before .before .before .before .before .before .before .before .args .net .gates) (replicate 32 0) (c .before .before .before .before .before .before .before .before .before .pre .0 .facts .gates-high))
+slice-aggregate-settle-with-3 c = sym (length-take-le (c .before .before .before .before .before .before .before .before .before .args .net .gates) (replicate mostGates 0) (c .before .before .before .before .before .before .before .before .before .pre .0 .facts .gates-high))
 
 -- src/lib.rt:515:9
 array-borrow-prefix-tops : tie.Need-array-borrow-prefix-tops
@@ -39,11 +40,11 @@ array-borrow-prefix-tops c = search needs
 
 -- src/lib.rt:515:9
 slice-aggregate-settle-with-4 : tie.Need-slice-aggregate-settle-with-4
-slice-aggregate-settle-with-4 c = sym (length-take-le (c .before .before .before .before .before .before .before .before .before .before .args .net .gates) (replicate 32 0) (c .before .before .before .before .before .before .before .before .before .before .pre .0 .facts .gates-high))
+slice-aggregate-settle-with-4 c = sym (length-take-le (c .before .before .before .before .before .before .before .before .before .before .args .net .gates) (replicate mostGates 0) (c .before .before .before .before .before .before .before .before .before .before .pre .0 .facts .gates-high))
 
 -- src/lib.rt:508:5
 settle-with-requires : tie.Need-settle-with-requires
-settle-with-requires c κs = (c .before .before .before .before .before .before .before .before .before .before .before .before .before .before .before .before .before .pre .0, ((length-take-le (c .before .before .before .before .before .before .before .before .before .before .before .before .before .before .before .before .before .args .net .gates) (replicate 32 0) (c .before .before .before .before .before .before .before .before .before .before .before .before .before .before .before .before .before .pre .0 .facts .gates-high), length-take-le (c .before .before .before .before .before .before .before .before .before .before .before .before .before .before .before .before .before .args .net .gates) (replicate 32 0) (c .before .before .before .before .before .before .before .before .before .before .before .before .before .before .before .before .before .pre .0 .facts .gates-high), length-take-le (c .before .before .before .before .before .before .before .before .before .before .before .before .before .before .before .before .before .args .net .gates) (replicate 32 0) (c .before .before .before .before .before .before .before .before .before .before .before .before .before .before .before .before .before .pre .0 .facts .gates-high), length-take-le (c .before .before .before .before .before .before .before .before .before .before .before .before .before .before .before .before .before .args .net .gates) (replicate 32 0) (c .before .before .before .before .before .before .before .before .before .before .before .before .before .before .before .before .before .pre .0 .facts .gates-high)), c .before .before .before .before .before .before .before .before .before .before .before .before .before .before .before .before .before .pre .1))
+settle-with-requires c κs = (c .before .before .before .before .before .before .before .before .before .before .before .before .before .before .before .before .before .pre .0, ((length-take-le (c .before .before .before .before .before .before .before .before .before .before .before .before .before .before .before .before .before .args .net .gates) (replicate mostGates 0) (c .before .before .before .before .before .before .before .before .before .before .before .before .before .before .before .before .before .pre .0 .facts .gates-high), length-take-le (c .before .before .before .before .before .before .before .before .before .before .before .before .before .before .before .before .before .args .net .gates) (replicate mostGates 0) (c .before .before .before .before .before .before .before .before .before .before .before .before .before .before .before .before .before .pre .0 .facts .gates-high), length-take-le (c .before .before .before .before .before .before .before .before .before .before .before .before .before .before .before .before .before .args .net .gates) (replicate mostGates 0) (c .before .before .before .before .before .before .before .before .before .before .before .before .before .before .before .before .before .pre .0 .facts .gates-high), length-take-le (c .before .before .before .before .before .before .before .before .before .before .before .before .before .before .before .before .before .args .net .gates) (replicate mostGates 0) (c .before .before .before .before .before .before .before .before .before .before .before .before .before .before .before .before .before .pre .0 .facts .gates-high)), c .before .before .before .before .before .before .before .before .before .before .before .before .before .before .before .before .before .pre .1))
 
 -- src/lib.rt:487:1
 same-length : tie.Need-same-length

@@ -1,15 +1,15 @@
 -- `solver::settle_with` meets its contract: a check fails, the target is not reachable, or the cover is there.
 use mathlib.Core.Path.{_∙_}
 use native.Mathlib.Omega.{arith}
-use Rattle.solver.specs.Settling.{settled-check, settled-passed, settled-counting, settled-planning, settled-none, settled-cover}
+use Rattle.solver.specs.SettlingLaws.{settled-check, settled-passed, settled-counting, settled-planning, settled-none, settled-cover}
 use borrow.Author.Needs.{needs}
 use Rattle.solver.proofs.settle_with.Statement.{statement}
 use Rattle.solver.proofs.settle_with.Tie as tie
 use Rattle.solver.proofs.settle_with.Reads as reads
 use Rattle.solver.proofs.settle_with.Lts as lts
-use Rattle.solver.proofs.check_wiring.Reads as check-wiring-reads
+use Rattle.graphcheck.proofs.check_wiring.Reads as check-wiring-reads
 use Rattle.solver.proofs.lower.Reads as lower-reads
-use Rattle.solver.proofs.plan.Reads as plan-reads
+use Rattle.planner.proofs.plan.Reads as plan-reads
 
 -- src/lib.rt:463:9
 check-wiring-requires : tie.Need-check-wiring-requires

@@ -6,12 +6,12 @@ use borrow.Author.Needs.{needs}
 use mathlib.Core.Path.{sym}
 use native.Mathlib.Omega.{arith}
 use denote.Ref.{now}
-use Rattle.text.specs.PutLaws.{put-none, put-then, put-room, put-more, put-same}
+use Rattle.digits.specs.PutLaws.{put-none, put-then, put-room, put-more, put-same}
 use Rattle.text.specs.LineLaws.{leaves-none, leaves-more}
 use Rattle.text.proofs.put_leaves.Reads as put-leaves
 use Rattle.text.proofs.put_leaves.Kinds as put-leaves-kinds
 use Rattle.text.proofs.+put_leaves.Lts-put_leaves as put-leaves-lts
-use Rattle.text.proofs.put_field.Reads as put-field-reads
+use Rattle.digits.proofs.put_field.Reads as put-field-reads
 use Rattle.text.proofs.+put_leaves.{statement}
 use Rattle.text.proofs.+put_leaves.Tie.{close}
 

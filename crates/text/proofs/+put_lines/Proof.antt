@@ -7,7 +7,7 @@ use mathlib.Core.Path.{sym}
 use native.Mathlib.Omega.{arith}
 use denote.Ref.{now}
 use Rattle.records.specs.Kept.{kept}
-use Rattle.text.specs.PutLaws.{put-none, put-then, put-room, put-more, put-same}
+use Rattle.digits.specs.PutLaws.{put-none, put-then, put-room, put-more, put-same}
 use Rattle.text.specs.LineLaws.{lines-none, lines-more}
 use Rattle.text.proofs.put_lines.Reads as put-lines
 use Rattle.text.proofs.put_lines.Kinds as put-lines-kinds

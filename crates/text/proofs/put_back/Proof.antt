@@ -2,7 +2,7 @@
 use borrow.Author.Needs.{needs}
 use native.Mathlib.Omega.{arith}
 use denote.Ref.{now}
-use Rattle.text.specs.PutLaws.{put-then, put-more, put-same}
+use Rattle.digits.specs.PutLaws.{put-then, put-more, put-same}
 use Rattle.text.specs.LineLaws.{back-text}
 use Rattle.text.proofs.put_back.Statement.{statement}
 use Rattle.text.proofs.put_back.Tie as tie

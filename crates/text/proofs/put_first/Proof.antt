@@ -1,8 +1,8 @@
 -- `text::put_first` meets its contract.
 use borrow.Author.Needs.{needs}
 use Rattle.records.specs.Listing.{registersWord}
-use Rattle.text.specs.PutLaws.{put-then, put-same}
-use Rattle.text.specs.LineLaws.{put-stored, first-text}
+use Rattle.digits.specs.PutLaws.{put-then, put-same, put-stored}
+use Rattle.text.specs.LineLaws.{first-text}
 use Rattle.text.proofs.put_first.Statement.{statement}
 use Rattle.text.proofs.put_first.Tie as tie
 

@@ -1,8 +1,8 @@
 -- `text::put_front` meets its contract.
 use borrow.Author.Needs.{needs}
 use Rattle.records.specs.Listing.{labelWord, lagWord}
-use Rattle.text.specs.PutLaws.{put-then, put-same}
-use Rattle.text.specs.LineLaws.{put-stored, front-text}
+use Rattle.digits.specs.PutLaws.{put-then, put-same, put-stored}
+use Rattle.text.specs.LineLaws.{front-text}
 use Rattle.text.proofs.put_front.Statement.{statement}
 use Rattle.text.proofs.put_front.Tie as tie
 

@@ -10,13 +10,14 @@ use mir.Syntax.{w64}
 use mir.Val.{toZ, ofZ}
 use denote.Ref.{now}
 use Rattle.integers.specs.Lag.{lag}
-use Rattle.records.specs.Kept.{Kept, kept}
+use Rattle.records.specs.Kept.{Kept, kept, labelAt}
 use Rattle.signed.specs.Range.{Small, room}
 use Rattle.signed.specs.RangeLaws.{back, small-fits}
 use Rattle.writer.specs.Writing.{LutHeld}
-use Rattle.text.specs.Text.{Put, GateAsked, labelIn, lineFront}
-use Rattle.text.specs.SumLaws.{lag-asked, lag-told, within-lag, within-small}
-use Rattle.text.specs.PutLaws.{put-none, put-then, put-room, put-more, put-same}
+use Rattle.digits.specs.Put.{Put}
+use Rattle.text.specs.Text.{GateAsked, lineFront}
+use Rattle.registers.specs.SumLaws.{lag-asked, lag-told, within-lag, within-small}
+use Rattle.digits.specs.PutLaws.{put-none, put-then, put-room, put-more, put-same}
 use Rattle.text.specs.LineLaws.{line-none, line-some}
 use Rattle.text.proofs.put_gate.Statement.{statement}
 use Rattle.text.proofs.put_gate.Tie as tie
@@ -27,7 +28,7 @@ module _ (a : Kept) (g at : ℕ) {out : List ℕ} (p : GateAsked a g at out) (m 
   held = p .luts .each g (p .gate) m
 
   label : ℤ
-  label = labelIn a (a .inputs + g)
+  label = labelAt a (a .inputs + g)
 
   small-lag : Small (lag (a .period) label)
   unfolding label

@@ -8,9 +8,9 @@ use mir.Val.{toZ, ofZ}
 use denote.Ref.{now}
 use Rattle.records.specs.Kept.{kept}
 use Rattle.signed.specs.Range.{room}
-use Rattle.text.specs.SumLaws.{counted-back, within-small}
-use Rattle.text.specs.PutLaws.{put-then, put-room, put-wrote, put-same}
-use Rattle.text.specs.LagLaws.{register-count, leaves-held}
+use Rattle.registers.specs.SumLaws.{counted-back, within-small}
+use Rattle.digits.specs.PutLaws.{put-then, put-room, put-wrote, put-same}
+use Rattle.registers.specs.LagLaws.{register-count, leaves-held}
 use Rattle.text.specs.LineLaws.{cover-text}
 use Rattle.text.proofs.write_text.Statement.{statement}
 use Rattle.text.proofs.write_text.Tie as tie

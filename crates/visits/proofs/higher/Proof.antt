@@ -1,28 +1,17 @@
-use Rattle.signed.specs.RangeLaws.{ltZ-true, ltZ-false}
-use Rattle.query.specs.Question.{labelIn}
-use Rattle.signed.specs.RangeLaws.{back, fits-of, small-fits, minus-mag, plus-mag}
-use Rattle.signed.specs.Range.{Small, room}
-use Prim.Native.Nat.{ℕ, _+_, _-_, _*_, _≤_, _<_}
-use lib.ListN.{length, getD, set}
-use denote.Ref.{now}
-use native.Mathlib.Omega.{arith}
-use lib.IntN.{ℤ, pos, _+ℤ_, _-ℤ_}
-use mathlib.Core.Path.{_≡_, refl, sym, ap, _∙_, subst}
+-- `visits::higher` meets its contract: the signed test is that of the label.
 use borrow.Author.Needs.{needs}
+use denote.Ref.{now}
+use Rattle.signed.specs.RangeLaws.{ltZ-true, ltZ-false, back, small-fits}
+use Rattle.signed.specs.Range.{labelIn}
 use Rattle.visits.proofs.higher.Statement.{statement}
 use Rattle.visits.proofs.higher.Tie as tie
-use Rattle.visits.proofs.higher.Reads as reads
-use Rattle.visits.proofs.higher.Lts as lts
 
--- src/lib.rt:204:9
 mul-result : tie.Need-mul-result
 mul-result c = search needs
 
--- src/lib.rt:204:9
 shared-slice-copy-out-result : tie.Need-shared-slice-copy-out-result
 shared-slice-copy-out-result c = search needs
 
--- src/lib.rt:199:1
 returns : tie.Need-returns
 returns c =
     let p = c .before .args .p in

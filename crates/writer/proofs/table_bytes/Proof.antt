@@ -3,6 +3,7 @@ use borrow.Author.Needs.{needs}
 use Prim.Native.Nat.{_^_, _≤_}
 use native.Mathlib.Omega.{arith}
 use lib.Pow.{pow-mono}
+use Rattle.limits.specs.Limits.{mostPins}
 use Rattle.writer.proofs.table_bytes.Statement.{statement}
 use Rattle.writer.proofs.table_bytes.Tie as tie
 
@@ -10,11 +11,11 @@ shl-result : tie.Need-shl-result
 shl-result c = search needs
 
 add-result : tie.Need-add-result
-add-result c = let h : 2 ^ c .args .n ≤ 2 ^ 6 = pow-mono {i = c .args .n} {j = 6} (c .pre) in record { fits = omega arith }
+add-result c = let h : 2 ^ c .args .n ≤ 2 ^ mostPins = pow-mono {i = c .args .n} {j = mostPins} (c .pre) in record { fits = omega arith }
 
 returns : tie.Need-returns
 returns c =
-    let h : 2 ^ c .args .n ≤ 2 ^ 6 = pow-mono {i = c .args .n} {j = 6} (c .pre) in
+    let h : 2 ^ c .args .n ≤ 2 ^ mostPins = pow-mono {i = c .args .n} {j = mostPins} (c .pre) in
     omega arith
 
 pub table-bytes-spec : {M : Type 1} → statement M

@@ -1,0 +1,4 @@
+pub mod Answers
+pub mod Marking
+pub mod Judged
+pub mod Outcome

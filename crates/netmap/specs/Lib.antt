@@ -1,0 +1,4 @@
+pub mod Answers
+pub mod Mapping
+pub mod Outcome
+pub mod Recording

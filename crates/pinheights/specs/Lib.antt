@@ -1,0 +1,2 @@
+pub mod PinHeights
+pub mod PinHeightLaws

@@ -1,0 +1,10 @@
+pub mod Counts
+pub mod CountLaws
+pub mod Found
+pub mod FoundLaws
+pub mod Planned
+pub mod Entries
+pub mod Covering
+pub mod Engines
+pub mod Ready
+pub mod Mapped

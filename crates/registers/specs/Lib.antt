@@ -1,0 +1,4 @@
+pub mod PlaceLaws
+pub mod Sums
+pub mod LagLaws
+pub mod SumLaws
