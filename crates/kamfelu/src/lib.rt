@@ -1,8 +1,8 @@
 // The library for other programs: map and mark, each with one number for its answer.
-use netmap::Answer;
-use mapper::map;
 use judge::Grade;
+use mapper::map;
 use marker::mark;
+use netmap::Answer;
 use signed::minus;
 use signed::whole;
 ghost use mathlib.Core.Path.{_≡_};
