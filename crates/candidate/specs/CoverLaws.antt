@@ -22,7 +22,7 @@ use Rattle.candidate.specs.declared.Part.{Part}
 use Rattle.candidate.specs.Reads.{heldOf, CoverRead}
 use Rattle.candidate.specs.Stages.{fromLuts, fromCount, fromPeriod, cover-stages}
 use Rattle.candidate.specs.Contracts.{LutsRead, Empty}
-use Rattle.candidate.specs.RefusalLaws.{only-cover}
+use Rattle.records.specs.CoverRefusals.{only-cover}
 use Rattle.candidate.specs.FactLaws.{luts-facts, well-held}
 
 -- a number of LUTs or a period that was read is in its range

@@ -3,5 +3,4 @@ pub mod Stages
 pub mod Contracts
 pub mod StoreLaws
 pub mod FactLaws
-pub mod RefusalLaws
 pub mod CoverLaws

@@ -22,7 +22,7 @@ use Rattle.covers.specs.Joined.{key?, key-met}
 use Rattle.covers.specs.KeyOf.{entries-in, roots-gate, entryOf}
 use Rattle.covers.specs.Period.{leastPeriod, leastPeriod-is, leastKey, leastPeriod-bound}
 use Rattle.covers.specs.Written.{noEntry, lut-asCover, luts-asCover}
-use Rattle.limits.specs.Limits.{mostPeriod, mostLuts}
+use Rattle.limits.specs.Limits.{mostPeriod, mostLuts, coverArea}
 use Rattle.netbytes.specs.Reading.{got, refused, Result, Reader, andThen, atEnd, between}
 use Rattle.netbytes.specs.Readers.{refused-not-got, got-value, then-got, byte-got, atEnd-got}
 use Rattle.netbytes.specs.Sound.{between-true}
@@ -32,7 +32,8 @@ use Rattle.records.specs.KeyRecord.{WithinLimits, key-back}
 use Rattle.records.specs.Marking.{CutsRight, TableRight, TablesRight, AllFed, EnoughRegisters, ShortChains}
 use Rattle.records.specs.Accepted.{Covering, covering-cover, excess-is, accepted-runs}
 use Rattle.records.specs.Outcomes.{Answer, accepted, turnedBack, Checked, passes, checkNet, MarkOutcome, MapOutcome, mapSizes, written, forTarget, mapWritten, mapped, mapOutcome, markSizes, judged, markRead, markChecked, markSized, markOutcome}
-use Rattle.demands.specs.Demand3.{outcome-is}
+use Rattle.sizes.specs.SizeLaws.{fit, mark-sizes-are}
+use Rattle.demands.specs.Demand3.{outcome-is, limits, map-fit}
 
 -- A record of a cover of N for k that meets its stated period, with right tables.
 pub record RightRecord (N : Net) (k : ℕ) (r : Record) : Type 0 where
@@ -188,11 +189,14 @@ module _ {N : Net} {k φ : ℕ} (P : Passed N k) (h : 1 ≤ φ) (K : Key N k φ)
   pub key-right : RightRecord N k (record { period = φ; entries = entries K })
   key-right = record { tables = key-table; isCover = key-met P h K .0; meets = key-met P h K .1 }
 
-module _ (net area scratch scratch′ : List ℕ) (k : ℕ) (N : Net) (P : Passed N k) (limits : WithinLimits N k) (sizes′ : markSizes k scratch′ ≡ 0) (passed : checkNet k net ≡ passes N P) where
+module _ (net area scratch scratch′ : List ℕ) (k : ℕ) (N : Net) (P : Passed N k) (sizes′ : markSizes k scratch′ ≡ 0) (passed : checkNet k net ≡ passes N P) where
+  within : WithinLimits N k
+  within = limits net k N P (fit k 0 coverArea (length scratch′) (sym (mark-sizes-are k scratch′) ∙ sizes′) .high) passed
+
   -- the record of a key is accepted
   key-accepted : {φ : ℕ} → 1 ≤ φ → φ ≤ mostPeriod → (K : Key N k φ) → (markOutcome net k (coverBytes φ (entries K)) scratch′) .answer ≡ accepted (φ - leastPeriod P)
   key-accepted {φ} h h′ K =
-      accepted-if net (coverBytes φ (entries K)) scratch′ k N P sizes′ passed (record { period = φ; entries = entries K }) [] (key-back P limits h K h′) (key-right P h K)
+      accepted-if net (coverBytes φ (entries K)) scratch′ k N P sizes′ passed (record { period = φ; entries = entries K }) [] (key-back P within h K h′) (key-right P h K)
 
   -- the area's first n bytes are the record, where n is its length
   in-front : (bytes : List ℕ) (n : ℕ) → accepted (length bytes) ≡ accepted n → take n (written bytes area) ≡ bytes
@@ -202,16 +206,16 @@ module _ (net area scratch scratch′ : List ℕ) (k : ℕ) (N : Net) (P : Passe
       same e = cc
 
   -- **Every record that map writes for a target is accepted**, with excess target less least period.
-  pub target-accepted : (t n : ℕ) → mapSizes k (suc t) area scratch ≡ 0 → suc t ≤ mostPeriod → (mapOutcome net k (suc t) area scratch) .answer ≡ accepted n
+  pub target-accepted : (t n : ℕ) → mapSizes k (suc t) area scratch ≡ 0 → (mapOutcome net k (suc t) area scratch) .answer ≡ accepted n
       → (markOutcome net k (take n ((mapOutcome net k (suc t) area scratch) .area)) scratch′) .answer ≡ accepted (suc t - leastPeriod P)
   unfolding mapWritten mapped forTarget
-  target-accepted t n sizes h e =
+  target-accepted t n sizes e =
       let o = outcome-is net area scratch k (suc t) N P sizes passed in
       subst (λ (x : MapOutcome). x .answer ≡ accepted n → (markOutcome net k (take n (x .area)) scratch′) .answer ≡ accepted (suc t - leastPeriod P)) (sym o) (go (key? P (suc-le-suc zero-le))) e
     where
       go : (d : Dec (Key N k (suc t))) → (mapWritten (forTarget N k (suc t) d) area scratch) .answer ≡ accepted n
           → (markOutcome net k (take n ((mapWritten (forTarget N k (suc t) d) area scratch) .area)) scratch′) .answer ≡ accepted (suc t - leastPeriod P)
-      go (yes K) q = ap (λ (bytes : List ℕ). (markOutcome net k bytes scratch′) .answer) (in-front (coverBytes (suc t) (entries K)) n q) ∙ key-accepted (suc-le-suc zero-le) h K
+      go (yes K) q = ap (λ (bytes : List ℕ). (markOutcome net k bytes scratch′) .answer) (in-front (coverBytes (suc t) (entries K)) n q) ∙ key-accepted (suc-le-suc zero-le) (map-fit k (suc t) area scratch sizes .near) K
       go (no m) q = absurd (refusal-not P (record { period = 0; entries = [] }) 12 n q)
 
   -- **With target 0 too**, with excess 0.
@@ -229,4 +233,4 @@ module _ (net area scratch scratch′ : List ℕ) (k : ℕ) (N : Net) (P : Passe
           → (markOutcome net k (take n (written (coverBytes (leastPeriod P) (entries (leastKey P))) area)) scratch′) .answer ≡ accepted 0
       right q =
           ap (λ (bytes : List ℕ). (markOutcome net k bytes scratch′) .answer) (in-front (coverBytes (leastPeriod P) (entries (leastKey P))) n q)
-          ∙ key-accepted (leastPeriod-is P .positive) (le-trans (leastPeriod-bound P (limits .gate)) (limits .gates)) (leastKey P) ∙ ap accepted none
+          ∙ key-accepted (leastPeriod-is P .positive) (le-trans (leastPeriod-bound P (within .gate)) (within .gates)) (leastKey P) ∙ ap accepted none

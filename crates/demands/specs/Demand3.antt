@@ -1,6 +1,5 @@
--- Demand 3, whole, about the outcome of map: refused with 12 exactly when no cover meets the target; else the record written reads back as a cover that
--- meets it; with target 0 the period written is met and no cover meets a smaller one. A reader needs records/Outcomes (what map does), covers/Covers (what a
--- cover is) and these statements.
+-- Demand 3, about the outcome of map for a net that passed: where some cover meets the target the record written reads back as a cover that meets it; with target 0 the
+-- period written is met and no cover meets a smaller one. That a target is refused exactly when no cover meets it is CallLaws.unreached.
 use mathlib.Core.Path.{_≡_, refl, sym, subst, ap, _∙_}
 use mathlib.Core.Bool.{Bool, true, false}
 use mathlib.Core.List.{List, [], _∷_, _++_}
@@ -24,10 +23,9 @@ use Rattle.netbytes.specs.Sound.{walk-facts, walk-gate, NetFacts}
 use Rattle.records.specs.CoverBytes.{Record, coverBytes, coverReader}
 use Rattle.records.specs.KeyRecord.{WithinLimits, key-back}
 use Rattle.records.specs.Outcomes.{Answer, accepted, turnedBack, Checked, passes, fails, checkGraph, checkRead, checkNet, MapOutcome, mapSizes, cleared, written, Mapped, covered, unreachable, forTarget, mapWritten, mapped, mapChecked, mapSized, mapOutcome}
-
--- an accepted answer is no refusal
-not-refused : (m n : ℕ) → accepted m ≡ turnedBack n → ⊥
-not-refused m n e = let z : _≡_ {A = ℕ} 0 1 = cc in omega arith
+use Rattle.sizes.specs.Sizes.{Fit}
+use Rattle.sizes.specs.SizeLaws.{fit, map-sizes-are}
+use Rattle.demands.specs.OrderLaws.{passes-net}
 
 -- ---- what map does with a net that passed
 
@@ -51,7 +49,7 @@ pub record Wrote (N : Net) (k φ : ℕ) (area area′ : List ℕ) (length′ : �
   pub isCover : IsCover N k (asCover N luts)
   pub meets : Meets N (asCover N luts) φ
 
-wrote-key : {N : Net} {k φ : ℕ} (P : Passed N k) → WithinLimits N k → 1 ≤ φ → φ ≤ mostPeriod → (K : Key N k φ) (area : List ℕ)
+pub wrote-key : {N : Net} {k φ : ℕ} (P : Passed N k) → WithinLimits N k → 1 ≤ φ → φ ≤ mostPeriod → (K : Key N k φ) (area : List ℕ)
     → Wrote N k φ area (written (coverBytes φ (entries K)) area) (length (coverBytes φ (entries K)))
 wrote-key {N} {k} {φ} P l h h′ K area = record {
   bytes = coverBytes φ (entries K);
@@ -65,41 +63,40 @@ wrote-key {N} {k} {φ} P l h h′ K area = record {
   meets = key-met P h K .1;
 }
 
--- a net that the walk gave is within the limits
-pub limits : (net rest : List ℕ) (k : ℕ) (N : Net) → k ≤ mostK → netReader k net ≡ got N rest → WithinLimits N k
-limits net rest k N h e =
-    let f = walk-facts k net N rest e .0 in
+-- a net that passed is within the limits
+pub limits : (net : List ℕ) (k : ℕ) (N : Net) (P : Passed N k) → k ≤ mostK → checkNet k net ≡ passes N P → WithinLimits N k
+limits net k N P h e =
+    let i = passes-net k net e in
+    let f = walk-facts k net N (i .0) (i .1) .0 in
     record {
       gate = f .gates-low;
       gates = f .gates-high;
-      counts = λ v g p m. walk-gate k net N rest e v g .pin p m .count;
+      counts = λ v g p m. walk-gate k net N (i .0) (i .1) v g .pin p m .count;
       size = h;
     }
+
+-- what passed checks of sizes give
+pub map-fit : (k target : ℕ) (area scratch : List ℕ) → mapSizes k target area scratch ≡ 0 → Fit k target (length area) (length scratch)
+map-fit k target area scratch e = fit k target (length area) (length scratch) (sym (map-sizes-are k target area scratch) ∙ e)
 
 -- ---- a target from 1 to 32
 
 module _ (net area scratch : List ℕ) (k t : ℕ) (N : Net) (P : Passed N k)
     (sizes : mapSizes k (suc t) area scratch ≡ 0) (passed : checkNet k net ≡ passes N P) where
-  -- **Refused with 12 exactly when no cover meets the target.**
-  pub refused-12 : ((mapOutcome net k (suc t) area scratch) .answer ≡ turnedBack 12) ↔ (¬ Met N k (suc t))
-  unfolding mapWritten mapped forTarget
-  refused-12 = subst (λ (o : MapOutcome). (o .answer ≡ turnedBack 12) ↔ (¬ Met N k (suc t))) (sym (outcome-is net area scratch k (suc t) N P sizes passed)) (go (key? P (suc-le-suc zero-le)))
-    where
-      go : (d : Dec (Key N k (suc t))) → ((mapWritten (forTarget N k (suc t) d) area scratch) .answer ≡ turnedBack 12) ↔ (¬ Met N k (suc t))
-      go (yes K) = (λ e. absurd (not-refused (length (coverBytes (suc t) (entries K))) 12 e), λ n. absurd (n (key-meets P (suc-le-suc zero-le) K)))
-      go (no n) = (λ e m. n (keyOf P (met-reachable P (suc-le-suc zero-le) m)), λ m. refl)
-
   -- **Where some cover meets it, the record written reads back as a cover that meets the target.**
-  pub met-written : WithinLimits N k → suc t ≤ mostPeriod → Met N k (suc t)
+  pub met-written : Met N k (suc t)
       → (n : ℕ) × ((mapOutcome net k (suc t) area scratch) .answer ≡ accepted n) × Wrote N k (suc t) area ((mapOutcome net k (suc t) area scratch) .area) n
   unfolding mapWritten mapped forTarget
-  met-written l h m =
+  met-written m =
       subst (λ (o : MapOutcome). (n : ℕ) × (o .answer ≡ accepted n) × Wrote N k (suc t) area (o .area) n) (sym (outcome-is net area scratch k (suc t) N P sizes passed))
       (go (key? P (suc-le-suc zero-le)))
     where
+      sized : Fit k (suc t) (length area) (length scratch)
+      sized = map-fit k (suc t) area scratch sizes
+
       go : (d : Dec (Key N k (suc t)))
           → (n : ℕ) × ((mapWritten (forTarget N k (suc t) d) area scratch) .answer ≡ accepted n) × Wrote N k (suc t) area ((mapWritten (forTarget N k (suc t) d) area scratch) .area) n
-      go (yes K) = (length (coverBytes (suc t) (entries K)), refl, wrote-key P l (suc-le-suc zero-le) h K area)
+      go (yes K) = (length (coverBytes (suc t) (entries K)), refl, wrote-key P (limits net k N P (sized .high) passed) (suc-le-suc zero-le) (sized .near) K area)
       go (no n) = absurd (n (keyOf P (met-reachable P (suc-le-suc zero-le) m)))
 
 -- ---- target 0
@@ -107,10 +104,10 @@ module _ (net area scratch : List ℕ) (k t : ℕ) (N : Net) (P : Passed N k)
 module _ (net area scratch : List ℕ) (k : ℕ) (N : Net) (P : Passed N k)
     (sizes : mapSizes k 0 area scratch ≡ 0) (passed : checkNet k net ≡ passes N P) where
   -- **The period written is met, and no cover meets a smaller one.**
-  pub least-written : WithinLimits N k
-      → (φ n : ℕ) × ((mapOutcome net k 0 area scratch) .answer ≡ accepted n) × Wrote N k φ area ((mapOutcome net k 0 area scratch) .area) n × LeastPeriod N k φ
+  pub least-written : (φ n : ℕ) × ((mapOutcome net k 0 area scratch) .answer ≡ accepted n) × Wrote N k φ area ((mapOutcome net k 0 area scratch) .area) n × LeastPeriod N k φ
   unfolding mapWritten mapped
-  least-written l =
+  least-written =
+      let l = limits net k N P (map-fit k 0 area scratch sizes .high) passed in
       subst (λ (o : MapOutcome). (φ n : ℕ) × (o .answer ≡ accepted n) × Wrote N k φ area (o .area) n × LeastPeriod N k φ) (sym (outcome-is net area scratch k 0 N P sizes passed)) (
         leastPeriod P,
         length (coverBytes (leastPeriod P) (entries (leastKey P))),

@@ -1,4 +1,11 @@
+pub mod TurnedBack
+pub mod OrderLaws
+pub mod MapEnds
+pub mod MarkEnds
 pub mod Demand3
 pub mod Demand2
 pub mod Registers
 pub mod LongInputs
+pub mod Calls
+pub mod CallLaws
+pub mod Certificate

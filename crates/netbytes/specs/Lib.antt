@@ -7,3 +7,4 @@ pub mod Sound
 pub mod Items
 pub mod Short
 pub mod Places
+pub mod Refusals

@@ -3,7 +3,7 @@ use mathlib.Core.Path.{_≡_, refl, sym, ap, ap₂, _∙_}
 use mathlib.Core.Logic.{_⊎_, inl, inr}
 use mathlib.Core.Bool.{Bool, true, false, cond, not, _||_, _&&_}
 use mathlib.Core.List.{List, [], _∷_}
-use Prim.Native.Nat.{ℕ, zero, suc, _+_, _*_, _/_, _%_, _^_, min, _≤_, _<_}
+use Prim.Native.Nat.{ℕ, zero, suc, _+_, _-_, _*_, _/_, _%_, _^_, min, _≤_, _<_}
 use native.Mathlib.Nat.{zero-add, not-suc-le-zero, mod-lt, pow-suc, div-div-eq-div-mul, div-one, div-add-mod', pow-succ', eq-zero-or-pos}
 use native.Mathlib.Numerals.{add-one, one-add}
 use native.Mathlib.Omega.{arith}
@@ -12,9 +12,8 @@ use lib.Bits.{bitAnd, and-step, and-zero-l, and-le-l}
 use lib.Count.{ones, onesIn, ones-step}
 use lib.Dec.{leb, ltb, eqb, lit<}
 use lib.ListN.{length}
-use lib.Pow.{shr-lt}
-use borrow.Author.Tests.{ltb-true, eq-eqb, ne-eqb, eqb-true, eqb-false}
-use Rattle.limits.specs.Limits.{mostPins}
+use lib.Pow.{shr-lt, pow-add, pow-mono}
+use borrow.Author.Tests.{ltb-true, ltb-false, eq-eqb, ne-eqb, eqb-true, eqb-false}
 use Rattle.sequences.specs.Member.{_∈_, here, there}
 use Rattle.netlist.specs.Net.{Pin}
 use Rattle.netlist.specs.Tables.{bit}
@@ -107,16 +106,28 @@ one-byte n [] h e = absurd (omega arith)
 one-byte n (b ∷ []) h e = omega (arith, e b (here refl))
 one-byte n (b ∷ (c ∷ l)) h e = absurd (omega arith)
 
+-- 8 bits a byte
+pub pow-bytes : (q : ℕ) → 2 ^ (8 * q) ≡ 256 ^ q
+pow-bytes zero = refl
+pow-bytes (suc q) = ap (λ (n : ℕ). 2 ^ n) (omega arith) ∙ pow-add 2 (8 * q) 8 ∙ ap (λ (n : ℕ). n * 256) (pow-bytes q) ∙ sym (pow-suc 256 q)
+
+-- the bits of up to three pins fit one byte; those of three or more fill their bytes
+pub one-table-byte : (m : ℕ) → m ≤ 3 → 1 ≡ tableBytes m
+one-table-byte m h = omega (arith, pow-mono {i = m} {j = 3} h, pow-mono {i = 0} {j = m} (omega arith))
+
+full-table-bytes : (m : ℕ) → 3 ≤ m → 2 ^ m ≡ 8 * tableBytes m
+full-table-bytes m h =
+    let split : 2 ^ m ≡ 8 * 2 ^ (m - 3) = ap (λ (n : ℕ). 2 ^ n) (omega arith) ∙ pow-add 2 3 (m - 3) in
+    omega arith
+
 -- "With m pins the table has 2^m bits": what the bytes of a table allow
-pub table-lt : (m : ℕ) (l : List ℕ) → m ≤ mostPins → length l ≡ tableBytes m → Each (λ (b : ℕ). tableByte m b ≡ true) l → fromBytes l < 2 ^ (2 ^ m)
-table-lt zero l h n e = one-byte 2 l n (λ b m. ltb-true b 2 (e b m))
-table-lt (suc zero) l h n e = one-byte 4 l n (λ b m. ltb-true b 4 (e b m))
-table-lt (suc (suc zero)) l h n e = one-byte 16 l n (λ b m. ltb-true b 16 (e b m))
-table-lt (suc (suc (suc zero))) l h n e = fromBytes-lt 1 l (λ b m. ltb-true b 256 (e b m)) (omega arith)
-table-lt (suc (suc (suc (suc zero)))) l h n e = fromBytes-lt 2 l (λ b m. ltb-true b 256 (e b m)) (omega arith)
-table-lt (suc (suc (suc (suc (suc zero))))) l h n e = fromBytes-lt 4 l (λ b m. ltb-true b 256 (e b m)) (omega arith)
-table-lt (suc (suc (suc (suc (suc (suc zero)))))) l h n e = fromBytes-lt 8 l (λ b m. ltb-true b 256 (e b m)) (omega arith)
-table-lt (suc (suc (suc (suc (suc (suc (suc m))))))) l h n e = absurd (omega arith)
+pub table-lt : (m : ℕ) (l : List ℕ) → length l ≡ tableBytes m → Each (λ (b : ℕ). tableByte m b ≡ true) l → fromBytes l < 2 ^ (2 ^ m)
+table-lt m l n e = go (ltb m 3) refl e
+  where
+    go : (t : Bool) → ltb m 3 ≡ t → Each (λ (b : ℕ). ltb b (cond t (2 ^ (2 ^ m)) 256) ≡ true) l → fromBytes l < 2 ^ (2 ^ m)
+    go true q e = one-byte (2 ^ (2 ^ m)) l (n ∙ sym (one-table-byte m (omega (arith, ltb-true m 3 q)))) (λ b i. ltb-true b (2 ^ (2 ^ m)) (e b i))
+    go false q e =
+        rw (full-table-bytes m (ltb-false m 3 q), pow-bytes (tableBytes m)) (fromBytes-lt (tableBytes m) l (λ b i. ltb-true b 256 (e b i)) (omega (arith, n)))
 
 bit-half : (r n : ℕ) → bit r (suc n) ≡ bit (r / 2) n
 bit-half r n = ap (λ (x : ℕ). eqb (x % 2) 1) (ap (λ (x : ℕ). r / x) (pow-succ' 2 n) ∙ sym (div-div-eq-div-mul r 2 (2 ^ n)))
@@ -158,10 +169,3 @@ only-mask (suc n) p r h =
     ∙ ap (λ (t : Bool). (not (eqb (r % 2) 1) || eqb (p % 2) 1) && t) (only-mask n (p / 2) (r / 2) (shr-lt n 1 (rw add-one h)))
     ∙ low-digit (r % 2) (p % 2) (bitAnd (r / 2) (p / 2)) (r / 2) (mod-lt r (lit< tt)) (mod-lt p (lit< tt)) (and-le-l (r / 2) (p / 2))
     ∙ ap₂ eqb (sym (and-step r p)) (div-add-mod' r 2)
-
-pub one-table-byte : (m : ℕ) → m ≤ 3 → 1 ≡ tableBytes m
-one-table-byte zero h = refl
-one-table-byte (suc zero) h = refl
-one-table-byte (suc (suc zero)) h = refl
-one-table-byte (suc (suc (suc zero))) h = refl
-one-table-byte (suc (suc (suc (suc m)))) h = absurd (omega arith)

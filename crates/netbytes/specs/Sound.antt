@@ -67,7 +67,7 @@ module _ (k nodes : ℕ) (pos : 0 < nodes) where
         pin = λ q h. pinFacts q
             (each-pinsFrom (λ (b : ℕ). b < nodes) (λ (b : ℕ). b ≤ mostCount) pos (lit≤ tt) mostPins 0 p r s c
             (λ b m. ltb-true b nodes (hs b m)) (λ b m. between-true 1 mostCount b (hc b m) .1) q h);
-        table = rw (long, hm) (table-lt m t (omega arith) ht et);
+        table = rw (long, hm) (table-lt m t ht et);
       }
     where
       pinFacts : (q : Pin) → (q .src < nodes) × (q .count ≤ mostCount) → PinFacts nodes q

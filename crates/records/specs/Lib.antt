@@ -12,3 +12,4 @@ pub mod Held
 pub mod HeldLaws
 pub mod CheckLaws
 pub mod ShortCover
+pub mod CoverRefusals

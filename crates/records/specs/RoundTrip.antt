@@ -21,6 +21,7 @@ use Rattle.covers.specs.Key.{Entry}
 use Rattle.limits.specs.Limits.{depthRoom, mostLuts, mostPeriod, mostPins}
 use Rattle.netbytes.specs.Reading.{Result, Reader, andThen, check, byte, times, atEnd, between, got, refused}
 use Rattle.netbytes.specs.Walk.{tableBytes, tableByte, fromBytes, first, rest}
+use Rattle.netbytes.specs.Maps.{pow-bytes, one-table-byte}
 use Rattle.records.specs.CoverBytes.{toBytes, notZero, leafMap, depths, isZero, signedByte, lagBytes, lutBytes, allLutBytes, coverBytes, Record, coverByte, fromSigned, leafMapOk, depthReader, leavesFrom, before, risingLeaves, lutReader, lutsReader, coverReader}
 
 -- ---- readers that go on
@@ -180,10 +181,6 @@ lag-read (down {n = n} h) s = (
 
 -- ---- the table
 
-pow-bytes : (q : ℕ) → 2 ^ (8 * q) ≡ 256 ^ q
-pow-bytes zero = refl
-pow-bytes (suc q) = ap (λ (n : ℕ). 2 ^ n) (omega arith) ∙ pow-add 2 (8 * q) 8 ∙ ap (λ (n : ℕ). n * 256) (pow-bytes q) ∙ sym (pow-suc 256 q)
-
 -- m bits fit their bytes
 bits-fit : (m w : ℕ) → w < 2 ^ m → w < 256 ^ ((m + 7) / 8)
 bits-fit m w h = rw (← (pow-bytes ((m + 7) / 8))) (le-trans h (pow-mono {i = m} {j = 8 * ((m + 7) / 8)} (omega arith)))
@@ -215,14 +212,8 @@ one-byte m w b e h = go ((m + 7) / 8) e
 table-bytes-ok : (n w b : ℕ) → w < 2 ^ (2 ^ n) → b ∈ toBytes (tableBytes n) w → tableByte n b ≡ true
 table-bytes-ok n w b h i = go (ltb n 3) refl
   where
-    single : (n : ℕ) → n < 3 → (2 ^ n + 7) / 8 ≡ 1
-    single zero h = refl
-    single (suc zero) h = refl
-    single (suc (suc zero)) h = refl
-    single (suc (suc (suc n))) h = absurd (not-suc-le-zero (le-of-suc-le-suc (le-of-suc-le-suc (le-of-suc-le-suc h))))
-
     go : (t : Bool) → ltb n 3 ≡ t → ltb b (cond t (2 ^ (2 ^ n)) 256) ≡ true
-    go true e = lt-ltb b (2 ^ (2 ^ n)) (one-byte (2 ^ n) w b (single n (ltb-true n 3 e)) h i)
+    go true e = lt-ltb b (2 ^ (2 ^ n)) (one-byte (2 ^ n) w b (sym (one-table-byte n (omega (arith, ltb-true n 3 e)))) h i)
     go false e = lt-ltb b 256 (bytes-small (tableBytes n) w b i)
 
 -- ---- one LUT
