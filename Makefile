@@ -7,18 +7,21 @@ run: PROGRAMS = listing
 run: programs
 	@target/bin/listing < $(NET)
 
-# The proved programs, in target/bin.
+# The proved programs, in target/bin. rt proves again what changed, and is quick where nothing did;
+# .ci/progress says on standard error which crates were proved and how many are left.
 PROGRAMS = listing marking reading
 programs:
-	@(for name in $(PROGRAMS); do test -x target/bin/$$name || exit 1; done) || rt check $(PROGRAMS) > .rt-programs.log 2>&1 || { tail -n 60 .rt-programs.log; exit 1; }
+	@.ci/progress .rt-programs.log check $(PROGRAMS)
 
 # The second mapper, for comparison.
 second:
 	cd tests && cargo build --release --offline --quiet
 
 # The library for C and Rust: target/staticlib/libkamfelu.a, to be used with include/kamfelu.h.
+# rt check proves two crates at a time, rt staticlib only one.
 library:
-	rt staticlib kamfelu > .rt-library.log 2>&1 || { tail -n 60 .rt-library.log; exit 1; }
+	@.ci/progress .rt-library.log check kamfelu
+	@.ci/progress .rt-library.log staticlib kamfelu
 
 # Times of map, mark and the second mapper on the same nets, and ABC's periods where it is installed.
 bench: library
@@ -41,7 +44,7 @@ batch: library
 # rt ci empties target/ first and leaves the proofs there, so that the library is then built from them.
 test:
 	rt fmt --check
-	rt ci > .rt-ci.log 2>&1 || { tail -n 60 .rt-ci.log; exit 1; }
+	@.ci/progress .rt-ci.log ci || { tail -n 60 .rt-ci.log; exit 1; }
 	$(MAKE) --no-print-directory library programs
 	cd tests && cargo test --release --offline --quiet --workspace
 	@cat .rt-ci.log

@@ -1,4 +1,4 @@
-/* Kamfelu: LUT covers with moved registers. */
+/* Kamfelu: LUT covers with moved registers. docs/FORMATS.md explains net records and cover records. */
 #ifndef KAMFELU_H
 #define KAMFELU_H
 
@@ -8,6 +8,45 @@
 #ifdef __cplusplus
 extern "C" {
 #endif
+
+/* What holds for all functions:
+
+   - An answer below 0 is minus the number of a refusal, and nothing is assumed of the contents of any argument.
+   - Each pointer points to as many bytes as the length behind it says, for the whole call. A pointer may be NULL where
+     its length is 0.
+   - Areas that are written (cover, scratch) overlap no other area, and no other thread uses them during the call. Net
+     and record are only read.
+   - The calling thread must have a stack of 8 MiB: on Linux the main thread has one by default, other threads must
+     ask for it.
+   - The library keeps nothing between calls; calls on different areas may run at the same time.
+
+   Refusals. Map checks 1 to 12, mark 1, 3 to 11 and 13 to 18; the first that fails is told, of 4 to 8 the first met in
+   one walk over the net's bytes.
+
+    1  k is not 2 to 6.
+    2  The target is above 32.
+    3  The cover area has fewer than 962 bytes (map only), or the scratch fewer than 65,536.
+    4  The net ends where a byte is still due.
+    5  The number of inputs is not 1 to 16, that of gates not 1 to 32, or that of outputs not 1 to 16.
+    6  A byte of the net has a value that its place forbids: a pin map that is 0 or above 63, a register map with a
+       bit that the pin map lacks, a source that is no node, a count that is not 1 to 3, a table with spare bits set,
+       an output's map above 1.
+    7  A gate has more pins than k.
+    8  Bytes follow the net's last output.
+    9  A loop of gates has no register.
+   10  Some gate is reached from no input.
+   11  Some gate leads to no output.
+   12  No cover meets the target.
+   13  The record breaks the layout: it ends early, or bytes follow its last LUT; its period or its number of LUTs is
+       not 1 to 32; a root is no gate, or is not above the root before it, as with two LUTs of one root; a LUT has no
+       leaf, or more leaves than k; a leaf is no node, or the leaves do not rise by node and then by d, as with two
+       equal leaves; a map has a bit for a leaf that is not there, or bit 7; a stored d or lag is 0; a table has spare
+       bits set.
+   14  The leaves of some LUT are no cut of its root.
+   15  The table of some LUT is wrong.
+   16  A gate that a leaf or an output reads has no LUT.
+   17  Some connection has fewer than 0 registers.
+   18  Some chain of LUTs without a register between them is longer than the period. */
 
 /* Map: a cover of a net for LUTs with k inputs that meets the target, or the least period for target 0.
 
@@ -20,8 +59,7 @@ extern "C" {
    Returns the length of the cover record, which then stands in front of the cover area; or minus the number of the
    refusal, and the cover area is as it was. Bytes behind the record are kept. After refusals 1 to 3 the scratch is as
    it was; after every other outcome its first 65,536 bytes are 0 and the rest is kept. -12 says that no cover meets the
-   target. Nothing is assumed of the contents of any argument; net, cover and scratch must not overlap. At most 330 KB of
-   stack were used on all nets measured; docs/DECISIONS.md says what is known of the greatest depth. */
+   target. */
 int64_t kamfelu_map(const uint8_t *net, size_t net_length, uint32_t k, uint32_t target, uint8_t *cover, size_t cover_length,
                     uint8_t *scratch, size_t scratch_length);
 
@@ -36,8 +74,7 @@ int64_t kamfelu_map(const uint8_t *net, size_t net_length, uint32_t k, uint32_t 
    Returns the excess, the stated period minus the least period, 0 or more; or minus the number of the refusal: 4 to 11
    for the net, 13 to 18 for the record. After refusals 1 and 3 the scratch is as it was; after every other outcome its
    first 65,536 bytes are 0 and the rest is kept. Every record that kamfelu_map writes is accepted for the same net and
-   k. Nothing is assumed of the contents of any argument; scratch must not overlap net or record, which are only read.
-   For the stack see kamfelu_map, whose search it runs for the least period. */
+   k. */
 int64_t kamfelu_mark(const uint8_t *net, size_t net_length, uint32_t k, const uint8_t *record, size_t record_length,
                      uint8_t *scratch, size_t scratch_length);
 

@@ -1,4 +1,5 @@
-//! The proved mapper, called through its static library.
+//! The proved mapper, called through its static library. What a caller must see to, the stack of
+//! 8 MiB too, stands in include/kamfelu.h.
 
 pub mod abc;
 pub mod batch;

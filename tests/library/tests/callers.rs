@@ -1,4 +1,5 @@
 //! The examples that call the library from C and from Rust are compiled as the README says, and print what it says.
+//! From C an area of length 0 may also be NULL, as the header says.
 
 use std::path::{Path, PathBuf};
 use std::process::Command;
@@ -13,19 +14,32 @@ fn printed(compile: &mut Command, program: &Path) -> String {
     let built = compile.current_dir(root()).status();
     assert!(built.expect("a compiler").success());
     let output = Command::new(program).output().expect("the program runs");
-    assert!(output.status.success());
-    String::from_utf8(output.stdout).expect("text")
+    let text = String::from_utf8(output.stdout).expect("text");
+    assert!(output.status.success(), "{text}");
+    text
+}
+
+/// What a C program that calls the library prints.
+fn printed_from_c(source: &str, name: &str) -> String {
+    let program = Path::new(env!("CARGO_TARGET_TMPDIR")).join(name);
+    let mut compile = Command::new("cc");
+    compile
+        .args([source, "-Iinclude"])
+        .args(["target/staticlib/libkamfelu.a", "-o"])
+        .arg(&program);
+    printed(&mut compile, &program)
 }
 
 #[test]
 fn from_c() {
-    let program = Path::new(env!("CARGO_TARGET_TMPDIR")).join("map_and_mark_c");
-    let mut compile = Command::new("cc");
-    compile
-        .args(["examples/map_and_mark.c", "-Iinclude"])
-        .args(["target/staticlib/libkamfelu.a", "-o"])
-        .arg(&program);
-    assert_eq!(printed(&mut compile, &program), PRINTED);
+    let text = printed_from_c("examples/map_and_mark.c", "map_and_mark_c");
+    assert_eq!(text, PRINTED);
+}
+
+#[test]
+fn null_pointers() {
+    let text = printed_from_c("tests/library/c/null.c", "null_c");
+    assert_eq!(text, "as expected\n");
 }
 
 #[test]

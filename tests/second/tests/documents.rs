@@ -238,7 +238,10 @@ fn every_crate_is_described() {
     let (known, crates) = (known(), listed("crates", ""));
     let rows = rows("docs/ARCHITECTURE.md", "Crates");
     let mut wrong = Vec::new();
-    for line in read("crates.txt").lines().filter(|line| !line.starts_with('#')) {
+    for line in read("crates.txt")
+        .lines()
+        .filter(|line| !line.starts_with('#'))
+    {
         let folder = line.split(':').next().unwrap();
         let own = format!("`{folder}`");
         let Some((place, row)) = rows.iter().find(|(_, row)| row[..2].contains(&own)) else {
@@ -259,4 +262,77 @@ fn every_crate_is_described() {
         }
     }
     fail_on(wrong);
+}
+
+/// The column "Uses" has the crate's line of crates.txt; a crate stands below those that it uses.
+#[test]
+fn uses_of_crates() {
+    let rows = rows("docs/ARCHITECTURE.md", "Crates");
+    let place_of = |folder: &str| {
+        let own = format!("`{folder}`");
+        rows.iter().position(|(_, row)| row[..2].contains(&own))
+    };
+    let mut wrong = Vec::new();
+    for line in read("crates.txt")
+        .lines()
+        .filter(|line| !line.starts_with('#'))
+    {
+        let (folder, uses) = line.split_once(':').unwrap();
+        let Some(at) = place_of(folder) else {
+            continue; // told by every_crate_is_described
+        };
+        let (place, row) = &rows[at];
+        let column = usize::from(row[0] != format!("`{folder}`")) + 1;
+        let uses: Vec<&str> = uses.split_whitespace().collect();
+        let listed = if uses.is_empty() {
+            "–".to_string()
+        } else {
+            uses.join(", ")
+        };
+        if row[column] != listed {
+            wrong.push(format!("{place}: {folder} uses {listed}"));
+        }
+        let below = uses.iter().filter(|name| place_of(name) > Some(at));
+        wrong.extend(below.map(|name| format!("{place}: {folder} stands above {name}")));
+    }
+    fail_on(wrong);
+}
+
+/// A text on one line, with single blanks.
+fn on_one_line(text: &str) -> String {
+    text.split_whitespace().collect::<Vec<&str>>().join(" ")
+}
+
+/// README and header tell each refusal in the same words.
+#[test]
+fn refusals_of_the_header() {
+    let header = on_one_line(&read("include/kamfelu.h"));
+    let mut numbers = Vec::new();
+    let mut wrong = Vec::new();
+    for (place, row) in rows("README.md", "Refusals") {
+        let Ok(number) = row[0].parse::<u8>() else {
+            continue;
+        };
+        numbers.push(number);
+        if !header.contains(&format!(" {number} {} ", row[1])) {
+            wrong.push(format!("{place}: not in the header"));
+        }
+    }
+    assert_eq!(numbers, (1..=18).collect::<Vec<u8>>());
+    fail_on(wrong);
+}
+
+/// What a caller must know of the stack is one sentence.
+#[test]
+fn stack_of_a_caller() {
+    let sentence =
+        "The calling thread must have a stack of 8 MiB: on Linux the main thread has one \
+        by default, other threads must ask for it.";
+    for name in [
+        "include/kamfelu.h",
+        "docs/ASSUMPTIONS.md",
+        "docs/DECISIONS.md",
+    ] {
+        assert!(on_one_line(&read(name)).contains(sentence), "{name}");
+    }
 }

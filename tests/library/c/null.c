@@ -1,0 +1,68 @@
+/* A pointer may be NULL where its length is 0: each area of map and mark in turn, then all of them. */
+#include "kamfelu.h"
+#include <stdio.h>
+
+static const uint8_t net[] = {2, 3, 1, 3, 0, 0, 1, 8, 3, 2, 2, 4, 1, 6, 1, 0, 3, 1, 0, 4}; /* net A */
+static const uint8_t record[] = {2, 2, 2, 2, 0, 0, 1, 8, 4, 2, 2, 2, 4, 1, 0, 9};           /* its cover, k 2 */
+static uint8_t cover[962], scratch[65536];
+static int wrong;
+
+static void expect(const char *call, int64_t answer, int64_t expected)
+{
+    if (answer != expected) {
+        printf("%s: %d, not %d\n", call, (int)answer, (int)expected);
+        wrong = 1;
+    }
+}
+
+/* The scratch is all 7 before a call; afterwards it is kept, or all 0. */
+static void fill(void)
+{
+    for (size_t i = 0; i < sizeof scratch; i++)
+        scratch[i] = 7;
+}
+
+static void expect_scratch(const char *call, uint8_t byte)
+{
+    for (size_t i = 0; i < sizeof scratch; i++) {
+        if (scratch[i] != byte) {
+            printf("%s: scratch byte %d is %d\n", call, (int)i, scratch[i]);
+            wrong = 1;
+            return;
+        }
+    }
+}
+
+int main(void)
+{
+    fill();
+    expect("map, no net", kamfelu_map(NULL, 0, 2, 0, cover, 962, scratch, 65536), -4);
+    expect_scratch("map, no net", 0);
+    fill();
+    expect("map, no cover area", kamfelu_map(net, 20, 2, 0, NULL, 0, scratch, 65536), -3);
+    expect_scratch("map, no cover area", 7);
+    expect("map, no scratch", kamfelu_map(net, 20, 2, 0, cover, 962, NULL, 0), -3);
+    expect("map, nothing", kamfelu_map(NULL, 0, 2, 0, NULL, 0, NULL, 0), -3);
+    expect("map, nothing, target 33", kamfelu_map(NULL, 0, 2, 33, NULL, 0, NULL, 0), -2);
+    expect("map, nothing, k 7", kamfelu_map(NULL, 0, 7, 33, NULL, 0, NULL, 0), -1);
+
+    fill();
+    expect("mark, no net", kamfelu_mark(NULL, 0, 2, record, 16, scratch, 65536), -4);
+    expect_scratch("mark, no net", 0);
+    fill();
+    expect("mark, no record", kamfelu_mark(net, 20, 2, NULL, 0, scratch, 65536), -13);
+    expect_scratch("mark, no record", 0);
+    expect("mark, no scratch", kamfelu_mark(net, 20, 2, record, 16, NULL, 0), -3);
+    fill();
+    expect("mark, no net, no record", kamfelu_mark(NULL, 0, 2, NULL, 0, scratch, 65536), -4);
+    expect_scratch("mark, no net, no record", 0);
+    expect("mark, nothing", kamfelu_mark(NULL, 0, 2, NULL, 0, NULL, 0), -3);
+    expect("mark, nothing, k 1", kamfelu_mark(NULL, 0, 1, NULL, 0, NULL, 0), -1);
+
+    /* The same areas without NULL. */
+    expect("map", kamfelu_map(net, 20, 2, 0, cover, 962, scratch, 65536), 16);
+    expect("mark", kamfelu_mark(net, 20, 2, record, 16, scratch, 65536), 0);
+    if (!wrong)
+        printf("as expected\n");
+    return wrong;
+}

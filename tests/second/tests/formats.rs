@@ -1,0 +1,89 @@
+//! docs/FORMATS.md: its bytes are those of the example files, and its shell lines make files for which
+//! the programs print what it says. The second mapper stands for the programs.
+
+use second::programs::{listing, map, mark};
+use std::fs;
+use std::path::Path;
+use std::process::Command;
+
+const ROOT: &str = concat!(env!("CARGO_MANIFEST_DIR"), "/../..");
+
+fn file(name: &str) -> Vec<u8> {
+    fs::read(Path::new(ROOT).join(name)).unwrap_or_else(|error| panic!("{name}: {error}"))
+}
+
+/// The text under a heading.
+fn section(heading: &str) -> String {
+    let text = String::from_utf8(file("docs/FORMATS.md")).expect("text");
+    let start = format!("## {heading}\n");
+    let behind = text.split_once(&start).expect(heading).1;
+    behind.split("\n## ").next().unwrap().to_string()
+}
+
+fn bytes(text: &str) -> Vec<u8> {
+    let byte = |word| u8::from_str_radix(word, 16).unwrap_or_else(|_| panic!("{word}"));
+    text.split_whitespace().map(byte).collect()
+}
+
+/// The bytes in the first column of a section's table.
+fn column(heading: &str) -> Vec<u8> {
+    let text = section(heading);
+    let cells = text.lines().filter_map(|line| line.strip_prefix("| `"));
+    cells
+        .flat_map(|cell| bytes(cell.split('`').next().unwrap()))
+        .collect()
+}
+
+/// The blocks of a kind: what stands between lines of three backquotes, the word behind the first
+/// of them being the kind.
+fn blocks(heading: &str, kind: &str) -> Vec<String> {
+    let text = section(heading);
+    let parts = text.split("```").skip(1).step_by(2);
+    let split = parts.map(|part| part.split_once('\n').expect("a line"));
+    let of_kind = split.filter(|(word, _)| *word == kind);
+    of_kind.map(|(_, block)| block.to_string()).collect()
+}
+
+/// Runs lines of shell in a folder.
+fn run(lines: &str, folder: &Path) {
+    let mut shell = Command::new("sh");
+    shell.args(["-e", "-c", lines]).current_dir(folder);
+    assert!(shell.status().expect("sh").success());
+}
+
+#[test]
+fn net_a() {
+    assert_eq!(column("Net A, byte by byte"), file("examples/net-a.bin"));
+    let listed = listing(&file("examples/net-a.bin"));
+    assert_eq!(listed, blocks("Listing", "")[0].as_bytes());
+}
+
+#[test]
+fn cover_of_net_a() {
+    let cover = column("Net A's cover, byte by byte");
+    assert_eq!(cover, map(&file("examples/net-a.bin")));
+    let marked = bytes(&blocks("Marking", "")[0]);
+    assert_eq!(marked, file("examples/mark-a.bin"));
+    assert!(marked.ends_with(&cover));
+    assert_eq!(mark(&marked), b"excess 1\n");
+}
+
+#[test]
+fn files_by_hand() {
+    let heading = "Files by hand";
+    let folder = Path::new(env!("CARGO_TARGET_TMPDIR")).join("formats");
+    fs::create_dir_all(&folder).expect("a folder");
+    let made = |name: &str| fs::read(folder.join(name)).expect(name);
+    run(&blocks(heading, "sh").concat(), &folder);
+    let printed = blocks(heading, "");
+    assert_eq!(listing(&made("odd.bin")), printed[0].as_bytes());
+    let mut given = made("mark-odd.bin");
+    assert_eq!(mark(&given), printed[1].as_bytes());
+    *given.last_mut().unwrap() = 7;
+    assert_eq!(mark(&given), b"refused 15\n");
+
+    let text = section(heading);
+    let octal = text.split('`').find(|part| part.starts_with("printf '"));
+    run(&octal.expect("printf").replace("odd", "octal"), &folder);
+    assert_eq!(made("octal.bin"), made("odd.bin"));
+}
