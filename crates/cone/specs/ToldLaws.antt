@@ -22,28 +22,27 @@ use Rattle.cone.specs.Steps.{Touched, Leaves}
 use Rattle.cone.specs.Walking.{Walked, Closed, Refuted, walked-root, walked-cone, walked-leaves, refuted-root, closed-all, refuted-cut}
 use Rattle.cone.specs.Growing.{Sweep, Grown}
 use Rattle.cone.specs.GrowingLaws.{sweep-closed}
-use Rattle.cone.specs.Told.{Walk}
-use Rattle.cone.specs.declared.Told.the-variants.{Cut, NoCut}
+use Rattle.cone.specs.Told.{numberOf, Walk}
 use Rattle.cone.specs.declared.Cone.{Cone}
 
-cut-or-not : Cut ≡ NoCut → ⊥
-cut-or-not e = let z : _≡_ {A = ℕ} 0 1 = cc in omega arith
+cut-or-not : {n : ℕ} → n ≡ 0 → n ≡ 14 → ⊥
+cut-or-not p q = omega arith
 
 module _ {I G : ℕ} {ps sources counts ln lb : List ℕ} {n g : ℕ} where
   -- no cut
-  pub told-none : (r : Cone) → r .verdict ≡ NoCut → ((N : Net) → Wired N I G ps sources counts → Ranked N → Refuted N (I + g) (copiesIn ln lb n))
+  pub told-none : (r : Cone) → numberOf (r .verdict) ≡ 14 → ((N : Net) → Wired N I G ps sources counts → Ranked N → Refuted N (I + g) (copiesIn ln lb n))
       → Walk I G ps sources counts ln lb n g r
   told-none r e f = record {
-    room = λ q. absurd (cut-or-not (sym q ∙ e));
-    bounded = λ q. absurd (cut-or-not (sym q ∙ e));
-    cone = λ q. absurd (cut-or-not (sym q ∙ e));
-    leaves = λ q. absurd (cut-or-not (sym q ∙ e));
-    order = λ q. absurd (cut-or-not (sym q ∙ e));
+    room = λ q. absurd (cut-or-not q e);
+    bounded = λ q. absurd (cut-or-not q e);
+    cone = λ q. absurd (cut-or-not q e);
+    leaves = λ q. absurd (cut-or-not q e);
+    order = λ q. absurd (cut-or-not q e);
     none = λ q N w R. refuted-cut (f N w R);
   }
 
   -- a cut: the copies met, arranged
-  pub told-cut : (r : Cone) (C : List Copy) → r .verdict ≡ Cut → Room (r .nodes) (r .backs) (r .len) → Bounded I G C
+  pub told-cut : (r : Cone) (C : List Copy) → numberOf (r .verdict) ≡ 0 → Room (r .nodes) (r .backs) (r .len) → Bounded I G C
       → ((N : Net) → Wired N I G ps sources counts → Walked N (I + g) (copiesIn ln lb n) C)
       → ((N : Net) → Wired N I G ps sources counts → (x : Copy) → x ∈ C → Closed N (copiesIn ln lb n) C x)
       → ((N : Net) → Wired N I G ps sources counts → (y : Copy) → y ∈ copiesIn ln lb n → (x : Copy) × (x ∈ C) × Feeds N y x)
@@ -54,7 +53,7 @@ module _ {I G : ℕ} {ps sources counts ln lb : List ℕ} {n g : ℕ} where
     cone = λ q N w. mixed-cone (a .mixed) (walked-cone (walked N w));
     leaves = λ q N w rising. mixed-leaves (a .mixed) (walked-leaves rising (walked N w) (closed N w) (touched N w));
     order = λ q. a .order;
-    none = λ q. absurd (cut-or-not (sym e ∙ q));
+    none = λ q. absurd (cut-or-not e q);
   }
 
 -- ---- touched leaves
@@ -109,11 +108,11 @@ starts {I} {g} ln lb n i e h f k N w = subst (Walked N (I + g) (copiesIn ln lb n
 
 module _ {I G : ℕ} {ps sources counts ln lb : List ℕ} {n g : ℕ} where
   -- the root is a leaf
-  pub told-root : (r : Cone) (i : ℕ) → r .verdict ≡ NoCut → First (λ j. copyAt ln lb j ≡ copy (I + g) 0) n i → i < n → Walk I G ps sources counts ln lb n g r
+  pub told-root : (r : Cone) (i : ℕ) → numberOf (r .verdict) ≡ 14 → First (λ j. copyAt ln lb j ≡ copy (I + g) 0) n i → i < n → Walk I G ps sources counts ln lb n g r
   told-root r i e f h = told-none r e (λ N w R. refuted-root (found-in ln lb n i (copy (I + g) 0) f h))
 
   -- the walk met no cut
-  pub told-stop : (r : Cone) (i len : ℕ) {C C′ : List Copy} → r .verdict ≡ NoCut → C ≡ copy (I + g) 0 ∷ [] → g < G → First (λ j. copyAt ln lb j ≡ copy (I + g) 0) n i → n ≤ i
+  pub told-stop : (r : Cone) (i len : ℕ) {C C′ : List Copy} → numberOf (r .verdict) ≡ 14 → C ≡ copy (I + g) 0 ∷ [] → g < G → First (λ j. copyAt ln lb j ≡ copy (I + g) 0) n i → n ≤ i
       → Grown I G ps sources counts (copiesIn ln lb n) C len C′ → len ≡ 0 → Walk I G ps sources counts ln lb n g r
   told-stop r i len e q h f k (Grown.refused z x) z′ = told-none r e (λ N w R. x N (I + g) w R (starts ln lb n i q h f k N w))
   told-stop r i len e q h f k (Grown.done p s t) z = absurd (bad p z)
@@ -122,7 +121,7 @@ module _ {I G : ℕ} {ps sources counts ln lb : List ℕ} {n g : ℕ} where
       bad p z = omega arith
 
   -- each leaf is touched
-  pub told-all : (r : Cone) (i : ℕ) {C : List Copy} (nodes backs : List ℕ) → r .verdict ≡ Cut → C ≡ copy (I + g) 0 ∷ [] → g < G → First (λ j. copyAt ln lb j ≡ copy (I + g) 0) n i → n ≤ i
+  pub told-all : (r : Cone) (i : ℕ) {C : List Copy} (nodes backs : List ℕ) → numberOf (r .verdict) ≡ 0 → C ≡ copy (I + g) 0 ∷ [] → g < G → First (λ j. copyAt ln lb j ≡ copy (I + g) 0) n i → n ≤ i
       → Room (r .nodes) (r .backs) (r .len) → Sweep I G ps sources counts (copiesIn ln lb n) C (copiesIn nodes backs (r .len)) (r .len)
       → ((j : ℕ) → j < n → Touched I ps sources counts nodes backs (r .len) (copyAt ln lb j))
       → Arranged I G ps sources counts (copiesIn nodes backs (r .len)) (copiesIn (r .nodes) (r .backs) (r .len)) → Walk I G ps sources counts ln lb n g r
@@ -132,7 +131,7 @@ module _ {I G : ℕ} {ps sources counts ln lb : List ℕ} {n g : ℕ} where
       (λ N w y m. let p = copiesIn-in ln lb n m in touched-feeds w nodes backs (r .len) (s .bounded) y (subst (Touched I ps sources counts nodes backs (r .len)) (p .2) (touched (p .0) (p .1))))
 
   -- some leaf is untouched
-  pub told-some : (r : Cone) (i : ℕ) {C : List Copy} (nodes backs : List ℕ) (len : ℕ) → r .verdict ≡ NoCut → C ≡ copy (I + g) 0 ∷ [] → g < G → First (λ j. copyAt ln lb j ≡ copy (I + g) 0) n i → n ≤ i
+  pub told-some : (r : Cone) (i : ℕ) {C : List Copy} (nodes backs : List ℕ) (len : ℕ) → numberOf (r .verdict) ≡ 14 → C ≡ copy (I + g) 0 ∷ [] → g < G → First (λ j. copyAt ln lb j ≡ copy (I + g) 0) n i → n ≤ i
       → Sweep I G ps sources counts (copiesIn ln lb n) C (copiesIn nodes backs len) len
       → ¬ ((j : ℕ) → j < n → Touched I ps sources counts nodes backs len (copyAt ln lb j)) → Walk I G ps sources counts ln lb n g r
   told-some r i nodes backs len e q h f k s untouched = told-none r e (λ N w R. no-cone N w)
@@ -147,7 +146,7 @@ module _ {I G : ℕ} {ps sources counts ln lb : List ℕ} {n g : ℕ} where
 
 -- ---- for callers
 
-module _ {I G : ℕ} {ps sources counts ln lb : List ℕ} {n g : ℕ} {r : Cone} (t : Walk I G ps sources counts ln lb n g r) (e : r .verdict ≡ Cut) where
+module _ {I G : ℕ} {ps sources counts ln lb : List ℕ} {n g : ℕ} {r : Cone} (t : Walk I G ps sources counts ln lb n g r) (e : numberOf (r .verdict) ≡ 0) where
   -- the leaves are a cut
   pub cone-cut : (N : Net) (k : ℕ) → Wired N I G ps sources counts → Rising (copiesIn ln lb n) → n ≤ k → IsCut N k (I + g) (copiesIn ln lb n)
   cone-cut N k w rising h = record {

@@ -24,8 +24,7 @@ use Rattle.sequences.specs.Tests.{First}
 use Rattle.copies.specs.Lists.{copiesIn, sourceAt, SmallWires, Bounded, SourcesFirst}
 use Rattle.copies.specs.ListLaws.{length-copiesIn, getD-copiesIn, in-copiesIn, found-in, missing, each-set, member}
 use Rattle.copies.specs.PinLaws.{pin-feeds}
-use Rattle.cone.specs.Told.{Walk}
-use Rattle.cone.specs.declared.Told.the-variants.{Cut}
+use Rattle.cone.specs.Told.{numberOf, Walk}
 use Rattle.cone.specs.declared.Cone.{Cone}
 use Rattle.conetable.specs.Words.{Given, Tabled, Carries, CopyWord, WordAt, Right, WordsSettled, TableOver}
 
@@ -213,7 +212,7 @@ table-found ln lb n nodes backs len words v p s f h N w tabled cone leaves first
 
 -- ---- for callers
 
-module _ {I G : ℕ} {ps sources counts ln lb : List ℕ} {n g : ℕ} {r : Cone} (t : Walk I G ps sources counts ln lb n g r) (e : r .verdict ≡ Cut) where
+module _ {I G : ℕ} {ps sources counts ln lb : List ℕ} {n g : ℕ} {r : Cone} (t : Walk I G ps sources counts ln lb n g r) (e : numberOf (r .verdict) ≡ 0) where
   -- what a table over the cone asks
   pub cone-given : {tables : List ℕ} → SmallWires I G ps sources counts → G ≤ length tables → n ≤ mostPins → n ≤ length ln → n ≤ length lb
       → Given I G ps sources counts tables ln lb n (r .nodes) (r .backs) (r .len)

@@ -6,6 +6,7 @@ use inputs::net_length;
 use inputs::place_behind;
 use inputs::wide;
 use judge::Grade;
+use limits::ANSWER;
 use limits::SCRATCH;
 use marker::mark;
 ghost use mathlib.Core.Path.{_≡_};
@@ -29,8 +30,7 @@ fn grade_parts(k: u32, net: &[u8], cover: &[u8], out: &mut [u8]) -> usize
 }
 
 // The text for every input, in front of out; the bytes behind it are kept.
-pub fn grade(input: &[u8], out: &mut [u8]) -> usize
-    requires { ⌜ refusalRoom ≤ length (now out) ⌝ }
+pub fn grade(input: &[u8], out: &mut [u8; ANSWER]) -> usize
     ensures { λ r. ⌜ Wrote (markingProgram (now (input .entry))) (now (out .entry)) (now (out .exit)) r ⌝ }
 {
     let k = byte_at(input, 0);

@@ -10,6 +10,7 @@ use limits::NODES;
 use limits::PLACES;
 use limits::SCRATCH;
 use limits::TABLE;
+use limits::TEXT;
 use reader::Wiring;
 use reader::read_net;
 use sizes::check_sizes;
@@ -108,8 +109,7 @@ fn net_place(input: &[u8]) -> usize
 }
 
 // The text for every input, in front of out; the bytes behind it are kept.
-pub fn list(input: &[u8], out: &mut [u8]) -> usize
-    requires { ⌜ textRoom ≤ length (now out) ⌝ }
+pub fn list(input: &[u8], out: &mut [u8; TEXT]) -> usize
     ensures { λ r. ⌜ Wrote (listingProgram (now (input .entry))) (now (out .entry)) (now (out .exit)) r ⌝ }
 {
     let k = byte_at(input, 0);

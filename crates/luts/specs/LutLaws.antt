@@ -20,17 +20,16 @@ use Rattle.cones.specs.Reach.{reachOf, reach}
 use Rattle.tables.specs.Values.{table-same}
 use Rattle.copies.specs.Lists.{copiesIn}
 use Rattle.copies.specs.ListLaws.{length-copiesIn}
-use Rattle.cone.specs.Told.{Walk}
+use Rattle.cone.specs.Told.{numberOf, Walk}
 use Rattle.cone.specs.ToldLaws.{cone-cut}
 use Rattle.conetable.specs.Words.{TableOver}
-use Rattle.cone.specs.declared.Told.the-variants.{Cut, NoCut}
 use Rattle.cone.specs.declared.Cone.{Cone}
 use Rattle.luts.specs.Luts.{LutTable, LutTried, Row, GateTable, Tabulates, Tabulated}
 use Rattle.luts.specs.declared.Tried.{Tried}
 
 module _ {I G : ℕ} {ps so co ts ln lb : List ℕ} {n g : ℕ} {c : Cone} (w : Walk I G ps so co ln lb n g c) where
   -- the walk's cone gives the table
-  lut-cut : {r : ℕ} → c .verdict ≡ Cut → TableOver I G ps so co ts (copiesIn ln lb n) (copiesIn (c .nodes) (c .backs) (c .len)) (I + g) r → LutTable I G ps so co ts (copiesIn ln lb n) g r
+  lut-cut : {r : ℕ} → numberOf (c .verdict) ≡ 0 → TableOver I G ps so co ts (copiesIn ln lb n) (copiesIn (c .nodes) (c .backs) (c .len)) (I + g) r → LutTable I G ps so co ts (copiesIn ln lb n) g r
   lut-cut e t = record {
     table = λ N d b R A k J.
         let i = w .cone e N d in
@@ -40,11 +39,11 @@ module _ {I G : ℕ} {ps so co ts ln lb : List ℕ} {n g : ℕ} {c : Cone} (w : 
   }
 
   -- no cut has these leaves
-  pub tried-none : {t : ℕ} → c .verdict ≡ NoCut → LutTried I G ps so co ts (copiesIn ln lb n) g (record { none = true; table = t })
+  pub tried-none : {t : ℕ} → numberOf (c .verdict) ≡ 14 → LutTried I G ps so co ts (copiesIn ln lb n) g (record { none = true; table = t })
   tried-none e = record { cut = λ q. absurd (true≢false q); table = λ q. absurd (true≢false q); none = λ q N d R k. w .none e N d R k }
 
   -- they are one
-  pub tried-cut : {t : ℕ} → c .verdict ≡ Cut → TableOver I G ps so co ts (copiesIn ln lb n) (copiesIn (c .nodes) (c .backs) (c .len)) (I + g) t
+  pub tried-cut : {t : ℕ} → numberOf (c .verdict) ≡ 0 → TableOver I G ps so co ts (copiesIn ln lb n) (copiesIn (c .nodes) (c .backs) (c .len)) (I + g) t
       → LutTried I G ps so co ts (copiesIn ln lb n) g (record { none = false; table = t })
   tried-cut e t = record {
     cut = λ q N d rising k h. cone-cut w e N k d rising (let l = length-copiesIn ln lb n in omega arith);

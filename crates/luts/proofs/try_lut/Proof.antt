@@ -1,4 +1,6 @@
 -- `luts::try_lut` meets its contract: the walk's cone gives the cut and its table, or no cut has these leaves.
+use mathlib.Core.Path.{ap}
+use Rattle.cone.specs.Told.{numberOf}
 use Rattle.conetable.specs.WordsLaws.{cone-given}
 use Rattle.luts.specs.LutLaws.{tried-none, tried-cut}
 use borrow.Author.Needs.{needs}
@@ -19,7 +21,7 @@ enum-told c = search needs
 
 -- src/lib.rt:46:9
 returns : tie.Need-returns
-returns c = tried-none (c .before .before .walk .ensures) (c .enum-told .given .1)
+returns c = tried-none (c .before .before .walk .ensures) (ap numberOf (c .enum-told .given .1))
 
 enum-told-2 : tie.Need-enum-told-2
 enum-told-2 c = search needs
@@ -28,11 +30,11 @@ enum-told-2 c = search needs
 table-requires : tie.Need-table-requires
 table-requires c κs =
     let p = c .before .before .before .before .before .before .before .before .before .pre in
-    (cone-given (c .before .before .walk .ensures) (c .enum-told2 .given .1) (p .0) (p .1) (p .2) (p .3) (p .4), p .5)
+    (cone-given (c .before .before .walk .ensures) (ap numberOf (c .enum-told2 .given .1)) (p .0) (p .1) (p .2) (p .3) (p .4), p .5)
 
 -- src/lib.rt:18:1
 returns-2 : tie.Need-returns-2
-returns-2 c = tried-cut (c .before .before .before .walk .ensures) (c .before .enum-told2 .given .1) (c .table .ensures)
+returns-2 c = tried-cut (c .before .before .before .walk .ensures) (ap numberOf (c .before .enum-told2 .given .1)) (c .table .ensures)
 
 pub try-lut-spec : {M : Type 1} → statement M
 try-lut-spec =
