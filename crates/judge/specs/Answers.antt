@@ -10,7 +10,7 @@ abbrev pub answerOf : declared.Grade → Answer
 answerOf (Excess n) = accepted n
 answerOf (Refused n) = turnedBack n
 
--- an excess is below 32, a refusal's number is a byte
+-- an excess is at most 32, a refusal's number is a byte
 abbrev pub InRange : Answer → Type 0
 InRange (accepted n) = n ≤ mostPeriod
 InRange (turnedBack n) = n < 256

@@ -1,7 +1,7 @@
 -- Definitions: an answer as one whole number: the record's length or the excess, or minus the refusal's number.
 use mathlib.Core.Path.{_≡_, sym, ap, _∙_}
 use Prim.Native.Nat.{ℕ}
-use lib.IntN.{ℤ, pos, _-ℤ_}
+use lib.IntN.{ℤ, pos, _+ℤ_, _-ℤ_}
 use Rattle.records.specs.Outcomes.{Answer, accepted, turnedBack}
 
 abbrev pub coded : Answer → ℤ

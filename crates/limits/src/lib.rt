@@ -2,7 +2,7 @@
 // specs/Limits.antt has the same numbers as definitions; `agree` is proved, so the two cannot part.
 ghost use mathlib.Core.Path.{_≡_};
 ghost use Prim.Native.Nat.{_≤_};
-ghost use Rattle.limits.specs.Limits.{mostInputs, mostGates, mostOutputs, leastK, mostK, mostCount, mostPeriod, mostLuts, coverArea, scratchArea, mostPins, mostItems, mostNodes, mostPlaces, mostLeaves, mostCopies, mostReach, mostBeyond, mostTable, mostList, textRoom, refusalRoom, lineRoom};
+ghost use Rattle.limits.specs.Limits.{mostInputs, mostGates, mostOutputs, leastK, mostK, mostCount, mostPeriod, mostLuts, coverArea, scratchArea, mostPins, mostItems, mostNodes, mostPlaces, mostLeaves, mostCopies, mostReach, mostBeyond, mostTable, mostList, textRoom, refusalRoom, lineRoom, inputRoom};
 
 pub const INPUTS: usize = 16;
 
@@ -44,6 +44,8 @@ pub const BEYOND: usize = COUNT + 1;
 pub const TABLE: usize = NODES * (REACH + BEYOND);
 
 pub const LIST: usize = TABLE + 1;
+
+pub const INPUT: usize = 65536;
 
 pub const TEXT: usize = 12288;
 
@@ -89,6 +91,7 @@ pub struct Limits {
     pub text: usize,
     pub answer: usize,
     pub line: usize,
+    pub input: usize,
 }
 
 // The constants are the definitions.
@@ -116,6 +119,7 @@ pub fn agree() -> Limits
     ensures text { λ r. ⌜ r .text ≡ textRoom ⌝ }
     ensures answer { λ r. ⌜ refusalRoom ≤ r .answer ⌝ }
     ensures line { λ r. ⌜ r .line ≡ lineRoom ⌝ }
+    ensures input { λ r. ⌜ r .input ≡ inputRoom ⌝ }
 {
     Limits {
         inputs: INPUTS,
@@ -141,5 +145,6 @@ pub fn agree() -> Limits
         text: TEXT,
         answer: ANSWER,
         line: LINE,
+        input: INPUT,
     }
 }

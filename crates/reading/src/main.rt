@@ -1,4 +1,5 @@
 // The reader's gate: reads a batch of cases from standard input, and prints the reader's answer to each on a line.
+use limits::INPUT;
 use limits::LINE;
 use readings::case_end;
 use readings::write_case;
@@ -18,7 +19,7 @@ fn print_case(input: &[u8], at: usize) -> usize
 }
 
 fn main() {
-    let mut input = io::large_buffer();
+    let mut input = [0u8; INPUT];
     let n = io::read_full(0, &mut input);
     let mut at = 0;
     while at < n {
