@@ -59,12 +59,13 @@ grade-parts-requires : tie.Need-grade-parts-requires
 grade-parts-requires c κs = search needs
 
 -- src/lib.rt:56:1
-same-length : tie.Need-same-length
-same-length c = search needs
-
--- src/lib.rt:56:1
 returns : tie.Need-returns
-returns c = let l = now (c .before .before .before .before .before .before .before .before .before .before .before .before .args .input) in wrote-as (graded-parts l _ _ _ _ _ _ (c .before .before .before .before .before .before .before .before .before .byte-at .ensures .0) (c .before .before .before .before .before .before .before .before .net-length .ensures) (c .before .before .before .before .before .before .before .place-behind .ensures) (c .before .before .before .before .before .before .place-behind2 .ensures) refl (behind l (c .before .before .before .before .before .before .place-behind2 .result))) (c .before .before .grade-parts .ensures)
+returns c =
+    let l = now (c .before .before .before .before .before .before .before .before .before .args .input) in
+    let end = c .before .before .before .before .place-behind2 in
+    wrote-as
+    (graded-parts l _ _ _ _ _ _ (c .before .before .before .before .before .before .before .byte-at .ensures .0) (c .before .before .before .before .before .before .net-length .ensures) (c .before .before .before .before .before .place-behind .ensures) (end .ensures) refl
+    (behind l (end .result))) (c .grade-parts .ensures)
 
 pub grade-spec : {M : Type 1} → statement M
 grade-spec =
@@ -81,5 +82,4 @@ grade-spec =
     part-grade-parts-start-2
     part-grade-parts-end-2
     grade-parts-requires
-    same-length
     returns)

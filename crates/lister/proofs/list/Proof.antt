@@ -42,12 +42,11 @@ list-parts-requires : tie.Need-list-parts-requires
 list-parts-requires c κs = search needs
 
 -- src/lib.rt:134:1
-same-length : tie.Need-same-length
-same-length c = search needs
-
--- src/lib.rt:134:1
 returns : tie.Need-returns
-returns c = wrote-as (listed-parts (now (c .before .before .before .before .before .before .before .before .before .before .args .input)) _ _ _ (c .before .before .before .before .before .before .before .byte-at .ensures .0) (c .before .before .before .before .before .before .byte-at2 .ensures .0) (behind (now (c .before .before .before .before .before .before .before .before .before .before .args .input)) (c .before .before .before .before .before .net-place .result) ∙ c .before .before .before .before .before .net-place .ensures .1)) (c .before .before .list-parts .ensures)
+returns c =
+    let l = now (c .before .before .before .before .before .before .before .args .input) in
+    let place = c .before .before .before .net-place in
+    wrote-as (listed-parts l _ _ _ (c .before .before .before .before .before .byte-at .ensures .0) (c .before .before .before .before .byte-at2 .ensures .0) (behind l (place .result) ∙ place .ensures .1)) (c .list-parts .ensures)
 
 pub list-spec : {M : Type 1} → statement M
 list-spec =
@@ -60,5 +59,4 @@ list-spec =
     part-list-parts-start
     part-list-parts-end
     list-parts-requires
-    same-length
     returns)

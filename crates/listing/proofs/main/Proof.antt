@@ -8,14 +8,9 @@ use Rattle.listing.proofs.main.Statement.{statement}
 use Rattle.listing.proofs.main.Tie as tie
 use Rattle.listing.proofs.main.Reads as reads
 use Rattle.listing.proofs.main.Lts as lts
-use Rattle.io.proofs.large_buffer.Reads as large-buffer-reads
 use Rattle.io.proofs.read_full.Reads as read-full-reads
 use Rattle.io.proofs.write_all.Reads as write-all-reads
 use Rattle.lister.proofs.list.Reads as list-reads
-
--- src/main.rt:5:21
-large-buffer-requires : tie.Need-large-buffer-requires
-large-buffer-requires c κs = search needs
 
 -- src/main.rt:6:30
 slice-aggregate-read-full : tie.Need-slice-aggregate-read-full
@@ -33,21 +28,17 @@ array-share-prefix-input c = search needs
 slice-aggregate-list : tie.Need-slice-aggregate-list
 slice-aggregate-list c = search needs
 
--- src/main.rt:8:31
-slice-aggregate-list-2 : tie.Need-slice-aggregate-list-2
-slice-aggregate-list-2 c = search needs
-
 -- src/main.rt:8:9
 list-requires : tie.Need-list-requires
 list-requires c κs = search needs
 
 -- src/main.rt:9:22
 array-share-prefix-out : tie.Need-array-share-prefix-out
-array-share-prefix-out c = let h = wrote-within (c .before .list .ensures) in let e = c .before .list .kept .1 .0 in omega arith
+array-share-prefix-out c = let h = wrote-within (c .list .ensures) in omega arith
 
 -- src/main.rt:9:22
 slice-aggregate-write-all : tie.Need-slice-aggregate-write-all
-slice-aggregate-write-all c = sym (length-take-le (c .before .before .list .result) (c .before .before .list .last .1 .0) (wrote-within (c .before .before .list .ensures)))
+slice-aggregate-write-all c = sym (length-take-le (c .before .list .result) (c .before .list .last .1 .0) (wrote-within (c .before .list .ensures)))
 
 -- src/main.rt:9:5
 write-all-requires : tie.Need-write-all-requires
@@ -61,12 +52,10 @@ pub main-spec : {M : Type 1} → statement M
 main-spec =
     tie.close
     (tie.spec
-    large-buffer-requires
     slice-aggregate-read-full
     read-full-requires
     array-share-prefix-input
     slice-aggregate-list
-    slice-aggregate-list-2
     list-requires
     array-share-prefix-out
     slice-aggregate-write-all

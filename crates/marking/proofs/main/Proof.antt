@@ -8,14 +8,9 @@ use Rattle.marking.proofs.main.Statement.{statement}
 use Rattle.marking.proofs.main.Tie as tie
 use Rattle.marking.proofs.main.Reads as reads
 use Rattle.marking.proofs.main.Lts as lts
-use Rattle.io.proofs.large_buffer.Reads as large-buffer-reads
 use Rattle.io.proofs.read_full.Reads as read-full-reads
 use Rattle.io.proofs.write_all.Reads as write-all-reads
 use Rattle.grader.proofs.grade.Reads as grade-reads
-
--- src/main.rt:5:21
-large-buffer-requires : tie.Need-large-buffer-requires
-large-buffer-requires c κs = search needs
 
 -- src/main.rt:6:30
 slice-aggregate-read-full : tie.Need-slice-aggregate-read-full
@@ -33,21 +28,17 @@ array-share-prefix-input c = search needs
 slice-aggregate-grade : tie.Need-slice-aggregate-grade
 slice-aggregate-grade c = search needs
 
--- src/main.rt:8:31
-slice-aggregate-grade-2 : tie.Need-slice-aggregate-grade-2
-slice-aggregate-grade-2 c = search needs
-
 -- src/main.rt:8:9
 grade-requires : tie.Need-grade-requires
 grade-requires c κs = search needs
 
 -- src/main.rt:9:22
 array-share-prefix-out : tie.Need-array-share-prefix-out
-array-share-prefix-out c = let h = wrote-within (c .before .grade .ensures) in let e = c .before .grade .kept .1 .0 in omega arith
+array-share-prefix-out c = let h = wrote-within (c .grade .ensures) in omega arith
 
 -- src/main.rt:9:22
 slice-aggregate-write-all : tie.Need-slice-aggregate-write-all
-slice-aggregate-write-all c = sym (length-take-le (c .before .before .grade .result) (c .before .before .grade .last .1 .0) (wrote-within (c .before .before .grade .ensures)))
+slice-aggregate-write-all c = sym (length-take-le (c .before .grade .result) (c .before .grade .last .1 .0) (wrote-within (c .before .grade .ensures)))
 
 -- src/main.rt:9:5
 write-all-requires : tie.Need-write-all-requires
@@ -61,12 +52,10 @@ pub main-spec : {M : Type 1} → statement M
 main-spec =
     tie.close
     (tie.spec
-    large-buffer-requires
     slice-aggregate-read-full
     read-full-requires
     array-share-prefix-input
     slice-aggregate-grade
-    slice-aggregate-grade-2
     grade-requires
     array-share-prefix-out
     slice-aggregate-write-all

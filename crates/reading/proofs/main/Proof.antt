@@ -6,7 +6,6 @@ use Rattle.reading.proofs.main.Statement.{statement}
 use Rattle.reading.proofs.main.Tie as tie
 use Rattle.reading.proofs.main.Reads as reads
 use Rattle.reading.proofs.main.Lts as lts
-use Rattle.io.proofs.large_buffer.Reads as large-buffer-reads
 use Rattle.io.proofs.read_full.Reads as read-full-reads
 use Rattle.reading.proofs.print_case.Reads as print-case-reads
 
@@ -15,10 +14,6 @@ Inv-loop input n at₀ at = (at ≤ n) × (n ≤ length input)
 
 abbrev μ-loop : tie.MeasureT-loop
 μ-loop input n at₀ at = n - at
-
--- src/main.rt:20:21
-large-buffer-requires : tie.Need-large-buffer-requires Inv-loop μ-loop
-large-buffer-requires c κs = search needs
 
 -- src/main.rt:21:30
 slice-aggregate-read-full : tie.Need-slice-aggregate-read-full Inv-loop μ-loop
@@ -62,7 +57,6 @@ main-spec =
     (tie.spec
     Inv-loop
     μ-loop
-    large-buffer-requires
     slice-aggregate-read-full
     read-full-requires
     loop-holds
