@@ -84,7 +84,7 @@ write-cover-requires : tie.Need-write-cover-requires
 write-cover-requires c κs =
     let k = c .before .before .before .before .before .before .before .before .before .before .before .before .before .before .before .before .settle .kept in
     let u = cover-settled (c .before .before .before .before .before .before .before .before .before .before .before .before .before .before .before .before .settle .ensures) (omega (arith, c .before .before .before .before .before .before .before .if1 .left)) in
-    cover-writable (c .before .before .before .before .before .before .before .before .before .before .before .before .before .before .before .before .before .before .before .before .before .before .before .before .before .before .pre .settling) refl refl (record { atLabels = k .1 .1 .1 .1 .0; atMarks = k .1 .1 .1 .1 .1 .0; atSizes = k .1 .1 .1 .1 .1 .1 .0; atNodes = k .1 .1 .1 .1 .1 .1 .1 .0; atBacks = k .1 .1 .1 .1 .1 .1 .1 .1 .0; atTables = k .1 .1 .1 .1 .1 .1 .1 .1 .1 .0 }) (u .passed) (u .cover) _ (omega (arith, c .before .before .before .before .before .before .before .before .before .before .before .before .before .before .before .before .before .before .before .before .before .before .before .before .before .before .pre .room, c .before .before .before .before .before .before .before .before .before .before .before .before .before .before .before .before .before .before .before .before .before .before .before .before .before .before .pre .space, k .1 .1 .1 .0))
+    cover-writable (c .before .before .before .before .before .before .before .before .before .before .before .before .before .before .before .before .before .before .before .before .before .before .before .before .before .before .pre .settling) refl refl (record { atLabels = k .1 .1 .1 .1 .0; atMarks = k .1 .1 .1 .1 .1 .0; atSizes = k .1 .1 .1 .1 .1 .1 .0; atNodes = k .1 .1 .1 .1 .1 .1 .1 .0; atBacks = k .1 .1 .1 .1 .1 .1 .1 .1 .0; atTables = k .1 .1 .1 .1 .1 .1 .1 .1 .1 .0 }) (u .passed) (u .cover) _ (c .before .before .before .before .before .before .before .before .before .before .before .before .before .before .before .before .before .before .before .before .before .before .before .before .before .before .pre .room)
 
 -- src/lib.rt:58:1
 same-length-2 : tie.Need-same-length-2
