@@ -9,7 +9,7 @@ run: programs
 
 # The proved programs, in target/bin. rt proves again what changed, and is quick where nothing did;
 # .ci/progress says on standard error which crates were proved and how many are left.
-PROGRAMS = listing marking reading
+PROGRAMS = listing marking reading classes
 programs:
 	@.ci/progress .rt-programs.log check $(PROGRAMS)
 

@@ -1,4 +1,5 @@
-/* Kamfelu: LUT covers with moved registers. docs/FORMATS.md explains net records and cover records. */
+/* Kamfelu: LUT covers with moved registers; classes of three-input LUTs. docs/FORMATS.md explains net records and cover
+   records. */
 #ifndef KAMFELU_H
 #define KAMFELU_H
 
@@ -11,7 +12,8 @@ extern "C" {
 
 /* What holds for all functions:
 
-   - An answer below 0 is minus the number of a refusal, and nothing is assumed of the contents of any argument.
+   - An answer below 0 is minus the number of a refusal; kamfelu_class refuses nothing. Nothing is assumed of the
+     contents of any argument.
    - Each pointer points to as many bytes as the length behind it says, for the whole call. A pointer may be NULL where
      its length is 0.
    - Areas that are written (cover, scratch) overlap no other area, and no other thread uses them during the call. Net
@@ -77,6 +79,12 @@ int64_t kamfelu_map(const uint8_t *net, size_t net_length, uint32_t k, uint32_t 
    k. */
 int64_t kamfelu_mark(const uint8_t *net, size_t net_length, uint32_t k, const uint8_t *record, size_t record_length,
                      uint8_t *scratch, size_t scratch_length);
+
+/* Class: the smallest table that a table of three leaves can be turned into by reordering leaves, inverting leaves and
+   inverting the output. Bit i of a table is its value where leaf j carries bit j of i.
+
+   Tables have the same class exactly when one can be turned into the other. There are 14 classes. */
+uint8_t kamfelu_class(uint8_t table);
 
 #ifdef __cplusplus
 }

@@ -1,4 +1,5 @@
--- **The certificate**: one field for each sentence of the three demands, in their words, over every call there can be; `certificate` is its inhabitant.
+-- **The certificate**: one field for each sentence of the three demands and of the requests that landed, in their words, over every call there can be; `certificate` is its
+-- inhabitant.
 -- The contracts of `mapper: map` and `marker: mark` equate what the programs do, for all arguments, with `mapOutcome` and `markOutcome`; so the fields hold of the programs.
 use mathlib.Core.Path.{_≡_}
 use mathlib.Core.Bool.{Bool}
@@ -15,6 +16,10 @@ use Rattle.covers.specs.Key.{Key, entries, asCover}
 use Rattle.covers.specs.Written.{noEntry}
 use Rattle.records.specs.CoverBytes.{Record, coverBytes}
 use Rattle.records.specs.Outcomes.{accepted, turnedBack, cleared, written}
+use Rattle.lutclass.specs.ClassTable.{ClassTable, shipped}
+use Rattle.lutclass.specs.TableLaws.{class-table}
+use Rattle.classtext.specs.ClassText.{numberLines, classText}
+use Rattle.classtext.specs.ClassTextLaws.{prints-shipped}
 use Rattle.demands.specs.TurnedBack.{IsNet, IsRecord, First, OfMap, OfMark}
 use Rattle.demands.specs.Calls.{MapCall, MarkCall, mapDone, markDone, MapBad, MarkBad, MapNet, MarkNet, Asked}
 use Rattle.demands.specs.MapEnds.{map-range}
@@ -66,6 +71,10 @@ pub record Certificate : Type 0 where
   -- "With target 0 the period written is met and no cover meets a smaller one."
   pub least : (c : MapCall) (N : Net) → MapNet c N → c .target ≡ 0
       → (φ n : ℕ) × ((mapDone c) .answer ≡ accepted n) × Wrote N (c .k) φ (c .area) ((mapDone c) .area) n × LeastPeriod N (c .k) φ
+  -- ---- Document 02, E12. "Every entry must be reachable and none smaller, and two functions share an entry exactly when one can be turned into the other. There are 14
+  -- different entries. The shipped table equals the generator's output."
+  pub classes : ClassTable shipped
+  pub generator : classText ≡ numberLines shipped
 
 -- **All of it is proved.**
 pub certificate : Certificate
@@ -90,4 +99,6 @@ certificate = record {
   unreachable = law.unreached;
   meets = law.met-at;
   least = law.least-at;
+  classes = class-table;
+  generator = prints-shipped;
 }

@@ -45,7 +45,7 @@ fn digit_byte(d: usize) -> u8
 }
 
 // A number in decimal: the last digit behind the others.
-fn put_decimal(n: usize, at: usize, out: &mut [u8]) -> usize
+pub fn put_decimal(n: usize, at: usize, out: &mut [u8]) -> usize
     requires { ⌜ at + 20 ≤ length (now out) ⌝ }
     ensures { λ r. ⌜ Put 20 at (decimal n) (now (out .entry)) (now (out .exit)) r ⌝ }
 {

@@ -1,11 +1,15 @@
-// The library for other programs: map and mark, each with one number for its answer.
+// The library for other programs: map and mark, each with one number for its answer, and the classes of three-input tables.
 use judge::Grade;
+use lutclass::class_of;
 use mapper::map;
 use marker::mark;
 use netmap::Answer;
 use signed::minus;
 use signed::whole;
 ghost use mathlib.Core.Path.{_≡_};
+ghost use lib.ListN.{getD};
+ghost use Rattle.lutclass.specs.Classes.{IsClass};
+ghost use Rattle.lutclass.specs.ClassTable.{shipped};
 ghost use Rattle.records.specs.Outcomes.{mapOutcome, markOutcome};
 ghost use Rattle.kamfelu.specs.Coded.{coded};
 
@@ -40,4 +44,13 @@ pub extern "C" fn kamfelu_mark(net: &[u8], k: u32, cover: &[u8], scratch: &mut [
         Grade::Excess(n) => whole(n),
         Grade::Refused(n) => minus(0, n as usize),
     }
+}
+
+// The smallest table that a table of three leaves can be turned into: its entry in the table of classes.
+#[no_mangle]
+pub extern "C" fn kamfelu_class(table: u8) -> u8
+    ensures entry { λ r. ⌜ r ≡ getD shipped table 0 ⌝ }
+    ensures class { λ r. ⌜ IsClass table r ⌝ }
+{
+    class_of(table)
 }

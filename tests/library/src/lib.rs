@@ -29,6 +29,8 @@ extern "C" {
         scratch: *mut u8,
         scratch_len: usize,
     ) -> i64;
+
+    fn kamfelu_class(table: u8) -> u8;
 }
 
 /// The record's length, or the refusal's number.
@@ -68,6 +70,12 @@ pub fn mark(net: &[u8], k: u32, record: &[u8], scratch: &mut [u8]) -> Result<usi
             scratch.len(),
         )
     })
+}
+
+/// The smallest table that a three-input table can be turned into.
+pub fn class(table: u8) -> u8 {
+    // SAFETY: a number in and a number out.
+    unsafe { kamfelu_class(table) }
 }
 
 /// A negative answer is a refusal.

@@ -4,7 +4,11 @@
 use std::path::{Path, PathBuf};
 use std::process::Command;
 
-const PRINTED: &str = "map: 16 bytes, period 2\nmark: excess 1\n";
+/// The examples, and what each prints.
+const PRINTED: [(&str, &str); 2] = [
+    ("map_and_mark", "map: 16 bytes, period 2\nmark: excess 1\n"),
+    ("class", "class of 232: 23\n"),
+];
 
 fn root() -> PathBuf {
     Path::new(env!("CARGO_MANIFEST_DIR")).join("../..")
@@ -32,8 +36,10 @@ fn printed_from_c(source: &str, name: &str) -> String {
 
 #[test]
 fn from_c() {
-    let text = printed_from_c("examples/map_and_mark.c", "map_and_mark_c");
-    assert_eq!(text, PRINTED);
+    for (name, text) in PRINTED {
+        let source = format!("examples/{name}.c");
+        assert_eq!(printed_from_c(&source, &format!("{name}_c")), text);
+    }
 }
 
 #[test]
@@ -44,10 +50,17 @@ fn null_pointers() {
 
 #[test]
 fn from_rust() {
-    let program = Path::new(env!("CARGO_TARGET_TMPDIR")).join("map_and_mark_rust");
-    let mut compile = Command::new("rustc");
-    compile
-        .args(["examples/map_and_mark.rs", "-L", "target/staticlib", "-o"])
-        .arg(&program);
-    assert_eq!(printed(&mut compile, &program), PRINTED);
+    for (name, text) in PRINTED {
+        let program = Path::new(env!("CARGO_TARGET_TMPDIR")).join(format!("{name}_rust"));
+        let mut compile = Command::new("rustc");
+        compile
+            .args([
+                &format!("examples/{name}.rs"),
+                "-L",
+                "target/staticlib",
+                "-o",
+            ])
+            .arg(&program);
+        assert_eq!(printed(&mut compile, &program), text);
+    }
 }

@@ -7,6 +7,7 @@
 //! On nets with too many cuts it gives up and says so.
 
 pub mod bytes;
+pub mod classes;
 pub mod cone;
 pub mod cover;
 pub mod cuts;
@@ -23,6 +24,7 @@ pub mod random;
 pub mod run;
 pub mod solve;
 
+pub use classes::class_table;
 pub use cone::{cone_of, lut_table};
 pub use cover::{read_record, write_record, Cover, Lut};
 pub use cuts::{all_cuts, all_cuts_within, Cut, CutSets, Limits};

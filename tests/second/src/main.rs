@@ -1,10 +1,10 @@
-//! `second listing`, `second map`, `second mark` and `second reading` over standard input
-//! and output.
+//! `second listing`, `second map`, `second mark`, `second reading` and `second classes` over
+//! standard input and output.
 //!
 //! Exit codes: 0 also for refusals, 2 for a wrong call, 3 where it gave up.
 
 use second::listing::GAVE_UP;
-use second::programs::{listing, map, mark, reading};
+use second::programs::{classes, listing, map, mark, reading};
 use std::io::{Read, Write};
 use std::process::ExitCode;
 
@@ -15,8 +15,9 @@ fn main() -> ExitCode {
         [verb] if verb == "map" => map,
         [verb] if verb == "mark" => mark,
         [verb] if verb == "reading" => reading,
+        [verb] if verb == "classes" => classes,
         _ => {
-            eprintln!("usage: second listing | map | mark | reading");
+            eprintln!("usage: second listing | map | mark | reading | classes");
             return ExitCode::from(2);
         }
     };

@@ -1,5 +1,6 @@
 //! What the programs print for the bytes they are given.
 
+use crate::classes::class_table;
 use crate::jobs::{self, Answer, COVER_BYTES, SCRATCH_BYTES};
 use crate::listing::{self, refused, GAVE_UP};
 use crate::net::parse_net;
@@ -68,4 +69,10 @@ pub fn reading(given: &[u8]) -> Vec<u8> {
         left = behind;
     }
     text.into_bytes()
+}
+
+/// The table of classes, an entry a line; nothing is read.
+pub fn classes(_given: &[u8]) -> Vec<u8> {
+    let lines = class_table().map(|entry| format!("{entry}\n"));
+    lines.concat().into_bytes()
 }

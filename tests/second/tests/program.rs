@@ -91,3 +91,11 @@ fn too_many_cuts() {
     assert_eq!(second("listing", &given), (b"gave up\n".to_vec(), 3));
     assert_eq!(second("map", &given), (b"gave up\n".to_vec(), 3));
 }
+
+#[test]
+fn classes() {
+    let printed = text("classes", &[]);
+    assert!(printed.starts_with("0\n1\n1\n3\n1\n3\n6\n7\n1\n6\n"));
+    assert!(printed.ends_with("\n3\n1\n1\n0\n"));
+    assert_eq!(printed.lines().count(), 256);
+}
