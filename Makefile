@@ -23,9 +23,10 @@ library:
 	@.ci/progress .rt-library.log check kamfelu
 	@.ci/progress .rt-library.log staticlib kamfelu
 
-# Times of map, mark and the second mapper on the same nets, and ABC's periods where it is installed.
+# Times of map, mark and the second mapper on the same nets, and ABC's periods where it is installed; then of align and a plain loop.
 bench: library
 	cd tests && cargo run --profile timing --offline --quiet -p library --bin bench
+	cd tests && cargo run --profile timing --offline --quiet -p library --bin bench_align
 
 # The deepest stack use seen.
 depth: library

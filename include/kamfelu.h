@@ -1,5 +1,5 @@
-/* Kamfelu: LUT covers with moved registers; classes of three-input LUTs. docs/FORMATS.md explains net records and cover
-   records. */
+/* Kamfelu: LUT covers with moved registers; classes of three-input LUTs; captures of running units. docs/FORMATS.md
+   explains net records and cover records. */
 #ifndef KAMFELU_H
 #define KAMFELU_H
 
@@ -22,8 +22,8 @@ extern "C" {
      ask for it.
    - The library keeps nothing between calls; calls on different areas may run at the same time.
 
-   Refusals. Map checks 1 to 12, mark 1, 3 to 11 and 13 to 18; the first that fails is told, of 4 to 8 the first met in
-   one walk over the net's bytes.
+   Refusals. Map checks 1 to 12, mark 1, 3 to 11 and 13 to 18, align 23; the first that fails is told, of 4 to 8 the
+   first met in one walk over the net's bytes.
 
     1  k is not 2 to 6.
     2  The target is above 32.
@@ -48,7 +48,8 @@ extern "C" {
    15  The table of some LUT is wrong.
    16  A gate that a leaf or an output reads has no LUT.
    17  Some connection has fewer than 0 registers.
-   18  Some chain of LUTs without a register between them is longer than the period. */
+   18  Some chain of LUTs without a register between them is longer than the period.
+   23  A capture has more than 4,096 words (align only). */
 
 /* Map: a cover of a net for LUTs with k inputs that meets the target, or the least period for target 0.
 
@@ -85,6 +86,17 @@ int64_t kamfelu_mark(const uint8_t *net, size_t net_length, uint32_t k, const ui
 
    Tables have the same class exactly when one can be turned into the other. There are 14 classes. */
 uint8_t kamfelu_class(uint8_t table);
+
+/* Align: two captures of one unit's outputs, one word a step, each begun at its own moment: by how many steps the second
+   began after the first.
+
+   first    words, at most 4,096, else refusal 23
+   second   words, at most 4,096, else refusal 23
+
+   Returns the smallest shift from 0 to 255 at which at least 16 steps overlap and all overlapping words agree, where
+   word i of the second is held against word i + shift of the first; 256 if there is none; or -23. Lengths are in words.
+   A capture without words may be NULL. Both are only read, and may overlap. No scratch is needed. */
+int64_t kamfelu_align(const uint16_t *first, size_t first_length, const uint16_t *second, size_t second_length);
 
 #ifdef __cplusplus
 }

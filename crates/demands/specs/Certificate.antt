@@ -20,6 +20,8 @@ use Rattle.lutclass.specs.ClassTable.{ClassTable, shipped}
 use Rattle.lutclass.specs.TableLaws.{class-table}
 use Rattle.classtext.specs.ClassText.{numberLines, classText}
 use Rattle.classtext.specs.ClassTextLaws.{prints-shipped}
+use Rattle.captures.specs.AlignTold.{AlignTold}
+use Rattle.captures.specs.CaptureLaws.{align-told}
 use Rattle.demands.specs.TurnedBack.{IsNet, IsRecord, First, OfMap, OfMark}
 use Rattle.demands.specs.Calls.{MapCall, MarkCall, mapDone, markDone, MapBad, MarkBad, MapNet, MarkNet, Asked}
 use Rattle.demands.specs.MapEnds.{map-range}
@@ -75,6 +77,8 @@ pub record Certificate : Type 0 where
   -- different entries. The shipped table equals the generator's output."
   pub classes : ClassTable shipped
   pub generator : classText ≡ numberLines shipped
+  -- ---- Document 02, E10: two captures of one unit; AlignTold has its sentences
+  pub captures : (first second : List ℕ) → AlignTold first second
 
 -- **All of it is proved.**
 pub certificate : Certificate
@@ -101,4 +105,5 @@ certificate = record {
   least = law.least-at;
   classes = class-table;
   generator = prints-shipped;
+  captures = align-told;
 }

@@ -1,12 +1,20 @@
--- Definitions: an answer as one whole number: the record's length or the excess, or minus the refusal's number.
+-- Definitions: an answer as one whole number: the record's length, the excess or the shift, or minus the refusal's number.
 use mathlib.Core.Path.{_≡_, sym, ap, _∙_}
 use Prim.Native.Nat.{ℕ}
 use lib.IntN.{ℤ, pos, _+ℤ_, _-ℤ_}
 use Rattle.records.specs.Outcomes.{Answer, accepted, turnedBack}
+use Rattle.captures.specs.Captures.{noShift}
+use Rattle.captures.specs.AlignOutcome.{Aligned, shifted, none, refused}
 
 abbrev pub coded : Answer → ℤ
 coded (accepted n) = pos n
 coded (turnedBack n) = pos 0 -ℤ pos n
+
+-- E10's: the shift, 256 for none
+abbrev pub codedShift : Aligned → ℤ
+codedShift (shifted s) = pos s
+codedShift none = pos noShift
+codedShift (refused n) = pos 0 -ℤ pos n
 
 -- the code of an equal answer
 pub coded-as : {a b : Answer} {r : ℤ} → a ≡ b → r ≡ coded b → r ≡ coded a

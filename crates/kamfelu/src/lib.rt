@@ -1,4 +1,7 @@
-// The library for other programs: map and mark, each with one number for its answer, and the classes of three-input tables.
+// The library for other programs: map, mark and align, each with one number for its answer, and the classes of three-input tables.
+use captures::Alignment;
+use captures::NO_SHIFT;
+use captures::align;
 use judge::Grade;
 use lutclass::class_of;
 use mapper::map;
@@ -11,7 +14,8 @@ ghost use lib.ListN.{getD};
 ghost use Rattle.lutclass.specs.Classes.{IsClass};
 ghost use Rattle.lutclass.specs.ClassTable.{shipped};
 ghost use Rattle.records.specs.Outcomes.{mapOutcome, markOutcome};
-ghost use Rattle.kamfelu.specs.Coded.{coded};
+ghost use Rattle.captures.specs.AlignOutcome.{alignOutcome};
+ghost use Rattle.kamfelu.specs.Coded.{coded, codedShift};
 
 // The record's length, or minus the number of the refusal.
 #[no_mangle]
@@ -53,4 +57,17 @@ pub extern "C" fn kamfelu_class(table: u8) -> u8
     ensures class { λ r. ⌜ IsClass table r ⌝ }
 {
     class_of(table)
+}
+
+// The shift, 256 for none, or minus the number of the refusal.
+#[no_mangle]
+pub extern "C" fn kamfelu_align(first: &[u16], second: &[u16]) -> i64
+    ensures { λ r. ⌜ r ≡ codedShift (alignOutcome (now (first .entry)) (now (second .entry))) ⌝ }
+{
+    let a = align(first, second);
+    match a {
+        Alignment::Shift(s) => whole(s),
+        Alignment::Nothing => whole(NO_SHIFT),
+        Alignment::Refused(n) => minus(0, n as usize),
+    }
 }

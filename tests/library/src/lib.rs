@@ -31,6 +31,12 @@ extern "C" {
     ) -> i64;
 
     fn kamfelu_class(table: u8) -> u8;
+    fn kamfelu_align(
+        first: *const u16,
+        first_len: usize,
+        second: *const u16,
+        second_len: usize,
+    ) -> i64;
 }
 
 /// The record's length, or the refusal's number.
@@ -76,6 +82,26 @@ pub fn mark(net: &[u8], k: u32, record: &[u8], scratch: &mut [u8]) -> Result<usi
 pub fn class(table: u8) -> u8 {
     // SAFETY: a number in and a number out.
     unsafe { kamfelu_class(table) }
+}
+
+/// The smallest shift of the second capture that fits, none, or the refusal's number.
+pub fn align(first: &[u16], second: &[u16]) -> Result<Option<u16>, u8> {
+    // SAFETY: each pointer goes with its slice's length, and both are only read.
+    let answer =
+        unsafe { kamfelu_align(first.as_ptr(), first.len(), second.as_ptr(), second.len()) };
+    told(answer).map(shift)
+}
+
+/// Empty captures as C may hand them over, without a place.
+pub fn align_nothing() -> Result<Option<u16>, u8> {
+    // SAFETY: no word is read of an empty capture.
+    told(unsafe { kamfelu_align(std::ptr::null(), 0, std::ptr::null(), 0) }).map(shift)
+}
+
+/// 256 stands for none.
+fn shift(number: usize) -> Option<u16> {
+    assert!(number <= 256, "a shift");
+    u8::try_from(number).ok().map(u16::from)
 }
 
 /// A negative answer is a refusal.

@@ -5,9 +5,10 @@ use std::path::{Path, PathBuf};
 use std::process::Command;
 
 /// The examples, and what each prints.
-const PRINTED: [(&str, &str); 2] = [
+const PRINTED: [(&str, &str); 3] = [
     ("map_and_mark", "map: 16 bytes, period 2\nmark: excess 1\n"),
     ("class", "class of 232: 23\n"),
+    ("align", "align: shift 3\n"),
 ];
 
 fn root() -> PathBuf {

@@ -4,8 +4,9 @@
 //! the two can be compared: all k-cuts of each gate are searched for, labels are
 //! the least fixed point over those cuts, the chosen cut is found by comparing all
 //! of them, and the least period by trying 1, 2, and so on. No flow is used.
-//! On nets with too many cuts it gives up and says so.
+//! On nets with too many cuts it gives up and says so. The jobs of document 02 have their own modules.
 
+pub mod align;
 pub mod bytes;
 pub mod classes;
 pub mod cone;
@@ -24,6 +25,7 @@ pub mod random;
 pub mod run;
 pub mod solve;
 
+pub use align::align;
 pub use classes::class_table;
 pub use cone::{cone_of, lut_table};
 pub use cover::{read_record, write_record, Cover, Lut};

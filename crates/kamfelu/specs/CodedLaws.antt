@@ -1,0 +1,14 @@
+-- Laws of answers as one whole number.
+use mathlib.Core.Path.{_≡_, sym, ap, subst, _∙_}
+use Prim.Native.Nat.{ℕ, _^_, _≤_, _<_}
+use lib.IntN.{ℤ}
+use lib.Signed.{mag}
+use mir.Syntax.{w64}
+use mir.Val.{SFits, toZ, ofZ}
+use Rattle.signed.specs.RangeLaws.{back, fits-of}
+use Rattle.captures.specs.AlignOutcome.{Aligned}
+use Rattle.kamfelu.specs.Coded.{codedShift}
+
+-- a stored number that is the code of E10's answer reads back as that code
+pub shift-back : {o a : Aligned} {r : ℤ} (m : ℕ) → o ≡ a → r ≡ codedShift a → m < 2 ^ 63 → mag (codedShift a) ≤ m → toZ w64 (ofZ w64 r) ≡ codedShift o
+shift-back {r = r} m e c l h = back r (subst (SFits w64) (sym c) (fits-of _ m l h)) ∙ c ∙ ap codedShift (sym e)
