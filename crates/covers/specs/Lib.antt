@@ -11,3 +11,6 @@ pub mod Satisfies
 pub mod KeyUnique
 pub mod Alone
 pub mod Routes
+pub mod SharedRegisters
+pub mod SharedLaws
+pub mod SharedCovers

@@ -29,6 +29,7 @@ use Rattle.demands.specs.MarkEnds.{mark-range}
 use Rattle.demands.specs.Demand2.{RightRecord}
 use Rattle.demands.specs.Demand3.{Wrote}
 use Rattle.demands.specs.CallLaws as law
+use Rattle.demands.specs.Registers.{SharedCount, shared-count}
 
 pub record Certificate : Type 0 where
   -- ---- Demand 1. "Every call ends": the prover shows it of every function. "Nothing is assumed of the caller": the fields speak of every call.
@@ -79,6 +80,8 @@ pub record Certificate : Type 0 where
   pub generator : classText ≡ numberLines shipped
   -- ---- Document 02, E10: two captures of one unit; AlignTold has its sentences
   pub captures : (first second : List ℕ) → AlignTold first second
+  -- ---- Document 02, E2: the register count, fields in `Registers`
+  pub shared : SharedCount
 
 -- **All of it is proved.**
 pub certificate : Certificate
@@ -106,4 +109,5 @@ certificate = record {
   classes = class-table;
   generator = prints-shipped;
   captures = align-told;
+  shared = shared-count;
 }

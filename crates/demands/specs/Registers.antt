@@ -1,35 +1,25 @@
--- The register count of the listing is the sum of the registers of the cover that the record describes: "Registers is the sum over all LUT connections and outputs after moving."
-use mathlib.Core.Path.{_≡_, refl, sym, ap, ap₂, subst, _∙_}
+-- Document 02, E2: the count that the listing prints is that of the cover which the record describes, and it is the right number of registers where readers share a chain.
+use mathlib.Core.Path.{_≡_, refl, sym, ap, ap₂, _∙_}
 use mathlib.Core.Bool.{Bool, true, false, cond}
-use mathlib.Core.List.{List, [], _∷_}
-use Prim.Native.Nat.{ℕ, zero, suc, _+_, _≤_, _<_, suc-le-suc, zero-le}
+use mathlib.Core.List.{List, [], _∷_, _++_}
+use Prim.Native.Nat.{ℕ, suc, _+_, _≤_, _<_, suc-le-suc, zero-le}
 use native.Mathlib.Nat.{add-zero, add-suc, suc-add, zero-add}
 use native.Mathlib.Omega.{arith}
-use borrow.Author.Tests.{eqb-true, eqb-false, ltb-true, ltb-false}
+use borrow.Author.Tests.{eqb-true, ltb-true}
 use lib.Dec.{eqb, ltb}
 use lib.IntN.{ℤ, pos, _+ℤ_, _-ℤ_}
 use lib.ListN.{length, getD}
 use Rattle.sequences.specs.Member.{_∈_, here, there}
-use Rattle.netlist.specs.Net.{Net, Pin}
+use Rattle.netlist.specs.Net.{Net, Pin, size}
 use Rattle.netlist.specs.Copies.{Copy}
-use Rattle.covers.specs.Covers.{Lut, Cover, lut, lagOf, registers, output, outputRegisters}
-use Rattle.covers.specs.Key.{Entry, placeOf, asLut, asCover}
+use Rattle.covers.specs.Covers.{Lut, Cover, lut, lagOf, output, IsCover}
+use Rattle.covers.specs.Key.{Key, Entry, entries, placeOf, asLut, asCover}
+use Rattle.covers.specs.KeyOf.{key-labelled}
+use Rattle.covers.specs.SharedRegisters.{Tap, tap, longest, overNodes, sharedCount, gather, leavesTapped, lutTapped, outputTapped, coverTaps, coverRegisters, Reader, Largest, Serves}
+use Rattle.covers.specs.SharedLaws.{longest-serves, shorter-fails, count-least}
+use Rattle.covers.specs.SharedCovers.{reader-tap, tap-reader, cover-largest}
 use Rattle.covers.specs.Written.{noEntry, lut-asCover, luts-asCover}
-use Rattle.records.specs.Listing.{lagIn, leafSum, lutSum, outputSum, registerCount}
-
--- f summed over a list, and over n numbers from i on
-unfoldable pub sumOver : {A : Type 0} → (A → ℤ) → List A → ℤ
-sumOver f [] = pos 0
-sumOver f (a ∷ l) = f a +ℤ sumOver f l
-
-unfoldable pub sumFrom : (ℕ → ℤ) → ℕ → ℕ → ℤ
-sumFrom f i zero = pos 0
-sumFrom f i (suc n) = f i +ℤ sumFrom f (suc i) n
-
--- the registers of all connections of a cover, and of its outputs
-unfoldable pub coverRegisters : Net → Cover → ℤ
-unfolding sumOver sumFrom
-coverRegisters N K = sumFrom (λ i. sumOver (registers N K i) ((lut K i) .leaves)) 0 (length (K .luts)) +ℤ sumFrom (outputRegisters N K) 0 (length (N .outputs))
+use Rattle.records.specs.Listing.{lagIn, leafTaps, lutTaps, outputTaps, entryTaps, registerCount}
 
 -- the lag written for a root is that of the entry at its place
 lagIn-place : (es : List Entry) (u : ℕ) → lagIn es u ≡ (getD es (placeOf es u) noEntry) .lag
@@ -61,33 +51,63 @@ module _ (N : Net) (es : List Entry) (gates : (e : Entry) → e ∈ es → N .in
       go true q = lagIn-none es u (apart (ltb-true u (N .inputs) q))
       go false q = lagIn-place es u ∙ ap (λ (z : Lut). z .lag) (sym (lut-asCover N es (placeOf es u)))
 
-  leaves-are : (i : ℕ) (r : ℤ) → (lut (asCover N es) i) .lag ≡ r → (L : List Copy) → leafSum es r L ≡ sumOver (registers N (asCover N es) i) L
-  unfolding leafSum sumOver
+  leaves-are : (i : ℕ) (r : ℤ) → (lut (asCover N es) i) .lag ≡ r → (L : List Copy) → leafTaps es r L ≡ leavesTapped N (asCover N es) i L
+  unfolding leafTaps leavesTapped
   leaves-are i r e [] = refl
-  leaves-are i r e (y ∷ L) = ap₂ (λ (a b : ℤ). a +ℤ b) (ap₂ (λ (a b : ℤ). (pos (y .back) +ℤ a) -ℤ b) (sym e) (lag-is (y .node))) (leaves-are i r e L)
+  leaves-are i r e (y ∷ L) = ap₂ (λ (z : ℤ) (l : List Tap). tap (y .node) z ∷ l) (ap₂ (λ (a b : ℤ). (pos (y .back) +ℤ a) -ℤ b) (sym e) (lag-is (y .node))) (leaves-are i r e L)
 
-  abbrev At : ℕ → ℤ
-  At i = sumOver (registers N (asCover N es) i) ((lut (asCover N es) i) .leaves)
-
-  luts-are : (i : ℕ) (l : List Entry) → ((j : ℕ) → j < length l → getD es (i + j) noEntry ≡ getD l j noEntry) → lutSum es l ≡ sumFrom At i (length l)
-  unfolding lutSum sumFrom
+  luts-are : (i : ℕ) (l : List Entry) → ((j : ℕ) → j < length l → getD es (i + j) noEntry ≡ getD l j noEntry) → lutTaps es l ≡ gather (lutTapped N (asCover N es)) i (length l)
+  unfolding lutTaps gather
   luts-are i [] f = refl
   luts-are i (e ∷ l) f =
       let q : lut (asCover N es) i ≡ asLut e = lut-asCover N es i ∙ ap asLut (ap (λ (m : ℕ). getD es m noEntry) (sym (add-zero i)) ∙ f 0 (suc-le-suc zero-le)) in
-      ap₂ (λ (a b : ℤ). a +ℤ b) (leaves-are i (e .lag) (ap (λ (z : Lut). z .lag) q) (e .leaves) ∙ ap (λ (z : Lut). sumOver (registers N (asCover N es) i) (z .leaves)) (sym q))
+      ap₂ {C = List Tap} (λ (a b : List Tap). a ++ b)
+      (leaves-are i (e .lag) (ap (λ (z : Lut). z .lag) q) (e .leaves) ∙ ap (λ (z : Lut). leavesTapped N (asCover N es) i (z .leaves)) (sym q))
       (luts-are (suc i) l (λ j h. ap (λ (m : ℕ). getD es m noEntry) (suc-add i j ∙ sym (add-suc i j)) ∙ f (suc j) (suc-le-suc h)))
 
-  outputs-are : (i : ℕ) (l : List Pin) → ((j : ℕ) → j < length l → output N (i + j) ≡ getD l j (record { src = 0; count = 0 })) → outputSum es l ≡ sumFrom (outputRegisters N (asCover N es)) i (length l)
-  unfolding outputSum sumFrom
+  outputs-are : (i : ℕ) (l : List Pin) → ((j : ℕ) → j < length l → output N (i + j) ≡ getD l j (record { src = 0; count = 0 }))
+      → outputTaps es l ≡ gather (outputTapped N (asCover N es)) i (length l)
+  unfolding outputTaps gather
   outputs-are i [] f = refl
   outputs-are i (o ∷ l) f =
       let q : output N i ≡ o = ap (output N) (sym (add-zero i)) ∙ f 0 (suc-le-suc zero-le) in
-      ap₂ (λ (a b : ℤ). a +ℤ b) (ap (λ (a : ℤ). pos (o .count) -ℤ a) (lag-is (o .src)) ∙ ap (λ (p : Pin). pos (p .count) -ℤ lagOf N (asCover N es) (p .src) (placeOf es (p .src))) (sym q))
+      ap₂ {C = List Tap} (λ (t : Tap) (b : List Tap). t ∷ b)
+      (ap (λ (a : ℤ). tap (o .src) (pos (o .count) -ℤ a)) (lag-is (o .src)) ∙ ap (λ (p : Pin). tap (p .src) (pos (p .count) -ℤ lagOf N (asCover N es) (p .src) (placeOf es (p .src)))) (sym q))
       (outputs-are (suc i) l (λ j h. ap (output N) (suc-add i j ∙ sym (add-suc i j)) ∙ f (suc j) (suc-le-suc h)))
 
-  -- **The count that the listing prints is the sum of the cover's registers.**
+  -- the connections and outputs of the record are those of the cover
+  pub taps-are : entryTaps N es ≡ coverTaps N (asCover N es)
+  unfolding entryTaps coverTaps
+  taps-are = ap₂ {C = List Tap} (λ (a b : List Tap). a ++ b)
+      (luts-are 0 es (λ j h. ap (λ (m : ℕ). getD es m noEntry) (zero-add j)) ∙ ap (gather (lutTapped N (asCover N es)) 0) (sym (luts-asCover N es)))
+      (outputs-are 0 (N .outputs) (λ j h. ap (output N) (zero-add j)))
+
+  -- **The count that the listing prints is the cover's.**
   pub registers-counted : registerCount N es ≡ coverRegisters N (asCover N es)
   unfolding registerCount coverRegisters
-  registers-counted = ap₂ (λ (a b : ℤ). a +ℤ b)
-      (luts-are 0 es (λ j h. ap (λ (m : ℕ). getD es m noEntry) (zero-add j)) ∙ ap (sumFrom At 0) (sym (luts-asCover N es)))
-      (outputs-are 0 (N .outputs) (λ j h. ap (output N) (zero-add j)))
+  registers-counted = ap (sharedCount (size N)) taps-are
+
+-- **E2**: one field for each of its sentences.
+pub record SharedCount : Type 0 where
+  -- "The count becomes, for each node, the largest number on any connection or output it feeds, added over all nodes.": for every cover, nodes being inputs and gates
+  pub count : (N : Net) (K : Cover) → coverRegisters N K ≡ overNodes (λ u. longest u (coverTaps N K)) (size N)
+  pub largest : (N : Net) (k : ℕ) (K : Cover) → IsCover N k K → (u : ℕ) → Largest N K u (longest u (coverTaps N K))
+  -- what the listing prints for a written cover is that count
+  pub listed : (N : Net) (k φ : ℕ) (K : Key N k φ) → registerCount N (entries K) ≡ coverRegisters N (asCover N (entries K))
+  -- "Our chips tap one chain of registers for all readers of a signal.": one chain of that length behind each node, tapped, serves every reader; where a chain is shorter
+  -- some reader is not served; and no chains that serve all have fewer registers together
+  pub served : (N : Net) (K : Cover) → Serves (λ u. longest u (coverTaps N K)) (Reader N K)
+  pub none-shorter : (N : Net) (K : Cover) (chain : ℕ → ℕ) (u : ℕ) → chain u < longest u (coverTaps N K) → ¬ Serves chain (Reader N K)
+  pub fewest : (N : Net) (K : Cover) (chain : ℕ → ℕ) → Serves chain (Reader N K) → coverRegisters N K ≤ overNodes chain (size N)
+
+-- **All of it is proved.**
+pub shared-count : SharedCount
+unfolding coverRegisters sharedCount
+shared-count = record {
+  count = λ N K. refl;
+  largest = λ N k K. cover-largest N K;
+  listed = λ N k φ K. registers-counted N (entries K) (λ e m. key-labelled K .gate e m .low);
+  served = λ N K t r. longest-serves (coverTaps N K) t (reader-tap N K r);
+  none-shorter = λ N K chain u l s. shorter-fails chain (coverTaps N K) u l (λ t m. s t (tap-reader N K m));
+  fewest = λ N K chain s. count-least chain (coverTaps N K) (λ t m. s t (tap-reader N K m)) (size N);
+}

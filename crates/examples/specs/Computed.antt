@@ -9,11 +9,12 @@ use Rattle.netlist.specs.Net.{Net, gate}
 use Rattle.netlist.specs.Copies.{Copy, copy}
 use Rattle.netlist.specs.Tables.{tableOf, pack, valueIn, atLeaf}
 use Rattle.covers.specs.Key.{Entry}
+use Rattle.covers.specs.SharedRegisters.{larger, longest, overNodes, sharedCount}
 use Rattle.netbytes.specs.Reading.{Result, got, refused, times}
 use Rattle.netbytes.specs.Walk.{netReader, gateReader, outputReader, pinsFrom, fromBytes}
 use Rattle.records.specs.CoverBytes.{Record, coverBytes, allLutBytes, lutBytes, depths, leafMap, toBytes, coverReader, lutsReader, lutReader, depthReader, leavesFrom, risingLeaves}
-use Rattle.records.specs.Listing.{coverText, refusalText, lutLines, lutLine, leafText, tableText, hexLow, signed, decimal, digitText, reversed, digitsLow, registerCount, lutSum, leafSum, outputSum, lagIn}
-use Rattle.examples.specs.Nets.{bytesA, netA, bytesB, netB, bytesC, netC, entriesA, labelsA, recordA}
+use Rattle.records.specs.Listing.{coverText, refusalText, lutLines, lutLine, leafText, tableText, hexLow, signed, decimal, digitText, reversed, digitsLow, registerCount, entryTaps, lutTaps, leafTaps, outputTaps, lagIn}
+use Rattle.examples.specs.Nets.{pin, bytesA, netA, bytesB, netB, bytesC, netC, entriesA, labelsA, recordA}
 
 -- ---- the walk over the net's bytes
 
@@ -104,8 +105,14 @@ lags : (lag 2 (negsuc 1) ≡ negsuc 1) × (lag 2 (pos 0) ≡ negsuc 0) × (lag 2
 unfolding lag ceilDiv
 lags = (refl, refl, refl, refl)
 
+-- readers of one node share a chain, and inputs are nodes: gate 2 of C, with lag −1, is read through 1 and 2 registers, input 0 through none, 2 and 1
+shared-C : registerCount (record { inputs = 2; gates = netC .gates; outputs = pin 2 0 ∷ pin 2 1 ∷ pin 0 2 ∷ pin 0 1 ∷ [] })
+    (record { root = 2; leaves = copy 0 1 ∷ copy 1 1 ∷ []; lag = negsuc 0; table = 8 } ∷ []) ≡ 4
+unfolding registerCount sharedCount overNodes longest larger entryTaps lutTaps leafTaps outputTaps lagIn
+shared-C = refl
+
 -- A's listing, byte for byte
 listing-A : coverText netA 2 labelsA entriesA ≡
     112 ∷ 101 ∷ 114 ∷ 105 ∷ 111 ∷ 100 ∷ 32 ∷ 50 ∷ 32 ∷ 108 ∷ 117 ∷ 116 ∷ 115 ∷ 32 ∷ 50 ∷ 32 ∷ 114 ∷ 101 ∷ 103 ∷ 105 ∷ 115 ∷ 116 ∷ 101 ∷ 114 ∷ 115 ∷ 32 ∷ 49 ∷ 10 ∷ 108 ∷ 117 ∷ 116 ∷ 32 ∷ 50 ∷ 32 ∷ 108 ∷ 97 ∷ 98 ∷ 101 ∷ 108 ∷ 32 ∷ 49 ∷ 32 ∷ 108 ∷ 97 ∷ 103 ∷ 32 ∷ 48 ∷ 32 ∷ 116 ∷ 97 ∷ 98 ∷ 108 ∷ 101 ∷ 32 ∷ 56 ∷ 32 ∷ 108 ∷ 101 ∷ 97 ∷ 118 ∷ 101 ∷ 115 ∷ 32 ∷ 48 ∷ 58 ∷ 48 ∷ 32 ∷ 49 ∷ 58 ∷ 48 ∷ 10 ∷ 108 ∷ 117 ∷ 116 ∷ 32 ∷ 52 ∷ 32 ∷ 108 ∷ 97 ∷ 98 ∷ 101 ∷ 108 ∷ 32 ∷ 50 ∷ 32 ∷ 108 ∷ 97 ∷ 103 ∷ 32 ∷ 48 ∷ 32 ∷ 116 ∷ 97 ∷ 98 ∷ 108 ∷ 101 ∷ 32 ∷ 57 ∷ 32 ∷ 108 ∷ 101 ∷ 97 ∷ 118 ∷ 101 ∷ 115 ∷ 32 ∷ 50 ∷ 58 ∷ 48 ∷ 32 ∷ 52 ∷ 58 ∷ 49 ∷ 10 ∷ []
-unfolding coverText lutLines lutLine leafText tableText hexLow signed decimal digitText reversed digitsLow registerCount lutSum leafSum outputSum lagIn
+unfolding coverText lutLines lutLine leafText tableText hexLow signed decimal digitText reversed digitsLow registerCount sharedCount overNodes longest larger entryTaps lutTaps leafTaps outputTaps lagIn
 listing-A = refl

@@ -29,6 +29,7 @@ use Rattle.labelling.specs.Decision.{start, starting, start-bound}
 use Rattle.covers.specs.Key.{Key, Entry, entries, placeOf, source}
 use Rattle.covers.specs.KeyOf.{entryOf, in-entries}
 use Rattle.covers.specs.Period.{leastPeriod}
+use Rattle.covers.specs.SharedRegisters.{larger, longest, overNodes, sharedCount}
 use Rattle.limits.specs.Limits.{scratchArea}
 use Rattle.netbytes.specs.Reading.{got, times}
 use Rattle.netbytes.specs.Walk.{netReader, gateReader, outputReader, pinsFrom, fromBytes}
@@ -36,7 +37,7 @@ use Rattle.records.specs.CoverBytes.{Record, coverBytes, allLutBytes, lutBytes,
 use Rattle.records.specs.Decided.{cutsRight?, tablesRight?, allFed?, enough?, shortChains?}
 use Rattle.records.specs.Marking.{CutsRight, TableRight, TablesRight, AllFed, EnoughRegisters, ShortChains}
 use Rattle.records.specs.Outcomes.{Answer, turnedBack, Checked, cleared, judged, markRead, markSizes, markSized, markChecked, markOutcome}
-use Rattle.records.specs.Listing.{registerCount, lutSum, leafSum, outputSum, lagIn}
+use Rattle.records.specs.Listing.{registerCount, entryTaps, lutTaps, leafTaps, outputTaps, lagIn}
 use Rattle.demands.specs.Demand2.{key-right}
 use Rattle.examples.specs.Nets.{pin, throughB, bytesA, netA, bytesB, netB, bytesB0, netB0, bytesC, netC, bytesD, netD, bytesE, netE}
 use Rattle.examples.specs.Statements.{lut, labels, Refuses, Maps, Tie}
@@ -90,8 +91,8 @@ b-2 : Maps bytesB netB 2 1 (pos 1 ∷ pos 2 ∷ []) (lut 3 (copy 0 0 ∷ copy 1 
 unfolding plan? planned passed? gate netReader gateReader outputReader pinsFrom fromBytes times ones
 b-2 = maps bytesB netB 0 _ ((copy 3 0 ∷ []) ∷ (copy 4 0 ∷ []) ∷ []) _ 2 (boundB2 1) (λ R. tt, refl, (tt, refl, refl, refl))
 
-b-2-registers : (K : Key netB 2 1) → registerCount netB (entries K) ≡ pos 2
-unfolding registerCount lutSum leafSum outputSum lagIn
+b-2-registers : (K : Key netB 2 1) → registerCount netB (entries K) ≡ 2
+unfolding registerCount sharedCount overNodes longest larger entryTaps lutTaps leafTaps outputTaps lagIn
 b-2-registers K = ap (registerCount netB) (b-2 .cover K)
 
 -- ---- C
@@ -251,7 +252,7 @@ pub record MarkedExamples : Type 0 where
   pub A-k3-tie : (K : Key netA 3 1) → Tie K 4 (copy 0 0 ∷ copy 1 0 ∷ copy 3 1 ∷ [])
   -- "B: ... k 2, target 1: labels 1, 2, lags 0, 1, registers 2."
   pub B-k2 : Maps bytesB netB 2 1 (pos 1 ∷ pos 2 ∷ []) (lut 3 (copy 0 0 ∷ copy 1 0 ∷ []) (pos 0) 8 ∷ lut 4 (copy 2 0 ∷ copy 3 0 ∷ []) (pos 1) 8 ∷ [])
-  pub B-k2-registers : (K : Key netB 2 1) → registerCount netB (entries K) ≡ pos 2
+  pub B-k2-registers : (K : Key netB 2 1) → registerCount netB (entries K) ≡ 2
   -- "k 3, target 1: table 80, lag 0."
   pub B-k3 : Maps bytesB netB 3 1 (pos 1 ∷ pos 1 ∷ []) (lut 4 (copy 0 0 ∷ copy 1 0 ∷ copy 2 0 ∷ []) (pos 0) 0x80 ∷ [])
   -- "Without the register, k 2, target 1: 12."

@@ -12,7 +12,7 @@ use Rattle.covers.specs.Key.{Key, Entry, entries}
 use Rattle.covers.specs.KeyOf.{key-labelled}
 use Rattle.covers.specs.KeyUnique.{entries-unique, label-same}
 use Rattle.records.specs.Kept.{Kept, entriesIn, labelAt}
-use Rattle.records.specs.Listing.{decimal, signed, registerCount, periodWord, lutsWord, registersWord, newline, lutLine, lutLines, coverText, refusalText}
+use Rattle.records.specs.Listing.{decimal, registerCount, periodWord, lutsWord, registersWord, newline, lutLine, lutLines, coverText, refusalText}
 use Rattle.records.specs.Outcomes.{Mapped, mapped}
 use Rattle.records.specs.Program.{listMapped}
 use Rattle.planner.specs.Planned.{Covered}
@@ -31,7 +31,7 @@ pub text-agree : (N : Net) (φ : ℕ) (label label′ : ℕ → ℤ) (es : List 
     → coverText N φ label es ≡ coverText N φ label′ es
 unfolding coverText
 text-agree N φ label label′ es h =
-    ap (λ (l : List ℕ). periodWord ++ decimal φ ++ lutsWord ++ decimal (length es) ++ registersWord ++ signed (registerCount N es) ++ newline ++ l) (lines-agree label label′ es h)
+    ap (λ (l : List ℕ). periodWord ++ decimal φ ++ lutsWord ++ decimal (length es) ++ registersWord ++ decimal (registerCount N es) ++ newline ++ l) (lines-agree label label′ es h)
 
 module _ {N : Net} {k : ℕ} (P : Passed N k) where
   -- labels that agree on gates agree on a key's roots

@@ -5,6 +5,7 @@ use Prim.Native.Nat.{ℕ, _≤_, _<_}
 use native.Mathlib.Omega.{arith}
 use native.Mathlib.Nat.{zero-add}
 use lib.ListN.{length, getD, drop, length-append}
+use Rattle.sequences.specs.Member.{_∈_}
 use Rattle.netlist.specs.Net.{Net}
 use Rattle.netlist.specs.Arrays.{netIn}
 use Rattle.netlist.specs.ArrayLaws.{outputs-netIn}
@@ -12,9 +13,11 @@ use Rattle.netlist.specs.Checks.{Passed}
 use Rattle.limits.specs.Limits.{leastK, mostK, mostPeriod, coverArea, textRoom}
 use Rattle.netbytes.specs.Reading.{Result, got, refused}
 use Rattle.netbytes.specs.Walk.{netReader}
-use Rattle.netbytes.specs.Sound.{walk-sound, walk-fits}
-use Rattle.records.specs.Kept.{Kept}
-use Rattle.records.specs.Listing.{refusalText}
+use Rattle.netbytes.specs.Sound.{walk-facts, walk-sound, walk-fits}
+use Rattle.covers.specs.Key.{Entry}
+use Rattle.records.specs.Kept.{Kept, entriesIn}
+use Rattle.records.specs.Listing.{refusalText, entryTaps}
+use Rattle.records.specs.TapLaws.{key-sources}
 use Rattle.records.specs.Outcomes.{Checked, passes, fails, checkNet, mapped}
 use Rattle.records.specs.Program.{listMapped, listChecked}
 use Rattle.fields.specs.Verdicts.{outcome}
@@ -30,7 +33,7 @@ use Rattle.reader.specs.Lengths.{Lengths}
 use Rattle.solver.specs.Settling.{Settling, SettledAs}
 use Rattle.solver.specs.Settling as settling
 use Rattle.digits.specs.PutLaws.{wrote-as}
-use Rattle.text.specs.Text.{Listable, Lists}
+use Rattle.text.specs.Text.{Listable, FedBy, Lists}
 use Rattle.solver.specs.Settling.{CoverSettled}
 use Rattle.netmap.specs.Recording.{Long, cover-writable}
 use Rattle.lister.specs.Asked.{Listing, ListsNet}
@@ -64,13 +67,20 @@ module _ {k target : ℕ} {w : Wiring} where
   pub lists-refused : {a : Kept} {r n : ℕ} {before after : List ℕ} → SettledAs k target w a r → 0 < r → Wrote (refusalText r) before after n → ListsNet k target w before after n
   lists-refused s h t = record { lists = λ net q. wrote-as (refused-text s h net q) t }
 
+  -- what feeds the cover are nodes of the net
+  cover-fed : {a : Kept} → CoverSettled k target w a → (net : List ℕ) → netReader k net ≡ got (netIn (arraysOf w)) [] → FedBy (netIn (arraysOf w)) (entriesIn a)
+  cover-fed u net q = record {
+    few = let f = walk-facts k net (netIn (arraysOf w)) [] q .0 in omega arith;
+    nodes = λ t m. key-sources (u .passed .sound) (u .cover .key) t (subst (λ (es : List Entry). t ∈ entryTaps (netIn (arraysOf w)) es) (sym (u .cover .same)) m);
+  }
+
   -- **a cover**
   pub lists-covered : {a : Kept} {r : ℕ} {before after : List ℕ} → CoverSettled k target w a → Lists a (w .«out_sources») (w .«out_counts») (w .outputs) before after r → ListsNet k target w before after r
   lists-covered {a} u l = record {
     lists = λ net q.
         let P = u .passed in
         let t = check-passes k net (netIn (arraysOf w)) [] q (P .loopless) (P .reached) (P .leading) in
-        wrote-as (list-passes k target net (netIn (arraysOf w)) (t .0) (t .1) ∙ listed-cover (t .0) target (u .cover)) (l .each (netIn (arraysOf w)) (outputs-netIn (arraysOf w)));
+        wrote-as (list-passes k target net (netIn (arraysOf w)) (t .0) (t .1) ∙ listed-cover (t .0) target (u .cover)) (l .each (netIn (arraysOf w)) (outputs-netIn (arraysOf w)) (cover-fed u net q));
   }
 
   -- what the text asks
@@ -83,7 +93,6 @@ module _ {k target : ℕ} {w : Wiring} where
         arrays = x .arrays;
         luts = x .luts;
         gates = let h = f .gates-high in omega arith;
-        outputs = f .outputs-high;
         sources = let h = f .outputs-high in let e = l .atOuts in omega arith;
         counts = let h = f .outputs-high in let e = l .atDelays in omega arith;
         small = record { each = λ j h. let b = f .out-count j h in let e = ap (λ (i : ℕ). getD (w .«out_counts») i 0) (zero-add j) in omega arith };

@@ -13,3 +13,4 @@ pub mod HeldLaws
 pub mod CheckLaws
 pub mod ShortCover
 pub mod CoverRefusals
+pub mod TapLaws

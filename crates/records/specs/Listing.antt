@@ -5,9 +5,10 @@ use Prim.Native.Nat.{ℕ, zero, suc, _+_, _*_, _/_, _%_, _^_}
 use lib.Dec.{ltb}
 use lib.IntN.{ℤ, pos, negsuc, _+ℤ_, _-ℤ_}
 use lib.ListN.{length}
-use Rattle.netlist.specs.Net.{Net, Pin}
+use Rattle.netlist.specs.Net.{Net, Pin, size}
 use Rattle.netlist.specs.Copies.{Copy}
 use Rattle.covers.specs.Key.{Entry}
+use Rattle.covers.specs.SharedRegisters.{Tap, tap, sharedCount}
 
 -- ---- numbers
 
@@ -53,21 +54,32 @@ unfoldable pub lagIn : List Entry → ℕ → ℤ
 lagIn [] u = pos 0
 lagIn (e ∷ es) u = cond (lib.Dec.eqb (e .root) u) (e .lag) (lagIn es u)
 
-unfoldable pub leafSum : List Entry → ℤ → List Copy → ℤ
-leafSum es r [] = pos 0
-leafSum es r (y ∷ L) = ((pos (y .back) +ℤ r) -ℤ lagIn es (y .node)) +ℤ leafSum es r L
+-- the connections of a LUT with lag r: "A leaf u:d of a LUT with lag r fed from lag q has d + r − q registers"
+unfoldable pub leafTaps : List Entry → ℤ → List Copy → List Tap
+unfolding lagIn
+leafTaps all r [] = []
+leafTaps all r (y ∷ L) = tap (y .node) ((pos (y .back) +ℤ r) -ℤ lagIn all (y .node)) ∷ leafTaps all r L
 
-unfoldable pub lutSum : List Entry → List Entry → ℤ
-lutSum all [] = pos 0
-lutSum all (e ∷ es) = leafSum all (e .lag) (e .leaves) +ℤ lutSum all es
+unfoldable pub lutTaps : List Entry → List Entry → List Tap
+unfolding leafTaps
+lutTaps all [] = []
+lutTaps all (e ∷ es) = leafTaps all (e .lag) (e .leaves) ++ lutTaps all es
 
-unfoldable pub outputSum : List Entry → List Pin → ℤ
-outputSum all [] = pos 0
-outputSum all (o ∷ os) = (pos (o .count) -ℤ lagIn all (o .src)) +ℤ outputSum all os
+-- "an output has w − q"
+unfoldable pub outputTaps : List Entry → List Pin → List Tap
+unfolding lagIn
+outputTaps all [] = []
+outputTaps all (o ∷ os) = tap (o .src) (pos (o .count) -ℤ lagIn all (o .src)) ∷ outputTaps all os
 
--- "Registers is the sum over all LUT connections and outputs after moving."
-unfoldable pub registerCount : Net → List Entry → ℤ
-registerCount N es = lutSum es es +ℤ outputSum es (N .outputs)
+-- all connections and outputs
+unfoldable pub entryTaps : Net → List Entry → List Tap
+unfolding lutTaps outputTaps
+entryTaps N es = lutTaps es es ++ outputTaps es (N .outputs)
+
+-- document 02, E2: "The count becomes, for each node, the largest number on any connection or output it feeds, added over all nodes."
+unfoldable pub registerCount : Net → List Entry → ℕ
+unfolding entryTaps sharedCount
+registerCount N es = sharedCount (size N) (entryTaps N es)
 
 -- ---- lines
 
@@ -122,7 +134,7 @@ lutLines label (e ∷ es) = lutLine label e ++ lutLines label es
 -- "period 2 luts 2 registers 1", then a line for each LUT
 unfoldable pub coverText : Net → ℕ → (ℕ → ℤ) → List Entry → List ℕ
 coverText N period label es =
-    periodWord ++ decimal period ++ lutsWord ++ decimal (length es) ++ registersWord ++ signed (registerCount N es) ++ newline ++ lutLines label es
+    periodWord ++ decimal period ++ lutsWord ++ decimal (length es) ++ registersWord ++ decimal (registerCount N es) ++ newline ++ lutLines label es
 
 -- "A refusal prints `refused N`."
 unfoldable pub refusalText : ℕ → List ℕ

@@ -1,9 +1,9 @@
--- The lag written for a node, and the sums of registers, over the arrays.
+-- The lag written for a node, and the connections and outputs, over the arrays.
 use mathlib.Core.Path.{_≡_, refl, sym, ap, ap₂, _∙_, subst}
 use mathlib.Core.Bool.{Bool, true, false, cond}
-use mathlib.Core.List.{List, [], _∷_}
+use mathlib.Core.List.{List, [], _∷_, _++_, append-assoc, append-nil}
 use Prim.Native.Nat.{ℕ, zero, suc, _+_, _-_, _*_, _≤_, _<_}
-use native.Mathlib.Nat.{add-zero, add-suc, suc-add}
+use native.Mathlib.Nat.{zero-add, add-zero, add-suc, suc-add}
 use native.Mathlib.Numerals.{add-one}
 use native.Mathlib.Omega.{arith}
 use borrow.Author.Tests.{eq-eqb, ne-eqb}
@@ -13,13 +13,17 @@ use lib.ListN.{getD}
 use Rattle.integers.specs.Lag.{lag}
 use Rattle.netlist.specs.Arrays.{stride, copiesFrom, pinsIn}
 use Rattle.netlist.specs.Copies.{Copy}
-use Rattle.netlist.specs.Net.{Net, Pin}
-use Rattle.limits.specs.Limits.{mostGates}
+use Rattle.netlist.specs.Net.{Net, Pin, size}
+use Rattle.limits.specs.Limits.{mostGates, mostNodes}
+use Rattle.sequences.specs.Member.{_∈_}
 use Rattle.covers.specs.Key.{Entry}
+use Rattle.covers.specs.SharedRegisters.{Tap, tap, sharedCount}
+use Rattle.covers.specs.SharedLaws.{count-beyond}
 use Rattle.records.specs.Kept.{Kept, kept, entryAt, entriesFrom, entriesIn, labelAt}
-use Rattle.records.specs.Listing.{lagIn, leafSum, lutSum, outputSum, registerCount}
+use Rattle.records.specs.Listing.{lagIn, leafTaps, lutTaps, outputTaps, entryTaps, registerCount}
 use Rattle.writer.specs.Writing.{ArraysHeld, LutsHeld}
-use Rattle.registers.specs.Sums.{marking, lagsOf, registersOf, LeavesHeld}
+use Rattle.writer.specs.CoverLaws.{entries-split}
+use Rattle.registers.specs.Counting.{marking, lagsOf, tapsOf, registersOf, LeavesHeld}
 
 -- ---- the lag of a node
 
@@ -74,74 +78,94 @@ lag-unmarked a g h m = inside a g h ∙ ap (λ (t : Bool). cond t (pos 0) (lag (
 pub lag-marked : (a : Kept) (g : ℕ) → g < a .gates → (getD (a .marks) g 0 ≡ 0 → ⊥) → lagIn (entriesIn a) (a .inputs + g) ≡ lag (a .period) (labelAt a (a .inputs + g))
 lag-marked a g h m = inside a g h ∙ ap (λ (t : Bool). cond t (pos 0) (lag (a .period) (labelAt a (a .inputs + g)))) (ne-eqb (getD (a .marks) g 0) 0 m)
 
--- ---- sums
+-- ---- connections and outputs, one behind the others
 
-pub leaf-sum-none : (es : List Entry) (r : ℤ) (nodes backs : List ℕ) (p n : ℕ) → n ≡ 0 → leafSum es r (copiesFrom nodes backs p n) ≡ pos 0
-unfolding copiesFrom leafSum
-leaf-sum-none es r nodes backs p n e = rw e refl
+pub leaf-none : (es : List Entry) (r : ℤ) (nodes backs : List ℕ) (p : ℕ) → leafTaps es r (copiesFrom nodes backs p 0) ≡ []
+unfolding copiesFrom leafTaps
+leaf-none es r nodes backs p = refl
 
-pub leaf-sum-more : (es : List Entry) (r : ℤ) (nodes backs : List ℕ) (p n : ℕ) → (n ≡ 0 → ⊥)
-    → leafSum es r (copiesFrom nodes backs p n) ≡ (((pos (getD backs p 0) +ℤ r) -ℤ lagIn es (getD nodes p 0)) +ℤ leafSum es r (copiesFrom nodes backs (p + 1) (n - 1)))
-unfolding copiesFrom leafSum
-leaf-sum-more es r nodes backs p zero h = absurd (h refl)
-leaf-sum-more es r nodes backs p (suc n) h = let e : suc n - 1 ≡ n = omega arith in rw (e, add-one p) refl
+leaf-last : (es : List Entry) (r : ℤ) (nodes backs : List ℕ) (p j : ℕ)
+    → leafTaps es r (copiesFrom nodes backs p (suc j))
+    ≡ leafTaps es r (copiesFrom nodes backs p j) ++ (tap (getD nodes (p + j) 0) ((pos (getD backs (p + j) 0) +ℤ r) -ℤ lagIn es (getD nodes (p + j) 0)) ∷ [])
+unfolding copiesFrom leafTaps
+leaf-last es r nodes backs p zero = rw (add-zero p) refl
+leaf-last es r nodes backs p (suc j) =
+    let e : suc p + j ≡ p + suc j = omega arith in
+    ap (λ (l : List Tap). tap (getD nodes p 0) ((pos (getD backs p 0) +ℤ r) -ℤ lagIn es (getD nodes p 0)) ∷ l) (rw e at (leaf-last es r nodes backs (suc p) j))
 
-pub output-sum-none : (es : List Entry) (os oc : List ℕ) (i n : ℕ) → n ≡ 0 → outputSum es (pinsIn os oc i n) ≡ pos 0
-unfolding pinsIn outputSum
-output-sum-none es os oc i n e = rw e refl
+pub leaf-more : (es : List Entry) (r : ℤ) (nodes backs : List ℕ) (p j : ℕ)
+    → leafTaps es r (copiesFrom nodes backs p j) ++ (tap (getD nodes (p + j) 0) ((pos (getD backs (p + j) 0) +ℤ r) -ℤ lagIn es (getD nodes (p + j) 0)) ∷ [])
+    ≡ leafTaps es r (copiesFrom nodes backs p (j + 1))
+leaf-more es r nodes backs p j = sym (rw (add-one j) (leaf-last es r nodes backs p j))
 
-pub output-sum-more : (es : List Entry) (os oc : List ℕ) (i n : ℕ) → (n ≡ 0 → ⊥)
-    → outputSum es (pinsIn os oc i n) ≡ (((pos (getD oc i 0) +ℤ pos 0) -ℤ lagIn es (getD os i 0)) +ℤ outputSum es (pinsIn os oc (i + 1) (n - 1)))
-unfolding pinsIn outputSum
-output-sum-more es os oc i zero h = absurd (h refl)
-output-sum-more es os oc i (suc n) h =
-    let e : suc n - 1 ≡ n = omega arith in
-    rw (e, add-one i, add-zero (getD oc i 0)) refl
+pub output-none : (es : List Entry) (os oc : List ℕ) → outputTaps es (pinsIn os oc 0 0) ≡ []
+unfolding pinsIn outputTaps
+output-none es os oc = refl
 
-pub lut-sum-none : (es : List Entry) (a : Kept) (g : ℕ) → g ≡ a .gates → lutSum es (entriesFrom a g (a .gates - g)) ≡ pos 0
-unfolding entriesFrom lutSum
-lut-sum-none es a g e = let f : a .gates - g ≡ 0 = omega arith in rw f refl
+output-last : (es : List Entry) (os oc : List ℕ) (i j : ℕ)
+    → outputTaps es (pinsIn os oc i (suc j)) ≡ outputTaps es (pinsIn os oc i j) ++ (tap (getD os (i + j) 0) ((pos (getD oc (i + j) 0) +ℤ pos 0) -ℤ lagIn es (getD os (i + j) 0)) ∷ [])
+unfolding pinsIn outputTaps
+output-last es os oc i zero = rw (add-zero i, add-zero (getD oc i 0)) refl
+output-last es os oc i (suc j) =
+    let e : suc i + j ≡ i + suc j = omega arith in
+    ap (λ (l : List Tap). tap (getD os i 0) (pos (getD oc i 0) -ℤ lagIn es (getD os i 0)) ∷ l) (rw e at (output-last es os oc (suc i) j))
 
--- the sums of both
-pub registers-sum : (a : Kept) (os oc : List ℕ) (n : ℕ) → (lutSum (lagsOf a) (entriesFrom a 0 (a .gates - 0)) +ℤ outputSum (lagsOf a) (pinsIn os oc 0 n)) ≡ registersOf a os oc n
-unfolding registersOf
-registers-sum a os oc n = let e : a .gates - 0 ≡ a .gates = omega arith in rw e refl
+pub output-more : (es : List Entry) (os oc : List ℕ) (j : ℕ)
+    → outputTaps es (pinsIn os oc 0 j) ++ (tap (getD os j 0) ((pos (getD oc j 0) +ℤ pos 0) -ℤ lagIn es (getD os j 0)) ∷ []) ≡ outputTaps es (pinsIn os oc 0 (j + 1))
+output-more es os oc j = sym (rw (add-one j) (rw (zero-add j) at (output-last es os oc 0 j)))
 
-module _ (a : Kept) (g : ℕ) (h : g < a .gates) where
-  left : a .gates - g ≡ suc (a .gates - (g + 1))
-  left = omega arith
+luts-append : (all es fs : List Entry) → lutTaps all (es ++ fs) ≡ lutTaps all es ++ lutTaps all fs
+unfolding lutTaps
+luts-append all [] fs = refl
+luts-append all (e ∷ es) fs = ap (λ (l : List Tap). leafTaps all (e .lag) (e .leaves) ++ l) (luts-append all es fs)
+    ∙ sym (append-assoc (leafTaps all (e .lag) (e .leaves)) (lutTaps all es) (lutTaps all fs))
 
-  pub lut-sum-unmarked : getD (a .marks) g 0 ≡ 0 → lutSum (lagsOf a) (entriesFrom a g (a .gates - g)) ≡ lutSum (lagsOf a) (entriesFrom a (g + 1) (a .gates - (g + 1)))
-  unfolding entriesFrom
-  lut-sum-unmarked m = rw (left, add-one g) (rw m refl)
+pub luts-none : (all : List Entry) (a : Kept) → lutTaps all (entriesFrom a 0 0) ≡ []
+unfolding entriesFrom lutTaps
+luts-none all a = refl
 
-  pub lut-sum-marked : (getD (a .marks) g 0 ≡ 0 → ⊥)
-      → lutSum (lagsOf a) (entriesFrom a g (a .gates - g))
-      ≡ (leafSum (lagsOf a) (lagIn (lagsOf a) (a .inputs + g)) (copiesFrom (a .nodes) (a .backs) (stride * g) (getD (a .sizes) g 0)) +ℤ lutSum (lagsOf a) (entriesFrom a (g + 1) (a .gates - (g + 1))))
-  unfolding entriesFrom entryAt lutSum
-  lut-sum-marked m =
-      rw (left, lag-marked (marking (a .inputs) (a .gates) (a .period) (a .labels) (a .marks)) g h m)
-      (rw (add-one g) (rw (ne-eqb (getD (a .marks) g 0) 0 m) refl))
+pub luts-more : (all : List Entry) (a : Kept) (g : ℕ) → lutTaps all (entriesFrom a 0 g) ++ lutTaps all (entriesFrom a g 1) ≡ lutTaps all (entriesFrom a 0 (g + 1))
+luts-more all a g = sym (ap (lutTaps all) (rw (zero-add g) at (entries-split a 0 g 1)) ∙ luts-append all (entriesFrom a 0 g) (entriesFrom a g 1))
 
--- ---- the lists of lags that give the same sums
+module _ (a : Kept) (g : ℕ) where
+  pub gate-none : getD (a .marks) g 0 ≡ 0 → lutTaps (lagsOf a) (entriesFrom a g 1) ≡ []
+  unfolding entriesFrom lutTaps
+  gate-none m = rw m refl
+
+  pub gate-some : g < a .gates → (getD (a .marks) g 0 ≡ 0 → ⊥)
+      → leafTaps (lagsOf a) (lagIn (lagsOf a) (a .inputs + g)) (copiesFrom (a .nodes) (a .backs) (stride * g) (getD (a .sizes) g 0)) ≡ lutTaps (lagsOf a) (entriesFrom a g 1)
+  unfolding entriesFrom entryAt lutTaps
+  gate-some h m =
+      let L = copiesFrom (a .nodes) (a .backs) (stride * g) (getD (a .sizes) g 0) in
+      rw (lag-marked (marking (a .inputs) (a .gates) (a .period) (a .labels) (a .marks)) g h m)
+      (rw (ne-eqb (getD (a .marks) g 0) 0 m) (sym (append-nil (leafTaps (lagsOf a) (lag (a .period) (labelAt a (a .inputs + g))) L))))
+
+-- all of them
+pub all-taps : (a : Kept) (os oc : List ℕ) (n : ℕ) → lutTaps (lagsOf a) (entriesFrom a 0 (a .gates)) ++ outputTaps (lagsOf a) (pinsIn os oc 0 n) ≡ tapsOf a os oc n
+all-taps a os oc n = unfold tapsOf in refl
+
+pub all-counted : (a : Kept) (os oc : List ℕ) (n : ℕ) → sharedCount mostNodes (tapsOf a os oc n) ≡ registersOf a os oc n
+all-counted a os oc n = unfold registersOf in refl
+
+-- ---- the lists of lags that give the same connections
 
 Same : List Entry → List Entry → Type 0
 Same es fs = (u : ℕ) → lagIn es u ≡ lagIn fs u
 
-leaf-same : (es fs : List Entry) → Same es fs → (r : ℤ) (L : List Copy) → leafSum es r L ≡ leafSum fs r L
-unfolding Same leafSum
+leaf-same : (es fs : List Entry) → Same es fs → (r : ℤ) (L : List Copy) → leafTaps es r L ≡ leafTaps fs r L
+unfolding Same leafTaps
 leaf-same es fs s r [] = refl
-leaf-same es fs s r (y ∷ L) = ap₂ (λ (q z : ℤ). ((pos (y .back) +ℤ r) -ℤ q) +ℤ z) (s (y .node)) (leaf-same es fs s r L)
+leaf-same es fs s r (y ∷ L) = ap₂ {C = List Tap} (λ (q : ℤ) (l : List Tap). tap (y .node) ((pos (y .back) +ℤ r) -ℤ q) ∷ l) (s (y .node)) (leaf-same es fs s r L)
 
-lut-same : (es fs : List Entry) → Same es fs → (L : List Entry) → lutSum es L ≡ lutSum fs L
-unfolding lutSum
+lut-same : (es fs : List Entry) → Same es fs → (L : List Entry) → lutTaps es L ≡ lutTaps fs L
+unfolding lutTaps
 lut-same es fs s [] = refl
-lut-same es fs s (e ∷ L) = ap₂ _+ℤ_ (leaf-same es fs s (e .lag) (e .leaves)) (lut-same es fs s L)
+lut-same es fs s (e ∷ L) = ap₂ {C = List Tap} (λ (a b : List Tap). a ++ b) (leaf-same es fs s (e .lag) (e .leaves)) (lut-same es fs s L)
 
-output-same : (es fs : List Entry) → Same es fs → (L : List Pin) → outputSum es L ≡ outputSum fs L
-unfolding Same outputSum
+output-same : (es fs : List Entry) → Same es fs → (L : List Pin) → outputTaps es L ≡ outputTaps fs L
+unfolding Same outputTaps
 output-same es fs s [] = refl
-output-same es fs s (o ∷ L) = ap₂ (λ (q z : ℤ). (pos (o .count) -ℤ q) +ℤ z) (s (o .src)) (output-same es fs s L)
+output-same es fs s (o ∷ L) = ap₂ {C = List Tap} (λ (q : ℤ) (l : List Tap). tap (o .src) (pos (o .count) -ℤ q) ∷ l) (s (o .src)) (output-same es fs s L)
 
 module _ (inputs gates period : ℕ) (labels : List ℤ) (marks sizes nodes backs tables : List ℕ) where
   lags-from : (g n u : ℕ) → lagIn (entriesFrom (kept inputs gates period labels marks sizes nodes backs tables) g n) u ≡ lagIn (entriesFrom (marking inputs gates period labels marks) g n) u
@@ -161,8 +185,8 @@ module _ (inputs gates period : ℕ) (labels : List ℤ) (marks sizes nodes back
       go false h = ap (λ (z : ℤ). cond (eqb (inputs + g) u) (lag period (getD labels (inputs + g) (pos 0))) z) h
 
   luts-from : (es : List Entry) (g n : ℕ)
-      → lutSum es (entriesFrom (kept inputs gates period labels marks sizes nodes backs tables) g n) ≡ lutSum es (entriesFrom (kept inputs gates period labels marks sizes nodes backs []) g n)
-  unfolding entriesFrom entryAt lutSum
+      → lutTaps es (entriesFrom (kept inputs gates period labels marks sizes nodes backs tables) g n) ≡ lutTaps es (entriesFrom (kept inputs gates period labels marks sizes nodes backs []) g n)
+  unfolding entriesFrom entryAt lutTaps
   luts-from es g zero = refl
   luts-from es g (suc n) = go (eqb (getD marks g 0) 0) (luts-from es (suc g) n)
     where
@@ -172,18 +196,17 @@ module _ (inputs gates period : ℕ) (labels : List ℤ) (marks sizes nodes back
       B : Kept
       B = kept inputs gates period labels marks sizes nodes backs []
 
-      go : (t : Bool) → lutSum es (entriesFrom A (suc g) n) ≡ lutSum es (entriesFrom B (suc g) n)
-          → lutSum es (cond t (entriesFrom A (suc g) n) (entryAt A g ∷ entriesFrom A (suc g) n)) ≡ lutSum es (cond t (entriesFrom B (suc g) n) (entryAt B g ∷ entriesFrom B (suc g) n))
+      go : (t : Bool) → lutTaps es (entriesFrom A (suc g) n) ≡ lutTaps es (entriesFrom B (suc g) n)
+          → lutTaps es (cond t (entriesFrom A (suc g) n) (entryAt A g ∷ entriesFrom A (suc g) n)) ≡ lutTaps es (cond t (entriesFrom B (suc g) n) (entryAt B g ∷ entriesFrom B (suc g) n))
       go true h = h
-      go false h = ap (λ (z : ℤ). leafSum es (lag period (getD labels (inputs + g) (pos 0))) (copiesFrom nodes backs (stride * g) (getD sizes g 0)) +ℤ z) h
+      go false h = ap (λ (l : List Tap). leafTaps es (lag period (getD labels (inputs + g) (pos 0))) (copiesFrom nodes backs (stride * g) (getD sizes g 0)) ++ l) h
 
-  -- the register count, by sums that need no tables
-  pub register-count : (N : Net) (os oc : List ℕ) (n : ℕ) → N .outputs ≡ pinsIn os oc 0 n
-      → registerCount N (entriesIn (kept inputs gates period labels marks sizes nodes backs tables))
-      ≡ registersOf (kept inputs gates period labels marks sizes nodes backs []) os oc n
-  unfolding registerCount registersOf entriesIn Same
-  register-count N os oc n e =
-      ap₂ _+ℤ_ (lut-same A B (lags-from 0 gates) A ∙ luts-from B 0 gates) (ap (outputSum A) e ∙ output-same A B (lags-from 0 gates) (pinsIn os oc 0 n))
+  -- the connections and outputs, by lags that need no leaves and leaves that need no tables
+  taps-same : (N : Net) (os oc : List ℕ) (n : ℕ) → N .outputs ≡ pinsIn os oc 0 n
+      → entryTaps N (entriesIn (kept inputs gates period labels marks sizes nodes backs tables)) ≡ tapsOf (kept inputs gates period labels marks sizes nodes backs []) os oc n
+  unfolding entryTaps tapsOf entriesIn Same
+  taps-same N os oc n e =
+      ap₂ {C = List Tap} (λ (a b : List Tap). a ++ b) (lut-same A B (lags-from 0 gates) A ∙ luts-from B 0 gates) (ap (outputTaps A) e ∙ output-same A B (lags-from 0 gates) (pinsIn os oc 0 n))
     where
       A : List Entry
       A = entriesFrom (kept inputs gates period labels marks sizes nodes backs tables) 0 gates
@@ -191,7 +214,16 @@ module _ (inputs gates period : ℕ) (labels : List ℤ) (marks sizes nodes back
       B : List Entry
       B = entriesFrom (marking inputs gates period labels marks) 0 gates
 
-  -- what the sums ask
+  -- **the register count**, where every connection and output is fed by a node
+  pub register-count : (N : Net) (os oc : List ℕ) (n : ℕ) → N .outputs ≡ pinsIn os oc 0 n → size N ≤ mostNodes
+      → ((t : Tap) → t ∈ entryTaps N (entriesIn (kept inputs gates period labels marks sizes nodes backs tables)) → t .source < size N)
+      → registerCount N (entriesIn (kept inputs gates period labels marks sizes nodes backs tables)) ≡ registersOf (kept inputs gates period labels marks sizes nodes backs []) os oc n
+  unfolding registerCount registersOf
+  register-count N os oc n e l s =
+      sym (count-beyond (size N) mostNodes (entryTaps N (entriesIn (kept inputs gates period labels marks sizes nodes backs tables))) l s)
+      ∙ ap (sharedCount mostNodes) (taps-same N os oc n e)
+
+  -- what the count asks
   pub leaves-held : ArraysHeld (kept inputs gates period labels marks sizes nodes backs tables) → LutsHeld (kept inputs gates period labels marks sizes nodes backs tables) → gates ≤ mostGates
       → LeavesHeld (kept inputs gates period labels marks sizes nodes backs [])
   leaves-held p q h = record {

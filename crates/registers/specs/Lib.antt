@@ -1,4 +1,3 @@
-pub mod PlaceLaws
-pub mod Sums
+pub mod Counting
 pub mod LagLaws
-pub mod SumLaws
+pub mod CountLaws

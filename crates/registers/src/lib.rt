@@ -1,35 +1,38 @@
-// The register count of a cover kept in arrays: the sum over all leaves of its LUTs and all outputs.
+// The register count of a cover kept in arrays: all leaves of its LUTs and all outputs, taken into a tally.
 use limits::PINS;
 use signed::lag_of;
 use signed::whole;
+use tally::Tally;
 ghost use mathlib.Core.Path.{_≡_};
-ghost use mathlib.Core.List.{[]};
-ghost use Prim.Native.Nat.{_+_, _*_, _-_, _≤_, _<_};
+ghost use mathlib.Core.List.{[], _∷_};
+ghost use Prim.Native.Nat.{_+_, _≤_, _<_};
 ghost use lib.IntN.{pos, _+ℤ_, _-ℤ_};
 ghost use lib.ListN.{length};
+ghost use Rattle.integers.specs.Parts.{up};
 ghost use Rattle.netlist.specs.Arrays.{copiesFrom, pinsIn};
+ghost use Rattle.covers.specs.SharedRegisters.{tap};
 ghost use Rattle.records.specs.Kept.{kept, entriesFrom, entriesIn};
-ghost use Rattle.records.specs.Listing.{lagIn, leafSum, lutSum, outputSum};
-ghost use Rattle.signed.specs.Range.{room};
+ghost use Rattle.records.specs.Listing.{lagIn, leafTaps, lutTaps, outputTaps};
+ghost use Rattle.tally.specs.Tallies.{Took};
 ghost use Rattle.writer.specs.Writing.{Below};
-ghost use Rattle.limits.specs.Limits.{depthRoom, mostOutputs, mostPins};
-ghost use Rattle.registers.specs.Sums.{Within, Counted, marking, registersOf, LagsHeld, LeavesHeld};
+ghost use Rattle.limits.specs.Limits.{depthRoom};
+ghost use Rattle.registers.specs.Counting.{Within, Counted, marking, registersOf, LagsHeld, LeavesHeld};
 
-// The sum of two whole numbers.
-fn plus(a: i64, b: i64) -> i64
-    requires { ⌜ Within room a × Within room b ⌝ }
-    ensures { λ r. ⌜ r ≡ (a +ℤ b) ⌝ }
-{
-    a + b
-}
-
-// The registers of a connection after moving, and those of the others.
-fn moved(d: usize, own: i64, other: i64, rest: i64) -> i64
-    requires { ⌜ (d < depthRoom) × Within 128 own × Within 128 other × Within room rest ⌝ }
-    ensures { λ r. ⌜ r ≡ (((pos d +ℤ own) -ℤ other) +ℤ rest) ⌝ }
+// The registers of a connection after moving.
+fn moved(d: usize, own: i64, other: i64) -> i64
+    requires { ⌜ (d < depthRoom) × Within 128 own × Within 128 other ⌝ }
+    ensures { λ r. ⌜ r ≡ ((pos d +ℤ own) -ℤ other) ⌝ }
 {
     let n = whole(d);
-    n + own - other + rest
+    n + own - other
+}
+
+// Them as a count.
+fn counted(z: i64) -> u32
+    requires { ⌜ Within 65792 z ⌝ }
+    ensures { λ r. ⌜ r ≡ up z ⌝ }
+{
+    if z < 0 { 0 } else { z as u32 }
 }
 
 // The lag of a node: 0 for an input.
@@ -57,8 +60,30 @@ fn lag_at(
     lag_of(labels[u], period)
 }
 
-// The registers of n leaves, from place p on, of the LUT with this root.
-fn leaf_sum(
+// A connection, or an output with `own` 0: node u is read through d registers, before moving.
+fn take_reader(
+    tally: Tally,
+    inputs: usize,
+    gates: usize,
+    period: usize,
+    labels: &[i64],
+    marks: &[usize],
+    own: i64,
+    u: usize,
+    d: usize,
+) -> Tally
+    requires { ⌜ LagsHeld (marking inputs gates period (now labels) (now marks)) ⌝ }
+    requires { ⌜ (d < depthRoom) × Within 128 own ⌝ }
+    ensures { λ r. ⌜ Took (tap u ((pos d +ℤ own) -ℤ lagIn (entriesIn (marking inputs gates period (now (labels .entry)) (now (marks .entry)))) u) ∷ []) (tally .places) (r .places) ⌝ }
+{
+    let other = lag_at(inputs, gates, period, labels, marks, u);
+    let number = counted(moved(d, own, other));
+    tally.take(u, number)
+}
+
+// n leaves, from place p on, of the LUT with this root.
+fn take_leaves(
+    tally: Tally,
     inputs: usize,
     gates: usize,
     period: usize,
@@ -69,34 +94,27 @@ fn leaf_sum(
     root: usize,
     p: usize,
     n: usize,
-) -> i64
+) -> Tally
     requires { ⌜ LagsHeld (marking inputs gates period (now labels) (now marks)) ⌝ }
-    requires { ⌜ (n ≤ mostPins) × (p + n ≤ length (now nodes)) × (p + n ≤ length (now backs)) ⌝ }
+    requires { ⌜ (p + n ≤ length (now nodes)) × (p + n ≤ length (now backs)) ⌝ }
     requires { ⌜ Below depthRoom (now backs) p n ⌝ }
-    ensures { λ r. ⌜ Counted (65792 * n) (leafSum (entriesIn (marking inputs gates period (now (labels .entry)) (now (marks .entry)))) (lagIn (entriesIn (marking inputs gates period (now (labels .entry)) (now (marks .entry)))) root) (copiesFrom (now (nodes .entry)) (now (backs .entry)) p n)) r ⌝ }
+    ensures { λ r. ⌜ Took (leafTaps (entriesIn (marking inputs gates period (now (labels .entry)) (now (marks .entry)))) (lagIn (entriesIn (marking inputs gates period (now (labels .entry)) (now (marks .entry)))) root) (copiesFrom (now (nodes .entry)) (now (backs .entry)) p n)) (tally .places) (r .places) ⌝ }
 {
-    if n == 0 {
-        return 0;
-    }
     let own = lag_at(inputs, gates, period, labels, marks, root);
-    let other = lag_at(inputs, gates, period, labels, marks, nodes[p]);
-    let rest = leaf_sum(
-        inputs,
-        gates,
-        period,
-        labels,
-        marks,
-        nodes,
-        backs,
-        root,
-        p + 1,
-        n - 1,
-    );
-    moved(backs[p], own, other, rest)
+    let mut t = tally;
+    let mut j = 0;
+    while j < n {
+        let u = nodes[p + j];
+        let d = backs[p + j];
+        t = take_reader(t, inputs, gates, period, labels, marks, own, u, d);
+        j += 1;
+    }
+    t
 }
 
-// The registers of the LUTs of the gates from gate g on.
-fn lut_sum(
+// The leaves of the LUT of gate g, where it has one.
+fn take_gate(
+    tally: Tally,
     inputs: usize,
     gates: usize,
     period: usize,
@@ -106,30 +124,17 @@ fn lut_sum(
     nodes: &[usize],
     backs: &[usize],
     g: usize,
-) -> i64
+) -> Tally
     requires { ⌜ LeavesHeld (kept inputs gates period (now labels) (now marks) (now sizes) (now nodes) (now backs) []) ⌝ }
-    requires { ⌜ g ≤ gates ⌝ }
-    ensures { λ r. ⌜ Counted (394752 * (gates - g)) (lutSum (entriesIn (marking inputs gates period (now (labels .entry)) (now (marks .entry)))) (entriesFrom (kept inputs gates period (now (labels .entry)) (now (marks .entry)) (now (sizes .entry)) (now (nodes .entry)) (now (backs .entry)) []) g (gates - g))) r ⌝ }
+    requires { ⌜ g < gates ⌝ }
+    ensures { λ r. ⌜ Took (lutTaps (entriesIn (marking inputs gates period (now (labels .entry)) (now (marks .entry)))) (entriesFrom (kept inputs gates period (now (labels .entry)) (now (marks .entry)) (now (sizes .entry)) (now (nodes .entry)) (now (backs .entry)) []) g 1)) (tally .places) (r .places) ⌝ }
 {
-    if g == gates {
-        return 0;
-    }
-    let rest = lut_sum(
-        inputs,
-        gates,
-        period,
-        labels,
-        marks,
-        sizes,
-        nodes,
-        backs,
-        g + 1,
-    );
     if marks[g] == 0 {
-        return rest;
+        return tally;
     }
     let root = inputs + g;
-    let own = leaf_sum(
+    take_leaves(
+        tally,
         inputs,
         gates,
         period,
@@ -140,12 +145,47 @@ fn lut_sum(
         root,
         PINS * g,
         sizes[g],
-    );
-    plus(own, rest)
+    )
 }
 
-// The registers of n outputs, from output i on.
-fn output_sum(
+// The leaves of all LUTs.
+fn take_luts(
+    tally: Tally,
+    inputs: usize,
+    gates: usize,
+    period: usize,
+    labels: &[i64],
+    marks: &[usize],
+    sizes: &[usize],
+    nodes: &[usize],
+    backs: &[usize],
+) -> Tally
+    requires { ⌜ LeavesHeld (kept inputs gates period (now labels) (now marks) (now sizes) (now nodes) (now backs) []) ⌝ }
+    ensures { λ r. ⌜ Took (lutTaps (entriesIn (marking inputs gates period (now (labels .entry)) (now (marks .entry)))) (entriesFrom (kept inputs gates period (now (labels .entry)) (now (marks .entry)) (now (sizes .entry)) (now (nodes .entry)) (now (backs .entry)) []) 0 gates)) (tally .places) (r .places) ⌝ }
+{
+    let mut t = tally;
+    let mut g = 0;
+    while g < gates {
+        t = take_gate(
+            t,
+            inputs,
+            gates,
+            period,
+            labels,
+            marks,
+            sizes,
+            nodes,
+            backs,
+            g,
+        );
+        g += 1;
+    }
+    t
+}
+
+// n outputs.
+fn take_outputs(
+    tally: Tally,
     inputs: usize,
     gates: usize,
     period: usize,
@@ -153,30 +193,22 @@ fn output_sum(
     marks: &[usize],
     outs: &[usize],
     delays: &[usize],
-    i: usize,
     n: usize,
-) -> i64
+) -> Tally
     requires { ⌜ LagsHeld (marking inputs gates period (now labels) (now marks)) ⌝ }
-    requires { ⌜ (n ≤ mostOutputs) × (i + n ≤ length (now outs)) × (i + n ≤ length (now delays)) ⌝ }
-    requires { ⌜ Below depthRoom (now delays) i n ⌝ }
-    ensures { λ r. ⌜ Counted (65792 * n) (outputSum (entriesIn (marking inputs gates period (now (labels .entry)) (now (marks .entry)))) (pinsIn (now (outs .entry)) (now (delays .entry)) i n)) r ⌝ }
+    requires { ⌜ (n ≤ length (now outs)) × (n ≤ length (now delays)) ⌝ }
+    requires { ⌜ Below depthRoom (now delays) 0 n ⌝ }
+    ensures { λ r. ⌜ Took (outputTaps (entriesIn (marking inputs gates period (now (labels .entry)) (now (marks .entry)))) (pinsIn (now (outs .entry)) (now (delays .entry)) 0 n)) (tally .places) (r .places) ⌝ }
 {
-    if n == 0 {
-        return 0;
+    let mut t = tally;
+    let mut o = 0;
+    while o < n {
+        let u = outs[o];
+        let d = delays[o];
+        t = take_reader(t, inputs, gates, period, labels, marks, 0, u, d);
+        o += 1;
     }
-    let other = lag_at(inputs, gates, period, labels, marks, outs[i]);
-    let rest = output_sum(
-        inputs,
-        gates,
-        period,
-        labels,
-        marks,
-        outs,
-        delays,
-        i + 1,
-        n - 1,
-    );
-    moved(delays[i], 0, other, rest)
+    t
 }
 
 // The register count.
@@ -192,13 +224,24 @@ pub fn count_registers(
     outs: &[usize],
     delays: &[usize],
     n: usize,
-) -> i64
+) -> usize
     requires { ⌜ LeavesHeld (kept inputs gates period (now labels) (now marks) (now sizes) (now nodes) (now backs) []) ⌝ }
-    requires { ⌜ (n ≤ mostOutputs) × (n ≤ length (now outs)) × (n ≤ length (now delays)) ⌝ }
+    requires { ⌜ (n ≤ length (now outs)) × (n ≤ length (now delays)) ⌝ }
     requires { ⌜ Below depthRoom (now delays) 0 n ⌝ }
-    ensures { λ r. ⌜ Counted room (registersOf (kept inputs gates period (now (labels .entry)) (now (marks .entry)) (now (sizes .entry)) (now (nodes .entry)) (now (backs .entry)) []) (now (outs .entry)) (now (delays .entry)) n) r ⌝ }
+    ensures { λ r. ⌜ r ≡ registersOf (kept inputs gates period (now (labels .entry)) (now (marks .entry)) (now (sizes .entry)) (now (nodes .entry)) (now (backs .entry)) []) (now (outs .entry)) (now (delays .entry)) n ⌝ }
 {
-    let luts = lut_sum(inputs, gates, period, labels, marks, sizes, nodes, backs, 0);
-    let outputs = output_sum(inputs, gates, period, labels, marks, outs, delays, 0, n);
-    plus(luts, outputs)
+    let empty = Tally::new();
+    let luts = take_luts(
+        empty,
+        inputs,
+        gates,
+        period,
+        labels,
+        marks,
+        sizes,
+        nodes,
+        backs,
+    );
+    let all = take_outputs(luts, inputs, gates, period, labels, marks, outs, delays, n);
+    all.total()
 }

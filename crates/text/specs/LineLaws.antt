@@ -88,14 +88,14 @@ lines-more a g h =
 pairs : (a b c d e f n : List ℕ) → ((a ++ b) ++ (c ++ d)) ++ (e ++ f) ++ n ≡ a ++ b ++ c ++ d ++ e ++ f ++ n
 pairs a b c d e f n = simp append-assoc
 
-pub first-text : (period count : ℕ) (registers : ℤ) → ((periodWord ++ decimal period) ++ (lutsWord ++ decimal count)) ++ (registersWord ++ signed registers) ++ newline ≡ firstLine period count registers
+pub first-text : (period count registers : ℕ) → ((periodWord ++ decimal period) ++ (lutsWord ++ decimal count)) ++ (registersWord ++ decimal registers) ++ newline ≡ firstLine period count registers
 unfolding firstLine
-first-text period count registers = pairs periodWord (decimal period) lutsWord (decimal count) registersWord (signed registers) newline
+first-text period count registers = pairs periodWord (decimal period) lutsWord (decimal count) registersWord (decimal registers) newline
 
-pub cover-text : (N : Net) (a : Kept) (count : ℕ) (registers : ℤ) → count ≡ marked (a .marks) (a .gates) → registers ≡ registerCount N (entriesIn a)
+pub cover-text : (N : Net) (a : Kept) (count registers : ℕ) → count ≡ marked (a .marks) (a .gates) → registers ≡ registerCount N (entriesIn a)
     → firstLine (a .period) count registers ++ linesFrom a 0 ≡ coverText N (a .period) (labelAt a) (entriesIn a)
 unfolding firstLine linesFrom coverText entriesIn
 cover-text N a count registers e f =
     let g : a .gates - 0 ≡ a .gates = omega arith in
-    ap₂ (λ (n : ℕ) (z : ℤ). firstLine (a .period) n z ++ linesFrom a 0) (e ∙ sym (count-entries a (a .gates))) f
+    ap₂ (λ (n m : ℕ). firstLine (a .period) n m ++ linesFrom a 0) (e ∙ sym (count-entries a (a .gates))) f
     ∙ ap (λ (n : ℕ). firstLine (a .period) (length (entriesIn a)) (registerCount N (entriesIn a)) ++ lutLines (labelAt a) (entriesFrom a 0 n)) g

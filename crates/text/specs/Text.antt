@@ -1,20 +1,19 @@
 -- Definitions: what the listing's text asks of a cover kept in arrays, and what is told of it.
 use mathlib.Core.Path.{_≡_}
-use mathlib.Core.List.{List, [], _++_}
+use mathlib.Core.List.{List, _++_}
 use Prim.Native.Nat.{ℕ, _+_, _-_, _*_, _≤_, _<_}
-use lib.IntN.{ℤ, pos, _+ℤ_}
-use lib.ListN.{length, getD}
-use lib.Seq.{sets}
-use Rattle.integers.specs.Parts.{up, dn}
+use lib.IntN.{ℤ}
+use lib.ListN.{length}
+use Rattle.integers.specs.Parts.{up}
 use Rattle.integers.specs.Lag.{lag}
-use Rattle.netlist.specs.Arrays.{stride, pinsIn, copiesFrom}
-use Rattle.netlist.specs.Net.{Net}
-use Rattle.limits.specs.Limits.{mostGates, mostOutputs, textRoom, depthRoom}
+use Rattle.netlist.specs.Arrays.{pinsIn, copiesFrom}
+use Rattle.sequences.specs.Member.{_∈_}
+use Rattle.netlist.specs.Net.{Net, IsNode, size}
+use Rattle.limits.specs.Limits.{mostGates, mostNodes, textRoom, depthRoom}
 use Rattle.covers.specs.Key.{Entry}
+use Rattle.covers.specs.SharedRegisters.{Tap}
 use Rattle.records.specs.Kept.{Kept, kept, entriesFrom, entriesIn, labelAt}
-use Rattle.records.specs.Listing.{coverText, digitText, reversed, hexLow, decimal, signed, tableText, leafText, lutWord, labelWord, lagWord, tableWord, leavesWord, newline, periodWord, lutsWord, registersWord, lutLines, lutSum, outputSum}
-use Rattle.records.specs.RoundTrip.{SmallLag}
-use Rattle.signed.specs.Range.{Small}
+use Rattle.records.specs.Listing.{coverText, decimal, signed, tableText, leafText, lutWord, labelWord, lagWord, tableWord, leavesWord, newline, periodWord, lutsWord, registersWord, lutLines, entryTaps}
 use Rattle.writer.specs.Writing.{ArraysHeld, LutsHeld, Below, Wrote}
 
 -- ---- what is asked, and what is told
@@ -24,15 +23,19 @@ pub record Listable (a : Kept) (os oc : List ℕ) (n : ℕ) (out : List ℕ) : T
   pub arrays : ArraysHeld a
   pub luts : LutsHeld a
   pub gates : a .gates ≤ mostGates
-  pub outputs : n ≤ mostOutputs
   pub sources : n ≤ length os
   pub counts : n ≤ length oc
   pub small : Below depthRoom oc 0 n
   pub room : textRoom ≤ length out
 
--- the text of the cover, for every net that has these outputs
+-- what feeds the connections and outputs are nodes of the net, and it has no more than a net can have
+pub record FedBy (N : Net) (es : List Entry) : Type 0 where
+  pub few : size N ≤ mostNodes
+  pub nodes : (t : Tap) → t ∈ entryTaps N es → IsNode N (t .source)
+
+-- the text of the cover, for every net that has these outputs and feeds it
 pub record Lists (a : Kept) (os oc : List ℕ) (n : ℕ) (before after : List ℕ) (r : ℕ) : Type 0 where
-  pub each : (N : Net) → N .outputs ≡ pinsIn os oc 0 n → Wrote (coverText N (a .period) (labelAt a) (entriesIn a)) before after r
+  pub each : (N : Net) → N .outputs ≡ pinsIn os oc 0 n → FedBy N (entriesIn a) → Wrote (coverText N (a .period) (labelAt a) (entriesIn a)) before after r
 
 -- a LUT's line up to its lag, and from its table on
 unfoldable pub lineFront : ℕ → ℤ → ℤ → List ℕ
@@ -42,8 +45,8 @@ unfoldable pub lineBack : ℕ → ℕ → List ℕ → List ℕ → ℕ → List
 lineBack n table nodes backs p = tableWord ++ tableText n table ++ leavesWord ++ leafText (copiesFrom nodes backs p n) ++ newline
 
 -- the first line
-unfoldable pub firstLine : ℕ → ℕ → ℤ → List ℕ
-firstLine period count registers = periodWord ++ decimal period ++ lutsWord ++ decimal count ++ registersWord ++ signed registers ++ newline
+unfoldable pub firstLine : ℕ → ℕ → ℕ → List ℕ
+firstLine period count registers = periodWord ++ decimal period ++ lutsWord ++ decimal count ++ registersWord ++ decimal registers ++ newline
 
 -- the line of gate g, none where it has no LUT
 unfoldable pub lineAt : Kept → ℕ → List ℕ

@@ -154,14 +154,13 @@ fn put_lines(
 // ---- the text
 
 // The first line.
-fn put_first(period: usize, count: usize, registers: i64, out: &mut [u8]) -> usize
-    requires { ⌜ Small registers ⌝ }
+fn put_first(period: usize, count: usize, registers: usize, out: &mut [u8]) -> usize
     requires { ⌜ 86 ≤ length (now out) ⌝ }
     ensures { λ r. ⌜ Put 86 0 (firstLine period count registers) (now (out .entry)) (now (out .exit)) r ⌝ }
 {
     let a = put_field(b"period ", period, 0, out);
     let b = put_field(b" luts ", count, a, out);
-    let c = put_signed_field(b" registers ", registers, b, out);
+    let c = put_field(b" registers ", registers, b, out);
     put_byte(10, c, out)
 }
 

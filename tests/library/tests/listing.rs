@@ -1,6 +1,6 @@
 //! The program `listing` over standard input and output, against the second mapper's text.
 
-use library::nets::{hand_made, largest_record, net_a, net_b, net_c};
+use library::nets::{hand_made, largest_record, net, net_a, net_b, net_c, Read, AND};
 use library::programs;
 use second::damage::damaged_net;
 use second::encode::encode;
@@ -44,6 +44,29 @@ fn examples() {
             }
         }
     }
+}
+
+/// Document 02, E2: readers of one node share a chain, and inputs are nodes too.
+#[test]
+fn shared_registers() {
+    let count = |outputs: &[Read], gates: &[(&[Read], u64)], k, target| {
+        let text = same(k, target, &encode(&net(2, gates, outputs)));
+        let first = text.lines().next().unwrap().to_string();
+        first.split(' ').next_back().unwrap().to_string()
+    };
+    // the LUT of C's gate has lag -1, its leaves 0 registers
+    let c: [(&[Read], u64); 1] = [(&[(0, 1), (1, 1)], AND)];
+    assert_eq!(count(&[(2, 0)], &c, 2, 1), "1");
+    assert_eq!(count(&[(2, 0), (0, 2)], &c, 2, 1), "3");
+    assert_eq!(count(&[(2, 0), (2, 1)], &c, 2, 1), "2");
+    assert_eq!(count(&[(2, 0), (2, 0)], &c, 2, 1), "1");
+    assert_eq!(count(&[(2, 0), (2, 1), (0, 2), (0, 1)], &c, 2, 1), "4");
+    // B at k 2 and target 1: "still showing 2"
+    let b = same(2, 1, &net_b(1));
+    assert!(b.starts_with("period 1 luts 2 registers 2\n"), "{b}");
+    // two LUTs read input 0, through 1 register and through 2
+    let two: [(&[Read], u64); 2] = [(&[(0, 1), (1, 0)], AND), (&[(0, 2), (1, 0)], AND)];
+    assert_eq!(count(&[(2, 0), (3, 0)], &two, 2, 2), "2");
 }
 
 #[test]

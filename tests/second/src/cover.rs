@@ -39,17 +39,19 @@ impl Cover {
         }
     }
 
-    /// The registers of every LUT connection, LUT by LUT and leaf by leaf, and then of
-    /// every output. None if a gate that is read has no LUT.
-    pub fn connections(&self, net: &Net) -> Option<Vec<i64>> {
+    /// Every LUT connection, LUT by LUT and leaf by leaf, and then every output: the node
+    /// that feeds it and its registers. None if a gate that is read has no LUT.
+    pub fn connections(&self, net: &Net) -> Option<Vec<(usize, i64)>> {
         let mut all = Vec::new();
         for lut in &self.luts {
             for leaf in &lut.leaves {
-                all.push(i64::from(leaf.d) + lut.lag - self.lag(net, leaf.node)?);
+                let own = i64::from(leaf.d) + lut.lag;
+                all.push((leaf.node, own - self.lag(net, leaf.node)?));
             }
         }
         for output in &net.outputs {
-            all.push(i64::from(output.count) - self.lag(net, output.source)?);
+            let source = output.source;
+            all.push((source, i64::from(output.count) - self.lag(net, source)?));
         }
         Some(all)
     }

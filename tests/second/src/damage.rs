@@ -99,7 +99,7 @@ pub fn free_cover(random: &mut Random, net: &Net, cuts: &CutSets) -> Cover {
         let step = random.pick(&[-1, 1]);
         cover.luts[at].lag += step;
         let connections = cover.connections(net).expect("every LUT is there");
-        if connections.iter().any(|&registers| registers < 0) {
+        if connections.iter().any(|&(_, registers)| registers < 0) {
             cover.luts[at].lag -= step;
         }
     }

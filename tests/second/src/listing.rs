@@ -40,13 +40,13 @@ fn lines(limits: Limits, k: u32, target: u32, net: &[u8]) -> Result<String, Stop
     Ok(text(&net, &cover, &labels))
 }
 
-/// The sum over all LUT connections and outputs.
+/// For each node the largest number on any connection or output it feeds, added. Sorted
+/// by node and number, the last of each node is its largest.
 pub fn registers(net: &Net, cover: &Cover) -> i64 {
-    cover
-        .connections(net)
-        .expect("a gate without a LUT")
-        .iter()
-        .sum()
+    let mut all = cover.connections(net).expect("a gate without a LUT");
+    all.sort_unstable();
+    let nodes = all.chunk_by(|one, next| one.0 == next.0);
+    nodes.map(|own| own[own.len() - 1].1).sum()
 }
 
 fn text(net: &Net, cover: &Cover, labels: &[i64]) -> String {

@@ -21,7 +21,7 @@ pub fn check_cover(net: &Net, cover: &Cover) -> Result<(), u8> {
         return Err(15);
     }
     let connections = cover.connections(net).ok_or(16)?;
-    if connections.iter().any(|&registers| registers < 0) {
+    if connections.iter().any(|&(_, registers)| registers < 0) {
         return Err(17);
     }
     if longest_chain(net, cover) > cover.period {

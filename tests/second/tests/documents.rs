@@ -46,8 +46,9 @@ fn definition(line: &str) -> Option<&str> {
     (behind.starts_with(':') || rest != line).then_some(name)
 }
 
-/// The function or type that a line of a program or of a test declares.
+/// The function, method or type that a line of a program or of a test declares.
 fn item(line: &str) -> Option<&str> {
+    let line = line.trim_start();
     let (kind, rest) = without(&["pub ", "extern \"C\" "], line).split_once(' ')?;
     let mut words = rest.split(|c: char| !c.is_alphanumeric() && c != '_');
     words

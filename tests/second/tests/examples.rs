@@ -59,6 +59,25 @@ fn b_moves_a_register() {
     assert_eq!(listing(2, 0, &net_b(1)), text);
 }
 
+/// Document 02, E2: readers of one node share a chain, and inputs are nodes too.
+#[test]
+fn c_shares_registers() {
+    let first = |outputs: &[(usize, u32)]| {
+        let net = net_bytes(2, &[(&[(0, 1), (1, 1)], AND)], outputs);
+        let text = listing(2, 1, &net);
+        text.lines().next().unwrap().to_string()
+    };
+    // the LUT of gate 2 has lag -1, its leaves 0 registers
+    assert_eq!(first(&[(2, 0)]), "period 1 luts 1 registers 1");
+    assert_eq!(first(&[(2, 0), (0, 2)]), "period 1 luts 1 registers 3");
+    assert_eq!(first(&[(2, 0), (2, 1)]), "period 1 luts 1 registers 2");
+    assert_eq!(first(&[(2, 0), (2, 0)]), "period 1 luts 1 registers 1");
+    assert_eq!(
+        first(&[(2, 0), (2, 1), (0, 2), (0, 1)]),
+        "period 1 luts 1 registers 4"
+    );
+}
+
 #[test]
 fn b_at_k_3_is_one_lut() {
     let text = "period 1 luts 1 registers 1\n\

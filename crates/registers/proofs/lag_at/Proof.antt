@@ -12,8 +12,8 @@ use Rattle.integers.specs.Lag.{lag}
 use Rattle.records.specs.Kept.{Kept, entriesIn, labelAt}
 use Rattle.records.specs.Listing.{lagIn}
 use Rattle.signed.specs.Range.{Small}
-use Rattle.registers.specs.Sums.{Counted, LagsHeld, marking}
-use Rattle.registers.specs.SumLaws.{counted-none, counted-back, within-lag, lag-asked, lag-told}
+use Rattle.registers.specs.Counting.{Counted, LagsHeld, marking}
+use Rattle.registers.specs.CountLaws.{counted-none, counted-back, within-lag, lag-asked, lag-told}
 use Rattle.registers.specs.LagLaws.{lag-input, lag-beyond, lag-unmarked, lag-marked}
 use Rattle.registers.proofs.lag_at.Statement.{statement}
 use Rattle.registers.proofs.lag_at.Tie as tie
@@ -39,10 +39,18 @@ module _ (a : Kept) (u : ℕ) (p : LagsHeld a) (l : a .inputs ≤ u) (h : u - a 
         }
 
 returns : tie.Need-returns
-returns c = counted-none 128 (lag-input (marking (c .before .before .args .inputs) (c .before .before .args .gates) (c .before .before .args .period) (now (c .before .before .args .labels)) (now (c .before .before .args .marks))) (c .before .before .args .u) (c .if1 .taken))
+returns c =
+    let s = c .before .before .args in
+    let a = marking (s .inputs) (s .gates) (s .period) (now (s .labels)) (now (s .marks)) in
+    counted-none 128 (lag-input a (s .u) (c .if1 .taken))
 
 returns-2 : tie.Need-returns-2
-returns-2 c = let l = c .before .if1 .left in let h = c .if2 .taken in counted-none 128 (lag-beyond (marking (c .before .before .before .args .inputs) (c .before .before .before .args .gates) (c .before .before .before .args .period) (now (c .before .before .before .args .labels)) (now (c .before .before .before .args .marks))) (c .before .before .before .args .u) (omega arith))
+returns-2 c =
+    let s = c .before .before .before .args in
+    let a = marking (s .inputs) (s .gates) (s .period) (now (s .labels)) (now (s .marks)) in
+    let l = c .before .if1 .left in
+    let h = c .if2 .taken in
+    counted-none 128 (lag-beyond a (s .u) (omega arith))
 
 mul-if3 : tie.Need-mul-if3
 mul-if3 c = search needs
@@ -51,7 +59,11 @@ shared-slice-read-if3 : tie.Need-shared-slice-read-if3
 shared-slice-read-if3 c = search needs
 
 returns-3 : tie.Need-returns-3
-returns-3 c = counted-none 128 (unmarked (marking (c .before .before .before .before .before .args .inputs) (c .before .before .before .before .before .args .gates) (c .before .before .before .before .before .args .period) (now (c .before .before .before .before .before .args .labels)) (now (c .before .before .before .before .before .args .marks))) (c .before .before .before .before .before .args .u) (c .before .before .before .before .before .pre) (c .before .before .before .if1 .left) (c .before .before .if2 .left) (c .if3 .taken))
+returns-3 c =
+    let s = c .before .before .before .before .before .args in
+    let a = marking (s .inputs) (s .gates) (s .period) (now (s .labels)) (now (s .marks)) in
+    let q = c .before .before .before .before .before .pre in
+    counted-none 128 (unmarked a (s .u) q (c .before .before .before .if1 .left) (c .before .before .if2 .left) (c .if3 .taken))
 
 mul-lag-of : tie.Need-mul-lag-of
 mul-lag-of c = search needs
@@ -61,11 +73,19 @@ shared-slice-copy-out-lag-of c = search needs
 
 lag-of-requires : tie.Need-lag-of-requires
 lag-of-requires c κs =
-    let p = (c .before .before .before .before .before .before .pre) in
-    lag-asked (labelAt (marking (c .before .before .before .before .before .before .args .inputs) (c .before .before .before .before .before .before .args .gates) (c .before .before .before .before .before .before .args .period) (now (c .before .before .before .before .before .before .args .labels)) (now (c .before .before .before .before .before .before .args .marks))) (c .before .before .before .before .before .before .args .u)) (c .before .before .before .before .before .before .args .period) (small (marking (c .before .before .before .before .before .before .args .inputs) (c .before .before .before .before .before .before .args .gates) (c .before .before .before .before .before .before .args .period) (now (c .before .before .before .before .before .before .args .labels)) (now (c .before .before .before .before .before .before .args .marks))) (c .before .before .before .before .before .before .args .u) p (c .before .before .before .before .if1 .left) (c .before .before .before .if2 .left) (c .before .if3 .left)) (p .least) (p .period)
+    let s = c .before .before .before .before .before .before .args in
+    let a = marking (s .inputs) (s .gates) (s .period) (now (s .labels)) (now (s .marks)) in
+    let q = c .before .before .before .before .before .before .pre in
+    lag-asked (labelAt a (s .u)) (s .period) (small a (s .u) q (c .before .before .before .before .if1 .left) (c .before .before .before .if2 .left) (c .before .if3 .left)) (q .least) (q .period)
 
 returns-4 : tie.Need-returns-4
-returns-4 c = counted-back (omega arith) (counted (marking (c .before .before .before .before .before .before .before .args .inputs) (c .before .before .before .before .before .before .before .args .gates) (c .before .before .before .before .before .before .before .args .period) (now (c .before .before .before .before .before .before .before .args .labels)) (now (c .before .before .before .before .before .before .before .args .marks))) (c .before .before .before .before .before .before .before .args .u) (c .before .before .before .before .before .before .before .pre) (c .before .before .before .before .before .if1 .left) (c .before .before .before .before .if2 .left) (c .before .before .if3 .left) (c .lag-of .result) (c .lag-of .ensures))
+returns-4 c =
+    let s = c .before .before .before .before .before .before .before .args in
+    let a = marking (s .inputs) (s .gates) (s .period) (now (s .labels)) (now (s .marks)) in
+    let q = c .before .before .before .before .before .before .before .pre in
+    let low = c .before .before .before .before .before .if1 .left in
+    let high = c .before .before .before .before .if2 .left in
+    counted-back (omega arith) (counted a (s .u) q low high (c .before .before .if3 .left) (c .lag-of .result) (c .lag-of .ensures))
 
 pub lag-at-spec : {M : Type 1} → statement M
 lag-at-spec =

@@ -1,7 +1,7 @@
 -- `text::put_first` meets its contract.
 use borrow.Author.Needs.{needs}
-use Rattle.records.specs.Listing.{registersWord}
-use Rattle.digits.specs.PutLaws.{put-then, put-same, put-stored}
+use native.Mathlib.Omega.{arith}
+use Rattle.digits.specs.PutLaws.{put-then, put-more, put-same}
 use Rattle.text.specs.LineLaws.{first-text}
 use Rattle.text.proofs.put_first.Statement.{statement}
 use Rattle.text.proofs.put_first.Tie as tie
@@ -18,11 +18,11 @@ slice-aggregate-put-field-2 c = search needs
 put-field-requires-2 : tie.Need-put-field-requires-2
 put-field-requires-2 c κs = search needs
 
-slice-aggregate-put-signed-field : tie.Need-slice-aggregate-put-signed-field
-slice-aggregate-put-signed-field c = search needs
+slice-aggregate-put-field-3 : tie.Need-slice-aggregate-put-field-3
+slice-aggregate-put-field-3 c = search needs
 
-put-signed-field-requires : tie.Need-put-signed-field-requires
-put-signed-field-requires c κs = search needs
+put-field-requires-3 : tie.Need-put-field-requires-3
+put-field-requires-3 c κs = search needs
 
 put-byte-requires : tie.Need-put-byte-requires
 put-byte-requires c κs = search needs
@@ -32,9 +32,12 @@ same-length c = search needs
 
 returns : tie.Need-returns
 returns c =
-    let z = c .before .before .before .before .before .before .before .before .before .before .before .before .before .before .before .before .before .before .before .before .args .registers in
-    put-same (first-text (c .before .before .before .before .before .before .before .before .before .before .before .before .before .before .before .before .before .before .before .before .args .period) (c .before .before .before .before .before .before .before .before .before .before .before .before .before .before .before .before .before .before .before .before .args .count) z)
-    (put-then (put-then (put-then (c .before .before .before .before .before .before .before .before .before .before .before .before .before .before .before .before .put-field .ensures) (c .before .before .before .before .before .before .before .before .before .before .before .put-field2 .ensures)) (put-stored registersWord z (c .before .before .before .before .before .before .before .before .before .before .before .before .before .before .before .before .before .before .before .before .pre .0) (c .before .before .before .before .before .before .put-signed-field .ensures))) (c .before .before .put-byte .ensures))
+    let s = c .before .before .before .before .before .before .before .before .before .before .before .before .before .before .before .before .before .before .before .before .args in
+    let a = c .before .before .before .before .before .before .before .before .before .before .before .before .before .before .before .before .put-field .ensures in
+    let b = c .before .before .before .before .before .before .before .before .before .before .before .put-field2 .ensures in
+    let d = c .before .before .before .before .before .before .put-field3 .ensures in
+    let w = put-then (put-then (put-then a b) d) (c .before .before .put-byte .ensures) in
+    put-more 86 (omega arith) (put-same (first-text (s .period) (s .count) (s .registers)) w)
 
 pub put-first-spec : {M : Type 1} → statement M
 put-first-spec =
@@ -44,8 +47,8 @@ put-first-spec =
     put-field-requires
     slice-aggregate-put-field-2
     put-field-requires-2
-    slice-aggregate-put-signed-field
-    put-signed-field-requires
+    slice-aggregate-put-field-3
+    put-field-requires-3
     put-byte-requires
     same-length
     returns)

@@ -16,7 +16,7 @@ use Rattle.signed.specs.RangeLaws.{back, small-fits}
 use Rattle.writer.specs.Writing.{LutHeld}
 use Rattle.digits.specs.Put.{Put}
 use Rattle.text.specs.Text.{GateAsked, lineFront}
-use Rattle.registers.specs.SumLaws.{lag-asked, lag-told, within-lag, within-small}
+use Rattle.registers.specs.CountLaws.{lag-asked, lag-told, within-lag, within-small}
 use Rattle.digits.specs.PutLaws.{put-none, put-then, put-room, put-more, put-same}
 use Rattle.text.specs.LineLaws.{line-none, line-some}
 use Rattle.text.proofs.put_gate.Statement.{statement}

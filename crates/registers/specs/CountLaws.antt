@@ -1,17 +1,18 @@
--- Sums of whole numbers and how large they get.
+-- Whole numbers and how large they get.
 use mathlib.Core.Path.{_≡_, refl, sym, ap, ap₂, _∙_}
 use Prim.Native.Nat.{ℕ, _+_, _≤_, _<_, _^_}
 use native.Mathlib.Omega.{arith}
-use lib.IntN.{ℤ, pos, _+ℤ_, _-ℤ_}
+use lib.IntN.{ℤ, pos, negsuc, _+ℤ_, _-ℤ_}
+use lib.Signed.{_<ℤ_}
 use mir.Syntax.{w64}
 use mir.Val.{SFits, toZ, ofZ}
 use Rattle.limits.specs.Limits.{depthRoom}
-use Rattle.integers.specs.Parts.{+-parts, sub-parts}
+use Rattle.integers.specs.Parts.{ints, up as above, +-parts, sub-parts}
 use Rattle.integers.specs.Lag.{lag}
 use Rattle.records.specs.RoundTrip.{SmallLag, up, down}
 use Rattle.signed.specs.Range.{Small, room}
 use Rattle.signed.specs.RangeLaws.{one-zero, other-zero, parts-mag, fits-of, small-fits, back}
-use Rattle.registers.specs.Sums.{Within, Counted}
+use Rattle.registers.specs.Counting.{Within, Counted}
 
 pub within-pos : (n m : ℕ) → n ≤ m → Within m (pos n)
 within-pos n m h = record { high = h; low = omega arith }
@@ -47,6 +48,10 @@ within-small {m} z h w = let a = w .high in let b = w .low in record { size = pa
 pub within-fits : {m : ℕ} (z : ℤ) → m < 2 ^ 63 → Within m z → SFits w64 z
 within-fits {m} z h w = let a = w .high in let b = w .low in fits-of z m h (parts-mag z m (omega arith) (omega arith))
 
+pub none-below : (z : ℤ) → z <ℤ pos 0 → above z ≡ 0
+none-below (pos n) h = absurd (omega (arith, ints))
+none-below (negsuc n) h = refl
+
 -- ---- stored numbers
 
 pub stored : {m : ℕ} (z : ℤ) → m < 2 ^ 63 → Within m z → toZ w64 (ofZ w64 z) ≡ z
@@ -68,12 +73,6 @@ counted-back {m} {z} {r} h c = rw (stored r h (c .within)) c
 pub counted-none : {z : ℤ} (m : ℕ) → z ≡ pos 0 → Counted m z (pos 0)
 counted-none m e = record { same = sym e; within = within-pos 0 m (omega arith) }
 
-pub counted-same : {m : ℕ} {z y r : ℤ} → z ≡ y → Counted m z r → Counted m y r
-counted-same e c = record { same = c .same ∙ e; within = c .within }
-
-pub counted-more : {m : ℕ} {z r : ℤ} (k : ℕ) → m ≤ k → Counted m z r → Counted k z r
-counted-more k h c = record { same = c .same; within = within-more k h (c .within) }
-
 -- ---- the lag of a stored label
 
 pub lag-asked : (z : ℤ) (φ : ℕ) → Small z → 1 ≤ φ → φ < 256 → Small (toZ w64 (ofZ w64 z)) × (1 ≤ φ) × (φ ≤ room)
@@ -82,27 +81,25 @@ lag-asked z φ s l h = (rw (back z (small-fits z s)) s, l, omega arith)
 pub lag-told : (z : ℤ) (φ : ℕ) (r : ℤ) → Small z → r ≡ lag φ (toZ w64 (ofZ w64 z)) → r ≡ lag φ z
 lag-told z φ r s e = e ∙ ap (lag φ) (back z (small-fits z s))
 
--- ---- sums of what was counted
+-- ---- the registers of a connection
 
-pub counted-plus : {m k : ℕ} {y z a b r : ℤ} → m + k < 2 ^ 63 → Counted m y a → Counted k z b → r ≡ (toZ w64 (ofZ w64 a) +ℤ toZ w64 (ofZ w64 b)) → Counted (m + k) (y +ℤ z) r
-counted-plus {m} {k} {y} {z} {a} {b} h v w e =
-    let s = e ∙ plus-stored a b (omega arith) (omega arith) (v .within) (w .within) in
-    record {
-      same = s ∙ ap₂ _+ℤ_ (v .same) (w .same);
-      within = rw s (within-plus a b (v .within) (w .within));
-    }
+pub within-moved : (d : ℕ) (own other : ℤ) → d < depthRoom → Within 128 own → Within 128 other → Within 65792 ((pos d +ℤ own) -ℤ other)
+within-moved d own other h v w = within-more 65792 (omega arith) (within-minus (pos d +ℤ own) other (within-plus (pos d) own (within-pos d 65535 (omega arith)) v) w)
 
--- the registers of a connection, and those of the others
-pub within-moved : {m : ℕ} (d : ℕ) (own other rest : ℤ) → d < depthRoom → Within 128 own → Within 128 other → Within m rest → Within (65792 + m) (((pos d +ℤ own) -ℤ other) +ℤ rest)
-within-moved {m} d own other rest h v w r =
-    within-more (65792 + m) (omega arith)
-    (within-plus ((pos d +ℤ own) -ℤ other) rest (within-minus (pos d +ℤ own) other (within-plus (pos d) own (within-pos d 65535 (omega arith)) v) w) r)
+-- the parts of what was stored
+pub moved-stored : (d : ℕ) {y a b r : ℤ} → Within 128 a → Counted 128 y b → r ≡ ((pos d +ℤ toZ w64 (ofZ w64 a)) -ℤ toZ w64 (ofZ w64 b)) → r ≡ ((pos d +ℤ a) -ℤ y)
+moved-stored d {y} {a} {b} u v q = (rw (stored a (omega arith) u, stored b (omega arith) (v .within)) at q) ∙ rw (v .same) refl
 
-pub counted-moved : {m d : ℕ} {x y z a b e r : ℤ} → d < depthRoom → m ≤ room → Counted 128 x a → Counted 128 y b → Counted m z e
-    → r ≡ (((pos d +ℤ toZ w64 (ofZ w64 a)) -ℤ toZ w64 (ofZ w64 b)) +ℤ toZ w64 (ofZ w64 e)) → Counted (65792 + m) (((pos d +ℤ x) -ℤ y) +ℤ z) r
-counted-moved {m} {d} {x} {y} {z} {a} {b} {e} h l u v w q =
-    let s = rw (stored a (omega arith) (u .within), stored b (omega arith) (v .within), stored e (omega arith) (w .within)) at q in
-    record {
-      same = s ∙ rw (u .same, v .same, w .same) refl;
-      within = rw s (within-moved d a b e h (u .within) (v .within) (w .within));
-    }
+module _ (d : ℕ) {y a b r : ℤ} (u : Within 128 a) (v : Counted 128 y b) (q : r ≡ ((pos d +ℤ toZ w64 (ofZ w64 a)) -ℤ toZ w64 (ofZ w64 b))) (h : d < depthRoom) where
+  moved-small : Within 65792 r
+  moved-small = rw (moved-stored d u v q) (within-moved d a y h u (rw (v .same) at (v .within)))
+
+  pub moved-within : Within 65792 (toZ w64 (ofZ w64 r))
+  moved-within = within-back r (omega arith) moved-small
+
+  -- the count of a connection
+  pub moved-counted : (number : ℕ) → number ≡ above (toZ w64 (ofZ w64 r)) → number ≡ above ((pos d +ℤ a) -ℤ y)
+  moved-counted number e = e ∙ ap (λ (z : ℤ). above z) (stored r (omega arith) moved-small ∙ moved-stored d u v q)
+
+pub told : {m : ℕ} {z r : ℤ} → m < 2 ^ 63 → Counted m z r → toZ w64 (ofZ w64 r) ≡ z
+told {m} {z} {r} h c = counted-back h c .same

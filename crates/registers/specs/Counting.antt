@@ -1,16 +1,17 @@
--- Definitions: the register count of a cover kept in arrays, as a sum over its leaves and outputs.
+-- Definitions: the register count of a cover kept in arrays, over its leaves and outputs.
 use mathlib.Core.Path.{_≡_}
-use mathlib.Core.List.{List, []}
+use mathlib.Core.List.{List, [], _++_}
 use Prim.Native.Nat.{ℕ, _+_, _*_, _≤_, _<_}
-use lib.IntN.{ℤ, pos, _+ℤ_}
+use lib.IntN.{ℤ}
 use lib.ListN.{length, getD}
-use Rattle.limits.specs.Limits.{depthRoom, mostGates}
+use Rattle.limits.specs.Limits.{depthRoom, mostGates, mostNodes}
 use Rattle.integers.specs.Parts.{up, dn}
 use Rattle.integers.specs.Lag.{lag}
 use Rattle.netlist.specs.Arrays.{stride, pinsIn}
 use Rattle.covers.specs.Key.{Entry}
+use Rattle.covers.specs.SharedRegisters.{Tap, sharedCount}
 use Rattle.records.specs.Kept.{Kept, kept, entriesFrom, entriesIn, labelAt}
-use Rattle.records.specs.Listing.{lutSum, outputSum}
+use Rattle.records.specs.Listing.{lutTaps, outputTaps}
 use Rattle.records.specs.RoundTrip.{SmallLag}
 use Rattle.signed.specs.Range.{Small}
 use Rattle.writer.specs.Writing.{Below}
@@ -33,9 +34,14 @@ marking inputs gates period labels marks = kept inputs gates period labels marks
 abbrev pub lagsOf : Kept → List Entry
 lagsOf a = entriesIn (marking (a .inputs) (a .gates) (a .period) (a .labels) (a .marks))
 
--- the register count for n outputs
-unfoldable pub registersOf : Kept → List ℕ → List ℕ → ℕ → ℤ
-registersOf a os oc n = lutSum (lagsOf a) (entriesFrom a 0 (a .gates)) +ℤ outputSum (lagsOf a) (pinsIn os oc 0 n)
+-- all connections, and n outputs
+unfoldable pub tapsOf : Kept → List ℕ → List ℕ → ℕ → List Tap
+tapsOf a os oc n = lutTaps (lagsOf a) (entriesFrom a 0 (a .gates)) ++ outputTaps (lagsOf a) (pinsIn os oc 0 n)
+
+-- the register count, over a place for each node that a net can have
+unfoldable pub registersOf : Kept → List ℕ → List ℕ → ℕ → ℕ
+unfolding tapsOf
+registersOf a os oc n = sharedCount mostNodes (tapsOf a os oc n)
 
 -- the arrays are long enough, and the lags of the marked gates are small
 pub record LagsHeld (a : Kept) : Type 0 where
