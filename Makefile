@@ -23,10 +23,11 @@ library:
 	@.ci/progress .rt-library.log check kamfelu
 	@.ci/progress .rt-library.log staticlib kamfelu
 
-# Times of map, mark and the second mapper on the same nets, and ABC's periods where it is installed; then of align and a plain loop.
+# Times of map, mark and the second mapper on the same nets, and ABC's periods where it is installed; then of align and a plain loop, then of mark on records with large cones.
 bench: library
 	cd tests && cargo run --profile timing --offline --quiet -p library --bin bench
 	cd tests && cargo run --profile timing --offline --quiet -p library --bin bench_align
+	cd tests && cargo run --profile timing --offline --quiet -p library --bin bench_leaves
 
 # The deepest stack use seen.
 depth: library

@@ -5,15 +5,16 @@ use mathlib.Core.Logic.{_⊎_}
 use Prim.Native.Nat.{ℕ, _+_, _-_, _*_, _≤_, _<_}
 use lib.ListN.{length, getD}
 use Rattle.sequences.specs.Member.{_∈_}
-use Rattle.netlist.specs.Copies.{Copy}
-use Rattle.copies.specs.Lists.{sourceAt, members}
+use Rattle.netlist.specs.Copies.{Copy, Rising}
+use Rattle.copies.specs.Lists.{copiesIn, sourceAt, members}
 
--- n leaves, and a limit on the members: n leaves times G gates
+-- n leaves that rise, and a limit on the members: n leaves times G gates
 pub record Leaves (G : ℕ) (leafNodes leafBacks : List ℕ) (n limit : ℕ) : Type 0 where
   pub nodes : n ≤ length leafNodes
   pub backs : n ≤ length leafBacks
   pub product : limit ≡ n * G
   pub small : limit ≤ members
+  pub rising : Rising (copiesIn leafNodes leafBacks n)
 
 -- One copy y met on the walk over C with leaves L, I inputs and a limit: r is 0 where there is no cut, else the new length.
 pub data Visit (I limit : ℕ) (L C : List Copy) (y : Copy) (r : ℕ) (C′ : List Copy) : Type 0 where

@@ -5,7 +5,7 @@ use Prim.Native.Nat.{ℕ, _+_}
 use Rattle.netlist.specs.Net.{Net}
 use Rattle.netlist.specs.Checks.{Loopless}
 use Rattle.netlist.specs.Wired.{Wired}
-use Rattle.netlist.specs.Copies.{IsCone, IsLeaves, IsCut, Rising}
+use Rattle.netlist.specs.Copies.{IsCone, IsLeaves, IsCut}
 use Rattle.cones.specs.Ranks.{Ranked}
 use Rattle.copies.specs.Lists.{copiesIn, Bounded, Room, SourcesFirst}
 use Rattle.cone.specs.declared.Told.the-variants.{Cut, NoCut}
@@ -17,11 +17,11 @@ abbrev pub numberOf : declared.Told → ℕ
 numberOf Cut = 0
 numberOf NoCut = 14
 
--- the walk from gate g to n leaves over any net with this wiring
+-- the walk from gate g to n leaves that rise, over any net with this wiring
 pub record Walk (I G : ℕ) (ps sources counts ln lb : List ℕ) (n g : ℕ) (r : Cone) : Type 0 where
   pub room : numberOf (r .verdict) ≡ 0 → Room (r .nodes) (r .backs) (r .len)
   pub bounded : numberOf (r .verdict) ≡ 0 → Bounded I G (copiesIn (r .nodes) (r .backs) (r .len))
   pub cone : numberOf (r .verdict) ≡ 0 → (N : Net) → Wired N I G ps sources counts → IsCone N (I + g) (copiesIn (r .nodes) (r .backs) (r .len))
-  pub leaves : numberOf (r .verdict) ≡ 0 → (N : Net) → Wired N I G ps sources counts → Rising (copiesIn ln lb n) → IsLeaves N (copiesIn (r .nodes) (r .backs) (r .len)) (copiesIn ln lb n)
+  pub leaves : numberOf (r .verdict) ≡ 0 → (N : Net) → Wired N I G ps sources counts → IsLeaves N (copiesIn (r .nodes) (r .backs) (r .len)) (copiesIn ln lb n)
   pub order : numberOf (r .verdict) ≡ 0 → (N : Net) → Wired N I G ps sources counts → Loopless N → SourcesFirst N (copiesIn (r .nodes) (r .backs) (r .len))
   pub none : numberOf (r .verdict) ≡ 14 → (N : Net) → Wired N I G ps sources counts → Ranked N → (k : ℕ) → ¬ IsCut N k (I + g) (copiesIn ln lb n)

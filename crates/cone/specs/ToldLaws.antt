@@ -42,16 +42,16 @@ module _ {I G : ℕ} {ps sources counts ln lb : List ℕ} {n g : ℕ} where
   }
 
   -- a cut: the copies met, arranged
-  pub told-cut : (r : Cone) (C : List Copy) → numberOf (r .verdict) ≡ 0 → Room (r .nodes) (r .backs) (r .len) → Bounded I G C
+  pub told-cut : (r : Cone) (C : List Copy) → Rising (copiesIn ln lb n) → numberOf (r .verdict) ≡ 0 → Room (r .nodes) (r .backs) (r .len) → Bounded I G C
       → ((N : Net) → Wired N I G ps sources counts → Walked N (I + g) (copiesIn ln lb n) C)
       → ((N : Net) → Wired N I G ps sources counts → (x : Copy) → x ∈ C → Closed N (copiesIn ln lb n) C x)
       → ((N : Net) → Wired N I G ps sources counts → (y : Copy) → y ∈ copiesIn ln lb n → (x : Copy) × (x ∈ C) × Feeds N y x)
       → Arranged I G ps sources counts C (copiesIn (r .nodes) (r .backs) (r .len)) → Walk I G ps sources counts ln lb n g r
-  told-cut r C e room bounded walked closed touched a = record {
+  told-cut r C rising e room bounded walked closed touched a = record {
     room = λ q. room;
     bounded = λ q. mixed-bounded (a .mixed) bounded;
     cone = λ q N w. mixed-cone (a .mixed) (walked-cone (walked N w));
-    leaves = λ q N w rising. mixed-leaves (a .mixed) (walked-leaves rising (walked N w) (closed N w) (touched N w));
+    leaves = λ q N w. mixed-leaves (a .mixed) (walked-leaves rising (walked N w) (closed N w) (touched N w));
     order = λ q. a .order;
     none = λ q. absurd (cut-or-not e q);
   }
@@ -84,8 +84,8 @@ start-list us ds v = refl
 pub start-room : (us ds : List ℕ) → length us ≡ members → length ds ≡ members → Room us ds 1
 start-room us ds e f = record { nodes = e; backs = f; some = omega arith; fits = omega arith }
 
-pub start-leaves : (G : ℕ) (ln lb : List ℕ) (n : ℕ) → G ≤ mostGates → n ≤ mostPins → n ≤ length ln → n ≤ length lb → Leaves G ln lb n (n * G)
-start-leaves G ln lb n g h p q = record { nodes = p; backs = q; product = refl; small = mul-le-mul h g }
+pub start-leaves : (G : ℕ) (ln lb : List ℕ) (n : ℕ) → G ≤ mostGates → n ≤ mostPins → n ≤ length ln → n ≤ length lb → Rising (copiesIn ln lb n) → Leaves G ln lb n (n * G)
+start-leaves G ln lb n g h p q r = record { nodes = p; backs = q; product = refl; small = mul-le-mul h g; rising = r }
 
 pub start-bounded : (I G v : ℕ) (C : List Copy) → C ≡ copy v 0 ∷ [] → I ≤ v → v < I + G → Bounded I G C
 start-bounded I G v C e low high = subst (Bounded I G) (sym e) (record { low = λ c m. lowAt c m; high = λ c m. highAt c m; near = λ c m. nearAt c m })
@@ -121,11 +121,11 @@ module _ {I G : ℕ} {ps sources counts ln lb : List ℕ} {n g : ℕ} where
       bad p z = omega arith
 
   -- each leaf is touched
-  pub told-all : (r : Cone) (i : ℕ) {C : List Copy} (nodes backs : List ℕ) → numberOf (r .verdict) ≡ 0 → C ≡ copy (I + g) 0 ∷ [] → g < G → First (λ j. copyAt ln lb j ≡ copy (I + g) 0) n i → n ≤ i
+  pub told-all : (r : Cone) (i : ℕ) {C : List Copy} (nodes backs : List ℕ) → Rising (copiesIn ln lb n) → numberOf (r .verdict) ≡ 0 → C ≡ copy (I + g) 0 ∷ [] → g < G → First (λ j. copyAt ln lb j ≡ copy (I + g) 0) n i → n ≤ i
       → Room (r .nodes) (r .backs) (r .len) → Sweep I G ps sources counts (copiesIn ln lb n) C (copiesIn nodes backs (r .len)) (r .len)
       → ((j : ℕ) → j < n → Touched I ps sources counts nodes backs (r .len) (copyAt ln lb j))
       → Arranged I G ps sources counts (copiesIn nodes backs (r .len)) (copiesIn (r .nodes) (r .backs) (r .len)) → Walk I G ps sources counts ln lb n g r
-  told-all r i nodes backs e q h f k room s touched = told-cut r (copiesIn nodes backs (r .len)) e room (s .bounded)
+  told-all r i nodes backs rising e q h f k room s touched = told-cut r (copiesIn nodes backs (r .len)) rising e room (s .bounded)
       (λ N w. s .walked N (I + g) w (starts ln lb n i q h f k N w))
       (sweep-closed s (length-copiesIn nodes backs (r .len)))
       (λ N w y m. let p = copiesIn-in ln lb n m in touched-feeds w nodes backs (r .len) (s .bounded) y (subst (Touched I ps sources counts nodes backs (r .len)) (p .2) (touched (p .0) (p .1))))
@@ -148,10 +148,10 @@ module _ {I G : ℕ} {ps sources counts ln lb : List ℕ} {n g : ℕ} where
 
 module _ {I G : ℕ} {ps sources counts ln lb : List ℕ} {n g : ℕ} {r : Cone} (t : Walk I G ps sources counts ln lb n g r) (e : numberOf (r .verdict) ≡ 0) where
   -- the leaves are a cut
-  pub cone-cut : (N : Net) (k : ℕ) → Wired N I G ps sources counts → Rising (copiesIn ln lb n) → n ≤ k → IsCut N k (I + g) (copiesIn ln lb n)
-  cone-cut N k w rising h = record {
+  pub cone-cut : (N : Net) (k : ℕ) → Wired N I G ps sources counts → n ≤ k → IsCut N k (I + g) (copiesIn ln lb n)
+  cone-cut N k w h = record {
     cone = copiesIn (r .nodes) (r .backs) (r .len);
     isCone = t .cone e N w;
-    isLeaves = t .leaves e N w rising;
+    isLeaves = t .leaves e N w;
     few = let q = length-copiesIn ln lb n in omega arith;
   }

@@ -1,13 +1,14 @@
 // Cones: from a root and its leaves the copies between them, by a walk from the root.
 use copies::arrange;
 use copies::find;
+use leaflookup::seek;
 use limits::COPIES;
 use limits::PINS;
 ghost use mathlib.Core.Path.{_≡_};
 ghost use Prim.Native.Nat.{ℕ, _+_, _*_, _≤_, _<_};
 ghost use lib.ListN.{length, getD};
 ghost use Rattle.limits.specs.Limits.{mostPins};
-ghost use Rattle.netlist.specs.Copies.{copy};
+ghost use Rattle.netlist.specs.Copies.{copy, Rising};
 ghost use Rattle.netlist.specs.Arrays.{copyAt};
 ghost use Rattle.sequences.specs.Tests.{Tells};
 ghost use Rattle.copies.specs.Lists.{copiesIn, SmallWires, members, most, Room, Bounded, Place};
@@ -43,10 +44,10 @@ fn visit(
     node: usize,
     back: usize,
 ) -> usize
-    requires { ⌜ (n ≤ length (now «leaf_nodes»)) × (n ≤ length (now «leaf_backs»)) × (limit ≤ members) × Room (now nodes) (now backs) len ⌝ }
+    requires { ⌜ (n ≤ length (now «leaf_nodes»)) × (n ≤ length (now «leaf_backs»)) × (limit ≤ members) × Room (now nodes) (now backs) len × Rising (copiesIn (now «leaf_nodes») (now «leaf_backs») n) ⌝ }
     ensures { λ r. ⌜ Visit inputs limit (copiesIn (now («leaf_nodes» .entry)) (now («leaf_backs» .entry)) n) (copiesIn (now (nodes .entry)) (now (backs .entry)) len) (copy node back) r (copiesIn (now (nodes .exit)) (now (backs .exit)) r) ⌝ }
 {
-    let leaf = find(leaf_nodes, leaf_backs, n, node, back);
+    let leaf = seek(leaf_nodes, leaf_backs, n, node, back);
     if leaf < n {
         return len;
     }
@@ -276,13 +277,13 @@ pub fn walk(
     n: usize,
     g: usize,
 ) -> Cone
-    requires { ⌜ SmallWires inputs gates (now pins) (now sources) (now counts) × (n ≤ mostPins) × (n ≤ length (now «leaf_nodes»)) × (n ≤ length (now «leaf_backs»)) × (g < gates) ⌝ }
+    requires { ⌜ SmallWires inputs gates (now pins) (now sources) (now counts) × (n ≤ mostPins) × (n ≤ length (now «leaf_nodes»)) × (n ≤ length (now «leaf_backs»)) × (g < gates) × Rising (copiesIn (now «leaf_nodes») (now «leaf_backs») n) ⌝ }
     ensures { λ r. ⌜ Walk inputs gates (now (pins .entry)) (now (sources .entry)) (now (counts .entry)) (now («leaf_nodes» .entry)) (now («leaf_backs» .entry)) n g r ⌝ }
 {
     let mut nodes = [0usize; COPIES];
     let mut backs = [0usize; COPIES];
     let root = inputs + g;
-    let leaf = find(leaf_nodes, leaf_backs, n, root, 0);
+    let leaf = seek(leaf_nodes, leaf_backs, n, root, 0);
     if leaf < n {
         return Cone {
             verdict: Told::NoCut,

@@ -8,18 +8,19 @@ use Rattle.limits.specs.Limits.{mostPins}
 use Rattle.sequences.specs.Member.{_∈_}
 use Rattle.netlist.specs.Net.{Net, gate}
 use Rattle.netlist.specs.Wired.{Wired}
-use Rattle.netlist.specs.Copies.{Copy, copy, IsCone, IsLeaves}
+use Rattle.netlist.specs.Copies.{Copy, copy, IsCone, IsLeaves, Rising}
 use Rattle.netlist.specs.Tables.{bit, atLeaf, valueIn, tableOf}
 use Rattle.truth.specs.Words.{Composed}
 use Rattle.copies.specs.Lists.{copiesIn, sourceAt, SmallWires, Room, Bounded, SourcesFirst}
 
--- What a table over a cone asks: the wiring, the tables, n leaves, and a list of gate copies.
+-- What a table over a cone asks: the wiring, the tables, n leaves that rise, and a list of gate copies.
 pub record Given (I G : ℕ) (ps sources counts ts ln lb : List ℕ) (n : ℕ) (us ds : List ℕ) (len : ℕ) : Type 0 where
   pub wires : SmallWires I G ps sources counts
   pub tables : G ≤ length ts
   pub few : n ≤ mostPins
   pub leafNodes : n ≤ length ln
   pub leafBacks : n ≤ length lb
+  pub rising : Rising (copiesIn ln lb n)
   pub room : Room us ds len
   pub bounded : Bounded I G (copiesIn us ds len)
 

@@ -13,7 +13,7 @@ use Rattle.netlist.specs.Net.{Net, Pin, gate}
 use Rattle.netlist.specs.Arrays.{stride, pinsIn, copyAt}
 use Rattle.netlist.specs.ArrayLaws.{pinAt}
 use Rattle.netlist.specs.Wired.{Wired}
-use Rattle.netlist.specs.Copies.{Copy, copy, Feeds, IsLeaves}
+use Rattle.netlist.specs.Copies.{Copy, copy, Feeds, IsLeaves, Rising}
 use Rattle.netlist.specs.Tables.{bit, apply, feeding, same, atLeaf, valueIn, tableOf}
 use Rattle.cones.specs.Basics.{member?}
 use Rattle.tables.specs.Words.{bit-half, pack-same, pack-bits}
@@ -214,6 +214,6 @@ table-found ln lb n nodes backs len words v p s f h N w tabled cone leaves first
 
 module _ {I G : ℕ} {ps sources counts ln lb : List ℕ} {n g : ℕ} {r : Cone} (t : Walk I G ps sources counts ln lb n g r) (e : numberOf (r .verdict) ≡ 0) where
   -- what a table over the cone asks
-  pub cone-given : {tables : List ℕ} → SmallWires I G ps sources counts → G ≤ length tables → n ≤ mostPins → n ≤ length ln → n ≤ length lb
+  pub cone-given : {tables : List ℕ} → SmallWires I G ps sources counts → G ≤ length tables → n ≤ mostPins → n ≤ length ln → n ≤ length lb → Rising (copiesIn ln lb n)
       → Given I G ps sources counts tables ln lb n (r .nodes) (r .backs) (r .len)
-  cone-given w h k a b = record { wires = w; tables = h; few = k; leafNodes = a; leafBacks = b; room = t .room e; bounded = t .bounded e }
+  cone-given w h k a b r = record { wires = w; tables = h; few = k; leafNodes = a; leafBacks = b; rising = r; room = t .room e; bounded = t .bounded e }

@@ -1,13 +1,14 @@
 // The table of a LUT over a cone: a word for each copy, from the words of the copies before it.
 use cone::Cone;
 use copies::find;
+use leaflookup::seek;
 use limits::COPIES;
 use limits::PINS;
 ghost use mathlib.Core.Path.{_≡_};
 ghost use Prim.Native.Nat.{ℕ, _+_, _*_, _^_, _≤_, _<_};
 ghost use lib.ListN.{length, getD};
 ghost use Rattle.limits.specs.Limits.{mostPins};
-ghost use Rattle.netlist.specs.Copies.{copy};
+ghost use Rattle.netlist.specs.Copies.{copy, Rising};
 ghost use Rattle.copies.specs.Lists.{copiesIn, members, most, Place, sourceAt};
 ghost use Rattle.conetable.specs.Words.{Given, Carries, WordAt, WordsSettled, TableOver};
 
@@ -23,10 +24,10 @@ fn source_word(
     node: usize,
     back: usize,
 ) -> u64
-    requires { ⌜ (n ≤ mostPins) × (n ≤ length (now «leaf_nodes»)) × (n ≤ length (now «leaf_backs»)) × (len ≤ length (now nodes)) × (len ≤ length (now backs)) × (len ≤ length (now words)) ⌝ }
+    requires { ⌜ (n ≤ mostPins) × (n ≤ length (now «leaf_nodes»)) × (n ≤ length (now «leaf_backs»)) × (len ≤ length (now nodes)) × (len ≤ length (now backs)) × (len ≤ length (now words)) × Rising (copiesIn (now «leaf_nodes») (now «leaf_backs») n) ⌝ }
     ensures { λ r. ⌜ Carries (copiesIn (now («leaf_nodes» .entry)) (now («leaf_backs» .entry)) n) (copiesIn (now (nodes .entry)) (now (backs .entry)) len) (now (words .entry)) (copy node back) r ⌝ }
 {
-    let leaf = find(leaf_nodes, leaf_backs, n, node, back);
+    let leaf = seek(leaf_nodes, leaf_backs, n, node, back);
     if leaf < n {
         return truth::leaf_word(leaf);
     }
@@ -49,7 +50,7 @@ fn gather(
     m: usize,
     base: usize,
 ) -> [u64; PINS]
-    requires { ⌜ ((n ≤ mostPins) × (n ≤ length (now «leaf_nodes»)) × (n ≤ length (now «leaf_backs»)) × (len ≤ length (now nodes)) × (len ≤ length (now backs)) × (len ≤ length (now words))) × ((j : ℕ) → j < m → Place (now sources) (now counts) g j) × (g ≤ members) × (m ≤ mostPins) × (base ≤ most * members) ⌝ }
+    requires { ⌜ ((n ≤ mostPins) × (n ≤ length (now «leaf_nodes»)) × (n ≤ length (now «leaf_backs»)) × (len ≤ length (now nodes)) × (len ≤ length (now backs)) × (len ≤ length (now words)) × Rising (copiesIn (now «leaf_nodes») (now «leaf_backs») n)) × ((j : ℕ) → j < m → Place (now sources) (now counts) g j) × (g ≤ members) × (m ≤ mostPins) × (base ≤ most * members) ⌝ }
     ensures { λ r. ⌜ (m ≤ length r) × ((j : ℕ) → j < m → Carries (copiesIn (now («leaf_nodes» .entry)) (now («leaf_backs» .entry)) n) (copiesIn (now (nodes .entry)) (now (backs .entry)) len) (now (words .entry)) (sourceAt (now (sources .entry)) (now (counts .entry)) g base j) (getD r j 0)) ⌝ }
 {
     let mut fed = [0u64; PINS];

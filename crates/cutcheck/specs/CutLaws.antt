@@ -39,7 +39,7 @@ module _ {I G : ℕ} {ps so co ts roots sizes nodes backs : List ℕ} where
         let s = a .atSizes in
         let u = a .atNodes in
         let b = a .atBacks in
-        record { atSizes = omega arith; few = omega arith; atNodes = omega arith; atBacks = omega arith }
+        record { atSizes = omega arith; few = omega arith; atNodes = omega arith; atBacks = omega arith; rising = a .rising i h }
 
     root-is : (i : ℕ) → i < n → I + (getD roots i 0 - I) ≡ getD roots i 0
     root-is i h = let l = a .low i h in omega arith
@@ -47,7 +47,7 @@ module _ {I G : ℕ} {ps so co ts roots sizes nodes backs : List ℕ} where
     good-lut : (i : ℕ) → i < n → {r : Tried} → TriedAt I G ps so co ts roots sizes nodes backs i r → r .none ≡ false → Good I G ps so co ts roots sizes nodes backs k i (r .table)
     good-lut i h t e = record {
       cut = λ N w. subst (λ (v : ℕ). IsCut N k v (copiesFrom nodes backs (stride * i) (getD sizes i 0))) (root-is i h)
-          (t .cut e N w (a .rising i h) k (let l = length-copiesFrom nodes backs (stride * i) (getD sizes i 0) in let m = a .most i h in omega arith));
+          (t .cut e N w k (let l = length-copiesFrom nodes backs (stride * i) (getD sizes i 0) in let m = a .most i h in omega arith));
       table = t .table e;
     }
 

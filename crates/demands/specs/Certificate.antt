@@ -22,6 +22,8 @@ use Rattle.classtext.specs.ClassText.{numberLines, classText}
 use Rattle.classtext.specs.ClassTextLaws.{prints-shipped}
 use Rattle.captures.specs.AlignTold.{AlignTold}
 use Rattle.captures.specs.CaptureLaws.{align-told}
+use Rattle.leaflookup.specs.Lookup.{seekOf, LeafLookup}
+use Rattle.leaflookup.specs.LookupLaws.{leaf-lookup}
 use Rattle.demands.specs.TurnedBack.{IsNet, IsRecord, First, OfMap, OfMark}
 use Rattle.demands.specs.Calls.{MapCall, MarkCall, mapDone, markDone, MapBad, MarkBad, MapNet, MarkNet, Asked}
 use Rattle.demands.specs.MapEnds.{map-range}
@@ -82,6 +84,9 @@ pub record Certificate : Type 0 where
   pub captures : (first second : List ℕ) → AlignTold first second
   -- ---- Document 02, E2: the register count, fields in `Registers`
   pub shared : SharedCount
+  -- ---- Document 02, E3. "that test is to end at the first leaf beyond the copy sought. Yes and no are the same for every copy and rising leaf list, and what stands
+  -- behind that first leaf, rising or not, never changes them." The contract of `leaflookup: seek` equates what it gives, for all leaves and copies, with `seekOf`.
+  pub lookup : LeafLookup seekOf
 
 -- **All of it is proved.**
 pub certificate : Certificate
@@ -110,4 +115,5 @@ certificate = record {
   generator = prints-shipped;
   captures = align-told;
   shared = shared-count;
+  lookup = leaf-lookup;
 }

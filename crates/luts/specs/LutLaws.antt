@@ -10,7 +10,7 @@ use lib.ListN.{length, getD, set, take, drop}
 use lib.Seq.{getD-set-same, getD-set-other, getD-drop, ext-getD}
 use Rattle.sequences.specs.Behind.{behind}
 use Rattle.netlist.specs.Net.{Net}
-use Rattle.netlist.specs.Copies.{Copy, copy, IsCut}
+use Rattle.netlist.specs.Copies.{Copy, copy, IsCut, Rising}
 use Rattle.netlist.specs.CopyLaws.{copy-path}
 use Rattle.netlist.specs.Arrays.{stride, copyAt, copiesFrom}
 use Rattle.netlist.specs.ArrayLaws.{length-copiesFrom, getD-copiesFrom}
@@ -33,7 +33,7 @@ module _ {I G : ℕ} {ps so co ts ln lb : List ℕ} {n g : ℕ} {c : Cone} (w : 
   lut-cut e t = record {
     table = λ N d b R A k J.
         let i = w .cone e N d in
-        let l = w .leaves e N d (J .isLeaves .rising) in
+        let l = w .leaves e N d in
         t N d b i l (w .order e N d A)
         ∙ table-same (levels A) i l (length (copiesIn ln lb n) * reachOf N) (λ x m. let a = reach R i l x m in omega arith) (J .cone) (cone-determined i (J .isCone) l (J .isLeaves));
   }
@@ -46,7 +46,7 @@ module _ {I G : ℕ} {ps so co ts ln lb : List ℕ} {n g : ℕ} {c : Cone} (w : 
   pub tried-cut : {t : ℕ} → numberOf (c .verdict) ≡ 0 → TableOver I G ps so co ts (copiesIn ln lb n) (copiesIn (c .nodes) (c .backs) (c .len)) (I + g) t
       → LutTried I G ps so co ts (copiesIn ln lb n) g (record { none = false; table = t })
   tried-cut e t = record {
-    cut = λ q N d rising k h. cone-cut w e N k d rising (let l = length-copiesIn ln lb n in omega arith);
+    cut = λ q N d k h. cone-cut w e N k d (let l = length-copiesIn ln lb n in omega arith);
     table = λ q. lut-cut e t;
     none = λ q. absurd (false≢true q);
   }
@@ -72,11 +72,19 @@ copies-part nodes backs at n = ext-getD (copy 0 0) (copiesFrom (drop at nodes) (
     ∙ sym (getD-copiesFrom nodes backs at n i (copy 0 0) l))
 
 -- row i of the arrays
+row-part : (sizes nodes backs : List ℕ) (i : ℕ)
+    → copiesIn (take (length nodes - stride * i) (drop (stride * i) nodes)) (take (length backs - stride * i) (drop (stride * i) backs)) (getD sizes i 0) ≡ copiesFrom nodes backs (stride * i) (getD sizes i 0)
+row-part sizes nodes backs i =
+    ap₂ (λ (a b : List ℕ). copiesIn a b (getD sizes i 0)) (behind nodes (stride * i)) (behind backs (stride * i)) ∙ copies-part nodes backs (stride * i) (getD sizes i 0)
+
+pub rising-row : (sizes nodes backs : List ℕ) (i : ℕ) → Row sizes nodes backs i
+    → Rising (copiesIn (take (length nodes - stride * i) (drop (stride * i) nodes)) (take (length backs - stride * i) (drop (stride * i) backs)) (getD sizes i 0))
+rising-row sizes nodes backs i r = subst Rising (sym (row-part sizes nodes backs i)) (r .rising)
+
 pub tried-row : {I G : ℕ} {ps so co ts : List ℕ} (sizes nodes backs : List ℕ) (i : ℕ) {g : ℕ} {r : Tried}
     → LutTried I G ps so co ts (copiesIn (take (length nodes - stride * i) (drop (stride * i) nodes)) (take (length backs - stride * i) (drop (stride * i) backs)) (getD sizes i 0)) g r
     → LutTried I G ps so co ts (copiesFrom nodes backs (stride * i) (getD sizes i 0)) g r
-tried-row {I} {G} {ps} {so} {co} {ts} sizes nodes backs i {g} {r} t = subst (λ (L : List Copy). LutTried I G ps so co ts L g r)
-    (ap₂ (λ (a b : List ℕ). copiesIn a b (getD sizes i 0)) (behind nodes (stride * i)) (behind backs (stride * i)) ∙ copies-part nodes backs (stride * i) (getD sizes i 0)) t
+tried-row {I} {G} {ps} {so} {co} {ts} sizes nodes backs i {g} {r} t = subst (λ (L : List Copy). LutTried I G ps so co ts L g r) (row-part sizes nodes backs i) t
 
 module _ {I G : ℕ} {ps so co ts marks sizes nodes backs : List ℕ} where
   -- a gate with a mark has its row
@@ -85,7 +93,7 @@ module _ {I G : ℕ} {ps so co ts marks sizes nodes backs : List ℕ} where
       let s = t .atSizes in
       let n = t .atNodes in
       let b = t .atBacks in
-      record { atSizes = omega arith; few = t .few g h m; atNodes = omega arith; atBacks = omega arith }
+      record { atSizes = omega arith; few = t .few g h m; atNodes = omega arith; atBacks = omega arith; rising = t .rising g h m }
 
   pub gate-none : (g r : ℕ) → getD marks g 0 ≡ 0 → GateTable I G ps so co ts marks sizes nodes backs g r
   gate-none g r z = record { marked = λ n. absurd (n z) }

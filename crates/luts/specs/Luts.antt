@@ -21,18 +21,19 @@ pub record LutTable (I G : ℕ) (ps so co ts : List ℕ) (L : List Copy) (g r : 
 
 -- whether the leaves L are a cut of gate g, and then the LUT's table, for every net with this wiring and these tables
 pub record LutTried (I G : ℕ) (ps so co ts : List ℕ) (L : List Copy) (g : ℕ) (r : Tried) : Type 0 where
-  pub cut : r .none ≡ false → (N : Net) → Wired N I G ps so co → Rising L → (k : ℕ) → length L ≤ k → IsCut N k (I + g) L
+  pub cut : r .none ≡ false → (N : Net) → Wired N I G ps so co → (k : ℕ) → length L ≤ k → IsCut N k (I + g) L
   pub table : r .none ≡ false → LutTable I G ps so co ts L g (r .table)
   pub none : r .none ≡ true → (N : Net) → Wired N I G ps so co → Ranked N → (k : ℕ) → ¬ IsCut N k (I + g) L
 
--- row i of the arrays has its leaves from place stride·i on
+-- row i of the arrays has its leaves from place stride·i on, and they rise
 pub record Row (sizes nodes backs : List ℕ) (i : ℕ) : Type 0 where
   pub atSizes : i < length sizes
   pub few : getD sizes i 0 ≤ stride
   pub atNodes : stride * suc i ≤ length nodes
   pub atBacks : stride * suc i ≤ length backs
+  pub rising : Rising (copiesFrom nodes backs (stride * i) (getD sizes i 0))
 
--- the arrays of a net's gates and of its LUTs
+-- the arrays of a net's gates and of its LUTs, whose leaves rise
 pub record Tabulates (I G : ℕ) (ps so co ts marks sizes nodes backs : List ℕ) : Type 0 where
   pub wires : SmallWires I G ps so co
   pub atTables : G ≤ length ts
@@ -41,6 +42,7 @@ pub record Tabulates (I G : ℕ) (ps so co ts marks sizes nodes backs : List ℕ
   pub atNodes : stride * G ≤ length nodes
   pub atBacks : stride * G ≤ length backs
   pub few : (g : ℕ) → g < G → ¬ (getD marks g 0 ≡ 0) → getD sizes g 0 ≤ stride
+  pub rising : (g : ℕ) → g < G → ¬ (getD marks g 0 ≡ 0) → Rising (copiesFrom nodes backs (stride * g) (getD sizes g 0))
 
 -- r is the table of gate g, where it has a mark
 pub record GateTable (I G : ℕ) (ps so co ts marks sizes nodes backs : List ℕ) (g r : ℕ) : Type 0 where

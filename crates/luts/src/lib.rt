@@ -8,6 +8,7 @@ ghost use Prim.Native.Nat.{ℕ, _+_, _*_, _≤_, _<_};
 ghost use lib.ListN.{length, getD};
 ghost use Rattle.limits.specs.Limits.{mostPins};
 ghost use Rattle.copies.specs.Lists.{SmallWires, copiesIn};
+ghost use Rattle.netlist.specs.Copies.{Rising};
 ghost use Rattle.netlist.specs.Arrays.{stride, copiesFrom};
 ghost use Rattle.luts.specs.Luts.{Row, LutTried, GateTable, Tabulates, Tabulated};
 
@@ -30,7 +31,7 @@ fn try_lut(
     n: usize,
     g: usize,
 ) -> Tried
-    requires { ⌜ SmallWires inputs gates (now pins) (now sources) (now counts) × (gates ≤ length (now tables)) × (n ≤ mostPins) × (n ≤ length (now «leaf_nodes»)) × (n ≤ length (now «leaf_backs»)) × (g < gates) ⌝ }
+    requires { ⌜ SmallWires inputs gates (now pins) (now sources) (now counts) × (gates ≤ length (now tables)) × (n ≤ mostPins) × (n ≤ length (now «leaf_nodes»)) × (n ≤ length (now «leaf_backs»)) × (g < gates) × Rising (copiesIn (now «leaf_nodes») (now «leaf_backs») n) ⌝ }
     ensures { λ r. ⌜ LutTried inputs gates (now (pins .entry)) (now (sources .entry)) (now (counts .entry)) (now (tables .entry)) (copiesIn (now («leaf_nodes» .entry)) (now («leaf_backs» .entry)) n) g r ⌝ }
 {
     let cone = walk(

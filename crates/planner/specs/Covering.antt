@@ -11,7 +11,7 @@ use Rattle.netlist.specs.Net.{Net, IsGate}
 use Rattle.netlist.specs.Arrays.{stride, pinsIn, copiesFrom}
 use Rattle.netlist.specs.Wired.{Wired, wired-gate, gate-wired}
 use Rattle.netlist.specs.Checks.{Passed}
-use Rattle.netlist.specs.Copies.{Copy, IsCut}
+use Rattle.netlist.specs.Copies.{Copy, IsCut, Rising}
 use Rattle.netlist.specs.Tables.{tableOf}
 use Rattle.labelling.specs.Labels.{Reachable}
 use Rattle.covers.specs.Key.{Key, Root, Entry, entries}
@@ -83,6 +83,11 @@ module _ {I G W B : ℕ} {ps so co os oc : List ℕ} {n : ℕ} {tops : List ℕ}
 
     pub few-leaves : (g : ℕ) → g < G → ¬ (getD marks g 0 ≡ 0) → getD sizes g 0 ≤ stride
     few-leaves g h m = let s = told .size keyed g h m in omega arith
+
+    pub rising-leaves : (g : ℕ) → g < G → ¬ (getD marks g 0 ≡ 0) → Rising (copiesFrom nodes backs (stride * g) (getD sizes g 0))
+    rising-leaves g h m =
+        let v = wired-gate wired g h in
+        subst Rising (sym (leaves-are g h m ∙ key .isLeaves (I + g) v)) (key .cut (I + g) v .isLeaves .rising)
 
     module _ {ts : List ℕ} (luts : List ℕ) (tab : Tabulated I G ps so co ts marks sizes nodes backs luts G) (T : Tabled N I G ts) where
       abbrev a : Kept

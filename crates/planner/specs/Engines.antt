@@ -21,7 +21,7 @@ use Rattle.roots.specs.Choosing.{Chooses, RootsTold}
 use Rattle.luts.specs.Luts.{Tabulates}
 use Rattle.planner.specs.Found.{PeriodFound}
 use Rattle.planner.specs.Planned.{Engine, Roomy}
-use Rattle.planner.specs.Covering.{few-leaves}
+use Rattle.planner.specs.Covering.{few-leaves, rising-leaves}
 
 module _ {I G W B : ℕ} {ps fs so co hs ns ts os oc : List ℕ} {n : ℕ} {tops order : List ℕ} {k target : ℕ} {t : List ℕ} {ls : List ℤ}
     (e : Engine I G W B ps fs so co hs ns ts os oc n tops order k target t ls) where
@@ -67,4 +67,5 @@ module _ {I G W B : ℕ} {ps fs so co hs ns ts os oc : List ℕ} {n : ℕ} {tops
     atNodes = let m = room .atNodes in omega arith;
     atBacks = let m = room .atBacks in omega arith;
     few = few-leaves (e .few) f (omega arith) told (e .net) (e .suits) (e .passed) (e .ended);
+    rising = rising-leaves (e .few) f (omega arith) told (e .net) (e .suits) (e .passed) (e .ended);
   }

@@ -2,9 +2,10 @@
 
 use second::encode::encode;
 use second::generate::{random_net, Shape};
-use second::{Gate, Net, Pin, Random};
+use second::{lut_table, Cover, Gate, Lut, Net, NodeCopy, Pin, Random};
 
 pub const AND: u64 = 8;
+pub const NAND: u64 = 7;
 
 /// A pin or an output: its source and its count.
 pub type Read = (usize, u32);
@@ -61,6 +62,68 @@ pub fn and_line(gates: usize, count: u32, at_output: u32) -> Net {
     }
     let gates: Vec<(&[Read], u64)> = pins.iter().map(|pins| (&pins[..], AND)).collect();
     net(inputs, &gates, &[(inputs + gates.len() - 1, at_output)])
+}
+
+/// Gates in a ring through one register, each reading the one before it and the one at
+/// half its place, the first an input: with the leaves, which come too, each gate of the
+/// ring has a cone of nearly five copies of every gate. The leaves' nodes are the
+/// lowest, but for the last leaf's.
+pub fn ring_from_input(gates: usize) -> (Net, Vec<NodeCopy>) {
+    let mut pins: Vec<[Read; 2]> = vec![[(0, 0), (gates, 1)]];
+    pins.extend((2..=gates).map(|i| [(i - 1, 0), (i / 2, 0)]));
+    let gates: Vec<(&[Read], u64)> = pins.iter().map(|pins| (&pins[..], NAND)).collect();
+    let last = gates.len();
+    (net(1, &gates, &[(last, 0)]), six_leaves(0, last))
+}
+
+/// The same ring, but the first gate reads the input through one gate more, which is the
+/// last and has the register: the leaves' nodes are the highest.
+pub fn ring_from_last(gates: usize) -> (Net, Vec<NodeCopy>) {
+    let mut pins: Vec<Vec<Read>> = vec![vec![(gates, 0), (gates - 1, 1)]];
+    pins.extend((2..gates).map(|i| vec![(i - 1, 0), (i / 2, 0)]));
+    pins.push(vec![(0, 1)]);
+    let table = |pins: &Vec<Read>| if pins.len() == 1 { 2 } else { NAND };
+    let gates: Vec<(&[Read], u64)> = pins.iter().map(|own| (&own[..], table(own))).collect();
+    let last = gates.len();
+    (net(1, &gates, &[(last - 1, 0)]), six_leaves(last, last - 1))
+}
+
+/// One node none to four registers back, and another five back.
+fn six_leaves(node: usize, other: usize) -> Vec<NodeCopy> {
+    let mut leaves: Vec<NodeCopy> = (0..5).map(|d| NodeCopy { node, d }).collect();
+    leaves.push(NodeCopy { node: other, d: 5 });
+    leaves.sort_unstable();
+    leaves
+}
+
+/// A cover of such a ring: each gate of the ring with these leaves, and a gate that a
+/// leaf reads outside it with its own pin. Lags are 0, the latter's is minus its pin's
+/// registers; the period 1 is met.
+pub fn ring_cover(net: &Net, leaves: &[NodeCopy]) -> Cover {
+    let lut = |root: usize| {
+        let pins = &net.gates[root - net.inputs].pins;
+        let (leaves, lag) = match pins[..] {
+            [Pin { source, count }] => {
+                let leaf = NodeCopy {
+                    node: source,
+                    d: count,
+                };
+                (vec![leaf], -i64::from(count))
+            }
+            _ => (leaves.to_vec(), 0),
+        };
+        let table = lut_table(net, root, &leaves);
+        Lut {
+            root,
+            leaves,
+            lag,
+            table,
+        }
+    };
+    Cover {
+        period: 1,
+        luts: net.gate_nodes().map(lut).collect(),
+    }
 }
 
 /// A line of 30 gates, seen through none to five registers by a gate of six pins: its

@@ -88,6 +88,26 @@ impl Sides {
 
     /// One to three LUTs of a net in a record.
     pub fn luts_of(&mut self, random: &mut Random, net: &Net, k: u32, near: bool) {
+        let lut = |random: &mut Random, root| some_lut(random, net, k, root, near);
+        self.luts_by(random, net, k, lut);
+    }
+
+    /// One to three LUTs of a net with these leaves, or nearly these, in a record.
+    pub fn luts_near(&mut self, random: &mut Random, net: &Net, k: u32, leaves: &[NodeCopy]) {
+        let lut = |random: &mut Random, root| {
+            let leaves = nearly(random, net, root, leaves.to_vec(), k);
+            Some(lut_over(random, net, root, leaves))
+        };
+        self.luts_by(random, net, k, lut);
+    }
+
+    fn luts_by(
+        &mut self,
+        random: &mut Random,
+        net: &Net,
+        k: u32,
+        lut: impl Fn(&mut Random, usize) -> Option<(Lut, Option<u8>)>,
+    ) {
         let mut roots: Vec<usize> = net.gate_nodes().collect();
         random.shuffle(&mut roots);
         roots.truncate(random.pick(&[1, 1, 1, 2, 3]));
@@ -95,8 +115,8 @@ impl Sides {
             roots = vec![net.nodes() - 1];
         }
         roots.sort_unstable();
-        let lut = |root| some_lut(random, net, k, root, near);
-        let Some(luts) = roots.into_iter().map(lut).collect::<Option<Vec<_>>>() else {
+        let luts = roots.into_iter().map(|root| lut(random, root));
+        let Some(luts) = luts.collect::<Option<Vec<_>>>() else {
             self.tally.skipped += 1;
             return;
         };
@@ -155,10 +175,32 @@ fn some_lut(
         }
     };
     if near {
-        for _ in 0..random.below(3) {
-            leaves = moved(random, net, root, leaves, k as usize);
-        }
+        leaves = nearly(random, net, root, leaves, k);
     }
+    Some(lut_over(random, net, root, leaves))
+}
+
+/// Leaves with none to two changes.
+fn nearly(
+    random: &mut Random,
+    net: &Net,
+    root: usize,
+    mut leaves: Vec<NodeCopy>,
+    k: u32,
+) -> Vec<NodeCopy> {
+    for _ in 0..random.below(3) {
+        leaves = moved(random, net, root, leaves, k as usize);
+    }
+    leaves
+}
+
+/// A LUT with these leaves, and the refusal that they or its table ask for.
+fn lut_over(
+    random: &mut Random,
+    net: &Net,
+    root: usize,
+    leaves: Vec<NodeCopy>,
+) -> (Lut, Option<u8>) {
     let n = leaves.len();
     let (table, refusal) = match cone_of(net, root, &leaves) {
         None => (random.word() & table_mask(n), Some(14)),
@@ -178,7 +220,7 @@ fn some_lut(
         lag,
         table,
     };
-    Some((lut, refusal))
+    (lut, refusal)
 }
 
 /// The cut of input copies alone, if the root has one: its largest cone.

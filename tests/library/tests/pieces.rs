@@ -1,10 +1,14 @@
 //! The pieces of the library's mark: reader, checks, cone walk and tables.
 
 use library::compare::{cases, on_threads, seed, Sides, Tally};
-use library::nets::{largest_record, line, net, net_a, net_b, net_c, wide_cone, Read, AND};
+use library::nets::{
+    largest_record, line, net, net_a, net_b, net_c, ring_cover, ring_from_input, ring_from_last,
+    wide_cone, Read, AND,
+};
 use library::pieces::every_change;
 use second::encode::{encode, encode_with_holes};
-use second::Random;
+use second::jobs::SCRATCH_BYTES;
+use second::{write_record, Answer, Random};
 
 /// A piece on both threads until there were enough inputs; the answers that must not be rare.
 fn run(piece: impl Fn(&mut Sides, &mut Random) + Sync, salt: u64, often: &[usize]) {
@@ -88,6 +92,27 @@ fn large_cones() {
     for net in [wide_cone(), line(32, 0), line(32, 1), line(32, 3)] {
         for _ in 0..200 {
             sides.luts_of(&mut random, &net, 6, true);
+        }
+    }
+    finish(&sides.tally);
+    assert!(sides.tally.seen[0] > 0 && sides.tally.seen[14] > 0 && sides.tally.seen[15] > 0);
+}
+
+/// LUTs with six leaves of two nodes, at many d's, and cones of up to 160 copies: the
+/// leaves' nodes below those of the cone, and above them.
+#[test]
+fn six_leaves() {
+    let mut random = Random::new(6);
+    let mut sides = Sides::new(&mut random);
+    for gates in [3, 4, 5, 8, 16, 32] {
+        for (net, leaves) in [ring_from_input(gates), ring_from_last(gates)] {
+            let record = write_record(&ring_cover(&net, &leaves));
+            let bytes = encode(&net);
+            let whole = Some(Answer::Done(0));
+            sides.mark(&mut random, &bytes, 6, &record, SCRATCH_BYTES, whole);
+            for _ in 0..300 {
+                sides.luts_near(&mut random, &net, 6, &leaves);
+            }
         }
     }
     finish(&sides.tally);

@@ -75,7 +75,7 @@ add-visit c =
 visit-requires : tie.Need-visit-requires Inv-loop μ-loop
 visit-requires c κs =
     let l = c .before .before .before .before .before .before .before .before .before .before .before .before .before .before .pre .1 in
-    (l .nodes, l .backs, l .small, c .before .before .before .before .before .loop .inv .1)
+    (l .nodes, l .backs, l .small, c .before .before .before .before .before .loop .inv .1, l .rising)
 
 same-length : tie.Need-same-length Inv-loop μ-loop
 same-length c = search needs

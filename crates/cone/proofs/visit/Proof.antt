@@ -3,25 +3,42 @@ use borrow.Author.Needs.{needs}
 use denote.Ref.{now}
 use native.Mathlib.Omega.{arith}
 use Rattle.netlist.specs.Copies.{copy}
+use Rattle.leaflookup.specs.ArrayLookup.{readable-all, array-first}
 use Rattle.cone.specs.StepLaws.{visit-leaf, visit-input, visit-listed, visit-full, visit-add}
 use Rattle.cone.proofs.visit.Statement.{statement}
 use Rattle.cone.proofs.visit.Tie as tie
 
-find-requires : tie.Need-find-requires
-find-requires c κs = search needs
+seek-requires : tie.Need-seek-requires
+seek-requires c κs = let p = c .before .before .before .before .pre in readable-all (p .0) (p .1)
 
 returns : tie.Need-returns
 returns c =
-    let a = c .before .before .before .before .before .before .args in
-    visit-leaf (a .inputs) (a .limit) (now (a .leaf-nodes)) (now (a .leaf-backs)) (a .n) (now (a .nodes)) (now (a .backs)) (a .len) (copy (a .node) (a .back)) (c .before .find .result) (c .before .find .ensures) (omega arith)
+    let start = c .before .before .before .before .before .before in
+    let a = start .args in
+    let y = copy (a .node) (a .back) in
+    let ln = now (a .leaf-nodes) in
+    let lb = now (a .leaf-backs) in
+    let us = now (a .nodes) in
+    let ds = now (a .backs) in
+    let found = c .before .seek in
+    let first = array-first ln lb (a .n) y (start .pre .4) (found .ensures) in
+    visit-leaf (a .inputs) (a .limit) ln lb (a .n) us ds (a .len) y (found .result) first (omega arith)
 
 returns-2 : tie.Need-returns-2
 returns-2 c =
-    let a = c .before .before .before .before .before .before .before .args in
-    visit-input (a .inputs) (a .limit) (now (a .leaf-nodes)) (now (a .leaf-backs)) (a .n) (now (a .nodes)) (now (a .backs)) (a .len) (copy (a .node) (a .back)) (c .before .before .find .result) _ (c .before .before .find .ensures) (omega arith) (omega arith)
+    let start = c .before .before .before .before .before .before .before in
+    let a = start .args in
+    let y = copy (a .node) (a .back) in
+    let ln = now (a .leaf-nodes) in
+    let lb = now (a .leaf-backs) in
+    let us = now (a .nodes) in
+    let ds = now (a .backs) in
+    let found = c .before .before .seek in
+    let first = array-first ln lb (a .n) y (start .pre .4) (found .ensures) in
+    visit-input (a .inputs) (a .limit) ln lb (a .n) us ds (a .len) y (found .result) _ first (omega arith) (omega arith)
 
-find-requires-2 : tie.Need-find-requires-2
-find-requires-2 c κs = search needs
+find-requires : tie.Need-find-requires
+find-requires c κs = search needs
 
 same-length : tie.Need-same-length
 same-length c = search needs
@@ -31,8 +48,15 @@ same-length-2 c = search needs
 
 returns-3 : tie.Need-returns-3
 returns-3 c =
-    let a = c .before .before .before .before .before .before .before .before .before .before .before .args in
-    visit-listed (a .inputs) (a .limit) (now (a .leaf-nodes)) (now (a .leaf-backs)) (a .n) (now (a .nodes)) (now (a .backs)) (a .len) (copy (a .node) (a .back)) (c .before .find2 .result) (c .before .find2 .ensures) (omega arith)
+    let start = c .before .before .before .before .before .before .before .before .before .before .before in
+    let a = start .args in
+    let y = copy (a .node) (a .back) in
+    let ln = now (a .leaf-nodes) in
+    let lb = now (a .leaf-backs) in
+    let us = now (a .nodes) in
+    let ds = now (a .backs) in
+    let listed = c .before .find in
+    visit-listed (a .inputs) (a .limit) ln lb (a .n) us ds (a .len) y (listed .result) (listed .ensures) (omega arith)
 
 same-length-3 : tie.Need-same-length-3
 same-length-3 c = search needs
@@ -42,8 +66,17 @@ same-length-4 c = search needs
 
 returns-4 : tie.Need-returns-4
 returns-4 c =
-    let a = c .before .before .before .before .before .before .before .before .before .before .before .before .args in
-    visit-full (a .inputs) (a .limit) (now (a .leaf-nodes)) (now (a .leaf-backs)) (a .n) (now (a .nodes)) (now (a .backs)) (a .len) (copy (a .node) (a .back)) (c .before .before .before .before .before .before .before .find .result) (c .before .before .find2 .result) _ (c .before .before .before .before .before .before .before .find .ensures) (omega arith) (omega arith) (c .before .before .find2 .ensures) (omega arith) (omega arith)
+    let start = c .before .before .before .before .before .before .before .before .before .before .before .before in
+    let a = start .args in
+    let y = copy (a .node) (a .back) in
+    let ln = now (a .leaf-nodes) in
+    let lb = now (a .leaf-backs) in
+    let us = now (a .nodes) in
+    let ds = now (a .backs) in
+    let found = c .before .before .before .before .before .before .before .seek in
+    let first = array-first ln lb (a .n) y (start .pre .4) (found .ensures) in
+    let listed = c .before .before .find in
+    visit-full (a .inputs) (a .limit) ln lb (a .n) us ds (a .len) y (found .result) (listed .result) _ first (omega arith) (omega arith) (listed .ensures) (omega arith) (omega arith)
 
 mul-nodes : tie.Need-mul-nodes
 mul-nodes c = search needs
@@ -68,17 +101,26 @@ same-length-6 c = search needs
 
 returns-5 : tie.Need-returns-5
 returns-5 c =
-    let a = c .before .before .before .before .before .before .before .before .before .before .before .before .args in
-    visit-add (a .inputs) (a .limit) (now (a .leaf-nodes)) (now (a .leaf-backs)) (a .n) (now (a .nodes)) (now (a .backs)) (a .len) (copy (a .node) (a .back)) (c .before .before .before .before .before .before .before .find .result) (c .before .before .find2 .result) (c .before .before .before .before .before .before .before .find .ensures) (omega arith) (omega arith) (c .before .before .find2 .ensures) (omega arith) (omega arith) (omega arith) (omega arith)
+    let start = c .before .before .before .before .before .before .before .before .before .before .before .before in
+    let a = start .args in
+    let y = copy (a .node) (a .back) in
+    let ln = now (a .leaf-nodes) in
+    let lb = now (a .leaf-backs) in
+    let us = now (a .nodes) in
+    let ds = now (a .backs) in
+    let found = c .before .before .before .before .before .before .before .seek in
+    let first = array-first ln lb (a .n) y (start .pre .4) (found .ensures) in
+    let listed = c .before .before .find in
+    visit-add (a .inputs) (a .limit) ln lb (a .n) us ds (a .len) y (found .result) (listed .result) first (omega arith) (omega arith) (listed .ensures) (omega arith) (omega arith) (omega arith) (omega arith)
 
 pub visit-spec : {M : Type 1} → statement M
 visit-spec =
     tie.close
     (tie.spec
-    find-requires
+    seek-requires
     returns
     returns-2
-    find-requires-2
+    find-requires
     same-length
     same-length-2
     returns-3

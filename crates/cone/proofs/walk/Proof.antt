@@ -4,6 +4,8 @@ use denote.Ref.{now}
 use mathlib.Core.Path.{refl, _∙_}
 use Prim.Native.Nat.{_+_}
 use native.Mathlib.Omega.{arith}
+use Rattle.netlist.specs.Copies.{copy}
+use Rattle.leaflookup.specs.ArrayLookup.{readable-all, array-first}
 use Rattle.cone.specs.GrowingLaws.{grown-sweep}
 use Rattle.cone.specs.ToldLaws.{start-list, start-room, start-leaves, start-bounded, told-root, told-stop, told-all, told-some}
 use Rattle.cone.proofs.walk.Statement.{statement}
@@ -12,11 +14,16 @@ use Rattle.cone.proofs.walk.Tie as tie
 add-root : tie.Need-add-root
 add-root c = search needs
 
-find-requires : tie.Need-find-requires
-find-requires c κs = search needs
+seek-requires : tie.Need-seek-requires
+seek-requires c κs = let p = c .before .before .before .before .before .pre in readable-all (p .2) (p .3)
 
 returns : tie.Need-returns
-returns c = told-root _ (c .before .find .result) refl (c .before .find .ensures) (omega arith)
+returns c =
+    let start = c .before .before .before .before .before .before .before in
+    let a = start .args in
+    let found = c .before .seek in
+    let first = array-first (now (a .leaf-nodes)) (now (a .leaf-backs)) (a .n) (copy (a .inputs + a .g) 0) (start .pre .5) (found .ensures) in
+    told-root _ (found .result) refl first (omega arith)
 
 array-write-nodes : tie.Need-array-write-nodes
 array-write-nodes c = search needs
@@ -25,7 +32,7 @@ mul-grow : tie.Need-mul-grow
 mul-grow c =
     let start = c .before .before .before .before .before .before .before in
     let a = start .args in
-    let s = start-leaves (a .gates) (now (a .leaf-nodes)) (now (a .leaf-backs)) (a .n) (start .pre .0 .gates) (start .pre .1) (start .pre .2) (start .pre .3) .small in
+    let s = start-leaves (a .gates) (now (a .leaf-nodes)) (now (a .leaf-backs)) (a .n) (start .pre .0 .gates) (start .pre .1) (start .pre .2) (start .pre .3) (start .pre .5) .small in
     omega arith
 
 slice-aggregate-grow : tie.Need-slice-aggregate-grow
@@ -39,12 +46,15 @@ grow-requires c κs =
     let start = c .before .before .before .before .before .before .before .before .before in
     let a = start .args in
     let p = start .pre in
-    (p .0, start-leaves (a .gates) (now (a .leaf-nodes)) (now (a .leaf-backs)) (a .n) (p .0 .gates) (p .1) (p .2) (p .3), start-room _ _ refl refl, start-bounded (a .inputs) (a .gates) (a .inputs + a .g) _ (start-list _ _ (a .inputs + a .g)) (omega arith) (omega arith))
+    (p .0, start-leaves (a .gates) (now (a .leaf-nodes)) (now (a .leaf-backs)) (a .n) (p .0 .gates) (p .1) (p .2) (p .3) (p .5), start-room _ _ refl refl, start-bounded (a .inputs) (a .gates) (a .inputs + a .g) _ (start-list _ _ (a .inputs + a .g)) (omega arith) (omega arith))
 
 returns-2 : tie.Need-returns-2
 returns-2 c =
     let start = c .before .before .before .before .before .before .before .before .before .before .before .before .before in
-    told-stop _ (c .before .before .before .before .before .before .before .find .result) (c .before .before .before .grow .result) refl (start-list _ _ (start .args .inputs + start .args .g)) (start .pre .4) (c .before .before .before .before .before .before .before .find .ensures) (omega arith) (c .before .before .before .grow .ensures) (c .if2 .taken)
+    let a = start .args in
+    let found = c .before .before .before .before .before .before .before .seek in
+    let first = array-first (now (a .leaf-nodes)) (now (a .leaf-backs)) (a .n) (copy (a .inputs + a .g) 0) (start .pre .5) (found .ensures) in
+    told-stop _ (found .result) (c .before .before .before .grow .result) refl (start-list _ _ (start .args .inputs + start .args .g)) (start .pre .4) first (omega arith) (c .before .before .before .grow .ensures) (c .if2 .taken)
 
 slice-aggregate-all-touched : tie.Need-slice-aggregate-all-touched
 slice-aggregate-all-touched c = search needs
@@ -74,23 +84,29 @@ arrange-requires c κs =
 returns-3 : tie.Need-returns-3
 returns-3 c =
     let start = c .before .before .before .before .before .before .before .before .before .before .before .before .before .before .before .before .before .before .before .before .before .before in
+    let a = start .args in
+    let found = c .before .before .before .before .before .before .before .before .before .before .before .before .before .before .before .before .seek in
+    let first = array-first (now (a .leaf-nodes)) (now (a .leaf-backs)) (a .n) (copy (a .inputs + a .g) 0) (start .pre .5) (found .ensures) in
     let s = grown-sweep (c .before .before .before .before .before .before .before .before .before .before .before .before .grow .ensures) (c .before .before .before .before .before .before .before .before .before .if2 .left) in
     let k = c .before .before .before .before .before .before .before .before .before .before .before .before .grow .kept in
     let l = c .before .before .arrange .kept in
-    told-all _ (c .before .before .before .before .before .before .before .before .before .before .before .before .before .before .before .before .find .result) _ _ refl (start-list _ _ (start .args .inputs + start .args .g)) (start .pre .4) (c .before .before .before .before .before .before .before .before .before .before .before .before .before .before .before .before .find .ensures) (omega (arith, c .before .before .before .before .before .before .before .before .before .before .before .before .before .before .before .if1 .left)) (record { nodes = l .1 .1 .1 .1 .1 .0 ∙ k .1 .1 .1 .1 .1 .1 .1 .1 .1 .0; backs = l .1 .1 .1 .1 .1 .1 .0 ∙ k .1 .1 .1 .1 .1 .1 .1 .1 .1 .1 .0; some = s .0; fits = s .1 }) (s .2) (c .before .before .before .before .before .before .all-touched .ensures .holds (c .before .before .before .before .before .if3 .taken)) (c .before .before .arrange .ensures)
+    told-all _ (found .result) _ _ (start .pre .5) refl (start-list _ _ (start .args .inputs + start .args .g)) (start .pre .4) first (omega (arith, c .before .before .before .before .before .before .before .before .before .before .before .before .before .before .before .if1 .left)) (record { nodes = l .1 .1 .1 .1 .1 .0 ∙ k .1 .1 .1 .1 .1 .1 .1 .1 .1 .0; backs = l .1 .1 .1 .1 .1 .1 .0 ∙ k .1 .1 .1 .1 .1 .1 .1 .1 .1 .1 .0; some = s .0; fits = s .1 }) (s .2) (c .before .before .before .before .before .before .all-touched .ensures .holds (c .before .before .before .before .before .if3 .taken)) (c .before .before .arrange .ensures)
 
 returns-4 : tie.Need-returns-4
 returns-4 c =
     let start = c .before .before .before .before .before .before .before .before .before .before .before .before .before .before .before .before .before in
+    let a = start .args in
+    let found = c .before .before .before .before .before .before .before .before .before .before .before .seek in
+    let first = array-first (now (a .leaf-nodes)) (now (a .leaf-backs)) (a .n) (copy (a .inputs + a .g) 0) (start .pre .5) (found .ensures) in
     let s = grown-sweep (c .before .before .before .before .before .before .before .grow .ensures) (c .before .before .before .before .if2 .left) in
-    told-some _ (c .before .before .before .before .before .before .before .before .before .before .before .find .result) _ _ (c .before .before .before .before .before .before .before .grow .result) refl (start-list _ _ (start .args .inputs + start .args .g)) (start .pre .4) (c .before .before .before .before .before .before .before .before .before .before .before .find .ensures) (omega arith) (s .2) (c .before .all-touched .ensures .fails (c .if3 .left))
+    told-some _ (found .result) _ _ (c .before .before .before .before .before .before .before .grow .result) refl (start-list _ _ (start .args .inputs + start .args .g)) (start .pre .4) first (omega arith) (s .2) (c .before .all-touched .ensures .fails (c .if3 .left))
 
 pub walk-spec : {M : Type 1} → statement M
 walk-spec =
     tie.close
     (tie.spec
     add-root
-    find-requires
+    seek-requires
     returns
     array-write-nodes
     mul-grow

@@ -56,7 +56,7 @@ gather-requires c κs =
     let d = w .gates in
     let n = m .near in
     let f = r .fits in
-    ((start .pre .0 .few, start .pre .0 .leafNodes, start .pre .0 .leafBacks, let e = r .nodes in omega arith, let e = r .backs in omega arith, let e = start .pre .1 in omega arith), λ j h. place _ j w g h, omega arith, w .wires .pins _ g, omega arith)
+    ((start .pre .0 .few, start .pre .0 .leafNodes, start .pre .0 .leafBacks, let e = r .nodes in omega arith, let e = r .backs in omega arith, let e = start .pre .1 in omega arith, start .pre .0 .rising), λ j h. place _ j w g h, omega arith, w .wires .pins _ g, omega arith)
 
 mul-compose : tie.Need-mul-compose
 mul-compose c =

@@ -3,23 +3,32 @@ use borrow.Author.Needs.{needs}
 use denote.Ref.{now}
 use native.Mathlib.Omega.{arith}
 use Rattle.netlist.specs.Copies.{copy}
+use Rattle.leaflookup.specs.ArrayLookup.{readable-all, array-first}
 use Rattle.conetable.specs.WordsLaws.{carries-leaf, carries-copy, carries-none}
 use Rattle.conetable.proofs.source_word.Statement.{statement}
 use Rattle.conetable.proofs.source_word.Tie as tie
 
-find-requires : tie.Need-find-requires
-find-requires c κs = search needs
+seek-requires : tie.Need-seek-requires
+seek-requires c κs = let p = c .before .before .before .before .before .pre in readable-all (p .1) (p .2)
 
 leaf-word-requires : tie.Need-leaf-word-requires
 leaf-word-requires c κs = search needs
 
 returns : tie.Need-returns
 returns c =
-    let a = c .before .before .before .before .before .before .before .before .args in
-    carries-leaf (now (a .leaf-nodes)) (now (a .leaf-backs)) (a .n) (now (a .nodes)) (now (a .backs)) (a .len) (now (a .words)) (copy (a .node) (a .back)) (c .before .before .find .result) (c .leaf-word .result) (c .before .before .find .ensures) (omega arith) (c .leaf-word .ensures)
+    let start = c .before .before .before .before .before .before .before .before in
+    let a = start .args in
+    let y = copy (a .node) (a .back) in
+    let ln = now (a .leaf-nodes) in
+    let lb = now (a .leaf-backs) in
+    let us = now (a .nodes) in
+    let ds = now (a .backs) in
+    let found = c .before .before .seek in
+    let first = array-first ln lb (a .n) y (start .pre .6) (found .ensures) in
+    carries-leaf ln lb (a .n) us ds (a .len) (now (a .words)) y (found .result) (c .leaf-word .result) first (omega arith) (c .leaf-word .ensures)
 
-find-requires-2 : tie.Need-find-requires-2
-find-requires-2 c κs = search needs
+find-requires : tie.Need-find-requires
+find-requires c κs = search needs
 
 mul-result : tie.Need-mul-result
 mul-result c = search needs
@@ -29,22 +38,40 @@ shared-slice-read-result c = search needs
 
 returns-2 : tie.Need-returns-2
 returns-2 c =
-    let a = c .before .before .before .before .before .before .before .before .before .before .args in
-    carries-copy (now (a .leaf-nodes)) (now (a .leaf-backs)) (a .n) (now (a .nodes)) (now (a .backs)) (a .len) (now (a .words)) (copy (a .node) (a .back)) (c .before .before .before .before .find .result) (c .before .before .find2 .result) (c .before .before .before .before .find .ensures) (omega arith) (c .before .before .find2 .ensures) (omega arith)
+    let start = c .before .before .before .before .before .before .before .before .before .before in
+    let a = start .args in
+    let y = copy (a .node) (a .back) in
+    let ln = now (a .leaf-nodes) in
+    let lb = now (a .leaf-backs) in
+    let us = now (a .nodes) in
+    let ds = now (a .backs) in
+    let found = c .before .before .before .before .seek in
+    let first = array-first ln lb (a .n) y (start .pre .6) (found .ensures) in
+    let listed = c .before .before .find in
+    carries-copy ln lb (a .n) us ds (a .len) (now (a .words)) y (found .result) (listed .result) first (omega arith) (listed .ensures) (omega arith)
 
 returns-3 : tie.Need-returns-3
 returns-3 c =
-    let a = c .before .before .before .before .before .before .before .before .before .args in
-    carries-none (now (a .leaf-nodes)) (now (a .leaf-backs)) (a .n) (now (a .nodes)) (now (a .backs)) (a .len) (now (a .words)) (copy (a .node) (a .back)) (c .before .before .before .find .result) (c .before .find2 .result) 0 (c .before .before .before .find .ensures) (omega arith) (c .before .find2 .ensures) (omega arith)
+    let start = c .before .before .before .before .before .before .before .before .before in
+    let a = start .args in
+    let y = copy (a .node) (a .back) in
+    let ln = now (a .leaf-nodes) in
+    let lb = now (a .leaf-backs) in
+    let us = now (a .nodes) in
+    let ds = now (a .backs) in
+    let found = c .before .before .before .seek in
+    let first = array-first ln lb (a .n) y (start .pre .6) (found .ensures) in
+    let listed = c .before .find in
+    carries-none ln lb (a .n) us ds (a .len) (now (a .words)) y (found .result) (listed .result) 0 first (omega arith) (listed .ensures) (omega arith)
 
 pub source-word-spec : {M : Type 1} → statement M
 source-word-spec =
     tie.close
     (tie.spec
-    find-requires
+    seek-requires
     leaf-word-requires
     returns
-    find-requires-2
+    find-requires
     mul-result
     shared-slice-read-result
     returns-2

@@ -30,7 +30,7 @@ enum-told-2 c = search needs
 table-requires : tie.Need-table-requires
 table-requires c κs =
     let p = c .before .before .before .before .before .before .before .before .before .pre in
-    (cone-given (c .before .before .walk .ensures) (ap numberOf (c .enum-told2 .given .1)) (p .0) (p .1) (p .2) (p .3) (p .4), p .5)
+    (cone-given (c .before .before .walk .ensures) (ap numberOf (c .enum-told2 .given .1)) (p .0) (p .1) (p .2) (p .3) (p .4) (p .6), p .5)
 
 -- src/lib.rt:18:1
 returns-2 : tie.Need-returns-2

@@ -4,7 +4,7 @@ use native.Mathlib.Omega.{arith}
 use lib.ListN.{getD}
 use Rattle.netlist.specs.Arrays.{stride}
 use Rattle.sequences.specs.Behind.{length-behind}
-use Rattle.luts.specs.LutLaws.{tried-row}
+use Rattle.luts.specs.LutLaws.{tried-row, rising-row}
 use borrow.Author.Needs.{needs}
 use Rattle.luts.proofs.try_row.Statement.{statement}
 use Rattle.luts.proofs.try_row.Tie as tie
@@ -65,7 +65,7 @@ try-lut-requires c κs =
     let n = r .atNodes in
     let b = r .atBacks in
     let f = r .few in
-    (p .0, p .1, f, length-behind (a .nodes .now) (stride * a .i) (getD (a .sizes .now) (a .i) 0) (omega arith), length-behind (a .backs .now) (stride * a .i) (getD (a .sizes .now) (a .i) 0) (omega arith), p .3)
+    (p .0, p .1, f, length-behind (a .nodes .now) (stride * a .i) (getD (a .sizes .now) (a .i) 0) (omega arith), length-behind (a .backs .now) (stride * a .i) (getD (a .sizes .now) (a .i) 0) (omega arith), p .3, rising-row (a .sizes .now) (a .nodes .now) (a .backs .now) (a .i) r)
 
 -- src/lib.rt:74:1
 returns : tie.Need-returns

@@ -1,0 +1,5 @@
+pub mod Lookup
+pub mod LookupLaws
+pub mod ArrayLookup
+pub mod Sides
+pub mod LookupExamples
