@@ -17,7 +17,7 @@ programs:
 second:
 	cd tests && cargo build --release --offline --quiet
 
-# The library for C and Rust: target/staticlib/libkamfelu.a, to be used with include/kamfelu.h.
+# The library for C and Rust: target/staticlib/libkamfelu.a, to be used with include/kamfelu.h or the crate in rust/.
 # rt check proves two crates at a time, rt staticlib only one.
 library:
 	@.ci/progress .rt-library.log check kamfelu
@@ -49,4 +49,5 @@ test:
 	@.ci/progress .rt-ci.log ci || { tail -n 60 .rt-ci.log; exit 1; }
 	$(MAKE) --no-print-directory library programs
 	cd tests && cargo test --release --offline --quiet --workspace
+	cd rust && cargo test --release --offline --quiet
 	@cat .rt-ci.log

@@ -1,10 +1,11 @@
-/* A pointer may be NULL where its length is 0: each area of map and mark in turn, then all of them. */
+/* A pointer may be NULL where its length is 0: each area of map, mark and align in turn, then all of them. */
 #include "kamfelu.h"
 #include <stdio.h>
 
 static const uint8_t net[] = {2, 3, 1, 3, 0, 0, 1, 8, 3, 2, 2, 4, 1, 6, 1, 0, 3, 1, 0, 4}; /* net A */
 static const uint8_t record[] = {2, 2, 2, 2, 0, 0, 1, 8, 4, 2, 2, 2, 4, 1, 0, 9};           /* its cover, k 2 */
 static uint8_t cover[962], scratch[65536];
+static const uint16_t words[16];
 static int wrong;
 
 static void expect(const char *call, int64_t answer, int64_t expected)
@@ -59,9 +60,14 @@ int main(void)
     expect("mark, nothing", kamfelu_mark(NULL, 0, 2, NULL, 0, NULL, 0), -3);
     expect("mark, nothing, k 1", kamfelu_mark(NULL, 0, 1, NULL, 0, NULL, 0), -1);
 
+    expect("align, no first", kamfelu_align(NULL, 0, words, 16), 256);
+    expect("align, no second", kamfelu_align(words, 16, NULL, 0), 256);
+    expect("align, nothing", kamfelu_align(NULL, 0, NULL, 0), 256);
+
     /* The same areas without NULL. */
     expect("map", kamfelu_map(net, 20, 2, 0, cover, 962, scratch, 65536), 16);
     expect("mark", kamfelu_mark(net, 20, 2, record, 16, scratch, 65536), 0);
+    expect("align", kamfelu_align(words, 16, words, 16), 0);
     if (!wrong)
         printf("as expected\n");
     return wrong;

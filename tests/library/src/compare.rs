@@ -2,6 +2,7 @@
 //! areas and scratch, whole.
 
 use crate::nets::{net_a, net_b, net_c, of_family, FAMILIES};
+use kamfelu::STACK;
 use second::damage::{candidate, damaged, damaged_net};
 use second::encode::{encode, encode_with_holes};
 use second::generate::{random_net, wild_net, Shape};
@@ -11,7 +12,6 @@ use second::{read_net, read_record, Answer, Limits, Random};
 use std::collections::BTreeMap;
 use std::thread::Builder;
 
-const STACK_BYTES: usize = 8 << 20;
 const THREADS: u64 = 2;
 
 /// Here the second mapper gives up.
@@ -127,7 +127,7 @@ pub fn each_thread<T: Send>(work: impl Fn(u64, u64) -> T + Sync) -> Vec<T> {
     std::thread::scope(|scope| {
         let work = &work;
         let start = |number| {
-            let builder = Builder::new().stack_size(STACK_BYTES);
+            let builder = Builder::new().stack_size(STACK);
             builder
                 .spawn_scoped(scope, move || work(number, THREADS))
                 .expect("a thread")
@@ -194,7 +194,7 @@ impl Sides {
         let [cover, other_cover] = &mut self.cover;
         let [scratch, other_scratch] = &mut self.scratch;
         let expected = second::map_within(LIMITS, net, k, target, other_cover, other_scratch);
-        let found = crate::map(net, k, target, cover, scratch);
+        let found = kamfelu::map(net, k, target, cover, scratch);
         self.tally.count(expected);
         if expected == Answer::GaveUp {
             // What can be said without listing cuts.
@@ -256,7 +256,7 @@ impl Sides {
         if expected == Answer::GaveUp {
             return;
         }
-        let found = answer(crate::mark(net, k, record, scratch));
+        let found = answer(kamfelu::mark(net, k, record, scratch));
         let told = || {
             format!(
                 "net {net:?} k {k} record {record:?} scratch {length}: \

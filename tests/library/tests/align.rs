@@ -1,6 +1,6 @@
 //! The library's align against the second implementation.
 
-use library::{align, align_nothing};
+use kamfelu::align;
 use second::align::plain;
 use second::Random;
 use std::collections::BTreeSet;
@@ -41,7 +41,6 @@ fn by_hand() {
     assert_eq!(align(&[], &signal[..4097]), Err(23));
     assert_eq!(align(&signal[..4096], &[]), Ok(None));
     assert_eq!(align(&[], &[]), Ok(None));
-    assert_eq!(align_nothing(), Ok(None));
 }
 
 /// All lengths around the limits, with shifts around theirs and signals that repeat or do not.

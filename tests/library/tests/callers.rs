@@ -1,5 +1,5 @@
-//! The examples that call the library from C and from Rust are compiled as the README says, and print what it says.
-//! From C an area of length 0 may also be NULL, as the header says.
+//! The examples that call the library from C and from Rust are compiled as the README says, and print what it says;
+//! that of the crate `kamfelu` too. From C an area of length 0 may also be NULL, as the header says.
 
 use std::path::{Path, PathBuf};
 use std::process::Command;
@@ -64,4 +64,19 @@ fn from_rust() {
             .arg(&program);
         assert_eq!(printed(&mut compile, &program), text);
     }
+}
+
+/// The crate's example is run as the README says.
+#[test]
+fn from_the_crate() {
+    let output = Command::new("cargo")
+        .args(["run", "--release", "--offline", "--quiet"])
+        .args(["--example", "map_and_mark"])
+        .current_dir(root().join("rust"))
+        .output()
+        .expect("cargo");
+    let told = String::from_utf8_lossy(&output.stderr);
+    assert!(output.status.success(), "{told}");
+    let text = String::from_utf8(output.stdout).expect("text");
+    assert_eq!(text, "map: 16 bytes, period 2\nmark: Ok(1)\n");
 }

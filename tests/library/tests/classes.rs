@@ -7,7 +7,7 @@ use second::programs::classes;
 #[test]
 fn library_entries() {
     for (table, entry) in (0..=255).zip(second::class_table()) {
-        assert_eq!(library::class(table), entry, "table {table}");
+        assert_eq!(kamfelu::class(table), entry, "table {table}");
     }
 }
 
@@ -17,7 +17,7 @@ fn stored_output() {
     let stored = concat!(env!("CARGO_MANIFEST_DIR"), "/../../crates/classes/stdout");
     let stored = std::fs::read_to_string(stored).expect("a stored file");
     let lines: Vec<String> = (0..=255)
-        .map(|table| format!("{}\n", library::class(table)))
+        .map(|table| format!("{}\n", kamfelu::class(table)))
         .collect();
     assert_eq!(lines.len(), 256);
     assert_eq!(stored, lines.concat());

@@ -1,5 +1,6 @@
 //! The examples of document 01 through the library, to the byte.
 
+use kamfelu::{COVER_AREA, SCRATCH};
 use library::nets::{and_line, largest_record, line, net, net_a, net_b, net_c, Read, AND};
 use second::encode::encode;
 use second::jobs::{COVER_BYTES, SCRATCH_BYTES};
@@ -13,7 +14,7 @@ const RECORD_A: [u8; 16] = [2, 2, 2, 2, 0, 0, 1, 8, 4, 2, 2, 2, 4, 1, 0, 9];
 fn map(net: &[u8], k: u32, target: u32) -> Result<Vec<u8>, u8> {
     let mut cover = vec![7; COVER_BYTES + 1];
     let mut scratch = vec![9; SCRATCH_BYTES + 1];
-    let answer = library::map(net, k, target, &mut cover, &mut scratch);
+    let answer = kamfelu::map(net, k, target, &mut cover, &mut scratch);
     let kept = answer.unwrap_or(0);
     assert!(cover[kept..].iter().all(|&byte| byte == 7));
     let work = if matches!(answer, Err(1..=3)) { 9 } else { 0 };
@@ -142,16 +143,17 @@ fn targets_32_and_33() {
 
 #[test]
 fn areas_of_962_and_961_bytes() {
+    assert_eq!((COVER_AREA, SCRATCH), (COVER_BYTES, SCRATCH_BYTES));
     let net = encode(&largest_record());
     let mut scratch = vec![9; SCRATCH_BYTES];
     let mut cover = vec![7; COVER_BYTES];
-    assert_eq!(library::map(&net, 6, 0, &mut cover, &mut scratch), Ok(962));
+    assert_eq!(kamfelu::map(&net, 6, 0, &mut cover, &mut scratch), Ok(962));
     assert!(scratch.iter().all(|&byte| byte == 0));
     assert_eq!(map(&net, 6, 0), Ok(cover));
     for (area, work) in [(961, SCRATCH_BYTES), (962, SCRATCH_BYTES - 1), (0, 0)] {
         let mut cover = vec![7; area];
         let mut scratch = vec![9; work];
-        let answer = library::map(&net, 6, 0, &mut cover, &mut scratch);
+        let answer = kamfelu::map(&net, 6, 0, &mut cover, &mut scratch);
         assert_eq!(answer, Err(3));
         assert!(cover.iter().all(|&byte| byte == 7) && scratch.iter().all(|&byte| byte == 9));
     }
@@ -161,7 +163,7 @@ fn areas_of_962_and_961_bytes() {
 fn mark_of_a_and_b() {
     let mark = |net: &[u8], k: u32, record: &[u8]| {
         let mut scratch = vec![9; SCRATCH_BYTES + 1];
-        let answer = library::mark(net, k, record, &mut scratch);
+        let answer = kamfelu::mark(net, k, record, &mut scratch);
         assert!(scratch[..SCRATCH_BYTES].iter().all(|&byte| byte == 0));
         assert_eq!(scratch[SCRATCH_BYTES], 9);
         answer

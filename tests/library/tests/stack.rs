@@ -2,6 +2,7 @@
 //! function that calls itself is counted once for each round that document 01's limits allow.
 //! All of it together fits a stack of 8 MiB.
 
+use kamfelu::STACK;
 use std::collections::BTreeMap;
 use std::path::Path;
 use std::process::Command;
@@ -9,7 +10,6 @@ use std::process::Command;
 /// Gate copies within the border, 32 · (576 + 1): each round of the search marks one more of them,
 /// and the last call marks none.
 const ROUNDS: usize = 32 * 577 + 1;
-const STACK: usize = 8 << 20;
 /// For the functions of the C library that clear and copy, and the caller.
 const ROOM: usize = 64 << 10;
 

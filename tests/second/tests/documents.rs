@@ -331,9 +331,18 @@ fn stack_of_a_caller() {
         by default, other threads must ask for it.";
     for name in [
         "include/kamfelu.h",
+        "rust/src/lib.rs",
         "docs/ASSUMPTIONS.md",
         "docs/DECISIONS.md",
     ] {
         assert!(on_one_line(&read(name)).contains(sentence), "{name}");
     }
+}
+
+/// README shows the example of the Rust crate as it stands, without the lines at its head.
+#[test]
+fn example_of_the_crate() {
+    let example = read("rust/examples/map_and_mark.rs");
+    let (_, code) = example.split_once("\n\n").expect("a head");
+    assert!(read("README.md").contains(&format!("```rust\n{code}```")));
 }

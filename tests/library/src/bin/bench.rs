@@ -79,12 +79,12 @@ impl Areas {
 
     /// The library's answer and time; the record is in the cover area.
     fn map(&mut self, net: &[u8], k: u32, target: u32) -> (Result<usize, u8>, Duration) {
-        self.best(|areas| library::map(net, k, target, &mut areas.cover, &mut areas.scratch))
+        self.best(|areas| kamfelu::map(net, k, target, &mut areas.cover, &mut areas.scratch))
     }
 
     /// The excess of a record, and the time.
     fn mark(&mut self, net: &[u8], k: u32, record: &[u8]) -> (Result<usize, u8>, Duration) {
-        self.best(|areas| library::mark(net, k, record, &mut areas.scratch))
+        self.best(|areas| kamfelu::mark(net, k, record, &mut areas.scratch))
     }
 
     /// The second mapper's answer and time.

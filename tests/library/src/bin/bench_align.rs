@@ -22,7 +22,7 @@ fn row(name: &str, first: &[u16], second: &[u16]) {
     let mut least = [f64::MAX; 2];
     let mut answers = [Ok(None); 2];
     for _ in 0..200 {
-        for (at, job) in [library::align as Job, plain].into_iter().enumerate() {
+        for (at, job) in [kamfelu::align as Job, plain].into_iter().enumerate() {
             let (answer, time) = timed(job, first, second);
             answers[at] = answer;
             least[at] = least[at].min(time);

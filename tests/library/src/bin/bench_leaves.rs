@@ -58,7 +58,7 @@ fn row(
     let mut times = Vec::new();
     for _ in 0..calls {
         let start = Instant::now();
-        let answer = library::mark(net, 6, record, &mut scratch);
+        let answer = kamfelu::mark(net, 6, record, &mut scratch);
         times.push(start.elapsed().as_secs_f64() * 1e6);
         assert_eq!(answer, expected, "mark's answer");
     }

@@ -100,7 +100,7 @@ impl Meter {
         if self.paint.look(mark - WINDOW) {
             self.paint.again(mark);
         }
-        let answer = library::map(net, k, target, &mut self.cover, &mut self.scratch);
+        let answer = kamfelu::map(net, k, target, &mut self.cover, &mut self.scratch);
         self.deepest.calls += 1;
         if self.paint.look(mark - WINDOW) {
             self.deepest = Deepest {

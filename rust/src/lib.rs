@@ -1,0 +1,210 @@
+//! Kamfelu's proved jobs, called through their static library: [`map`] and [`mark`] for LUT covers
+//! with moved registers, [`class`] for three-input tables, [`align`] for two captures of one unit.
+//!
+//! `make library` in the repository writes `target/staticlib/libkamfelu.a`, which the build script
+//! links (x86-64 Linux). A project of your own names this folder:
+//!
+//! ```toml
+//! [dependencies]
+//! kamfelu = { path = "../kamfelu/rust" }
+//! ```
+//!
+//! What holds for all functions:
+//!
+//! - `Err` has the number of a refusal. README.md of the repository lists them, "Refusals".
+//! - Nothing is assumed of the contents of any argument. docs/FORMATS.md explains net records and
+//!   cover records.
+//! - The calling thread must have a stack of 8 MiB: on Linux the main thread has one by default, other threads must ask for it.
+//!   See [`STACK`].
+//! - Nothing is kept between calls; threads may call at the same time.
+
+/// The least length of a cover area, in bytes: no cover record is longer.
+pub const COVER_AREA: usize = 962;
+
+/// The least length of a scratch, in bytes.
+pub const SCRATCH: usize = 65_536;
+
+/// The stack of a thread that calls, in bytes. Threads of Rust have less unless they ask for it:
+///
+/// ```
+/// let thread = std::thread::Builder::new().stack_size(kamfelu::STACK);
+/// let class = thread.spawn(|| kamfelu::class(232)).unwrap();
+/// assert_eq!(class.join().unwrap(), 23);
+/// ```
+pub const STACK: usize = 8 << 20;
+
+extern "C" {
+    fn kamfelu_map(
+        net: *const u8,
+        net_len: usize,
+        k: u32,
+        target: u32,
+        cover: *mut u8,
+        cover_len: usize,
+        scratch: *mut u8,
+        scratch_len: usize,
+    ) -> i64;
+
+    fn kamfelu_mark(
+        net: *const u8,
+        net_len: usize,
+        k: u32,
+        record: *const u8,
+        record_len: usize,
+        scratch: *mut u8,
+        scratch_len: usize,
+    ) -> i64;
+
+    fn kamfelu_class(table: u8) -> u8;
+
+    fn kamfelu_align(
+        first: *const u16,
+        first_len: usize,
+        second: *const u16,
+        second_len: usize,
+    ) -> i64;
+}
+
+/// A cover of a net for LUTs with k inputs that meets the target.
+///
+/// - `net`: a net record.
+/// - `k`: 2 to 6.
+/// - `target`: the period to meet, 1 to 32, or 0 for the least.
+/// - `cover`: the cover area, at least [`COVER_AREA`] bytes.
+/// - `scratch`: at least [`SCRATCH`] bytes, whatever they are.
+///
+/// `Ok` has the length of the cover record, which then stands in front of the cover area; its first
+/// byte is the period. Bytes behind it are kept.
+///
+/// `Err` has the number of the refusal: 1 for k, 2 for the target, 3 for an area that is too short,
+/// 4 to 8 for the net's bytes, 9 for a loop of gates without a register, 10 for a gate that no
+/// input reaches, 11 for one that leads to no output, 12 where no cover meets the target. The cover
+/// area is then as it was.
+///
+/// After 1 to 3 the scratch is as it was; after every other outcome its first [`SCRATCH`] bytes are
+/// 0 and the rest is kept.
+///
+/// ```
+/// use kamfelu::{map, COVER_AREA, SCRATCH};
+///
+/// let net = [2, 3, 1, 3, 0, 0, 1, 8, 3, 2, 2, 4, 1, 6, 1, 0, 3, 1, 0, 4]; // net A
+/// let (mut cover, mut scratch) = ([0; COVER_AREA], vec![0; SCRATCH]);
+/// assert_eq!(map(&net, 2, 0, &mut cover, &mut scratch), Ok(16));
+/// assert_eq!(cover[..16], [2, 2, 2, 2, 0, 0, 1, 8, 4, 2, 2, 2, 4, 1, 0, 9]);
+/// assert_eq!(map(&net, 2, 1, &mut cover, &mut scratch), Err(12)); // no cover has period 1
+/// ```
+pub fn map(
+    net: &[u8],
+    k: u32,
+    target: u32,
+    cover: &mut [u8],
+    scratch: &mut [u8],
+) -> Result<usize, u8> {
+    // SAFETY: each pointer goes with its slice's length, and the slices are apart.
+    told(unsafe {
+        kamfelu_map(
+            net.as_ptr(),
+            net.len(),
+            k,
+            target,
+            cover.as_mut_ptr(),
+            cover.len(),
+            scratch.as_mut_ptr(),
+            scratch.len(),
+        )
+    })
+}
+
+/// Whether a record is that of a cover of a net for LUTs with k inputs that meets the period it
+/// states, and by how much that period is above the least one.
+///
+/// - `net`: a net record.
+/// - `k`: 2 to 6.
+/// - `record`: the candidate's cover record.
+/// - `scratch`: at least [`SCRATCH`] bytes, whatever they are.
+///
+/// `Ok` has the excess: the stated period minus the least period for that k.
+///
+/// `Err` has the number of the refusal: 1 for k, 3 for a scratch that is too short, 4 to 11 for the
+/// net, as in [`map`], 13 for a record that breaks the layout, 14 to 18 for one that is no such
+/// cover. A record that [`map`] wrote is accepted for the same net and k.
+///
+/// After 1 and 3 the scratch is as it was; after every other outcome its first [`SCRATCH`] bytes
+/// are 0 and the rest is kept.
+///
+/// ```
+/// use kamfelu::{mark, SCRATCH};
+///
+/// let net = [2, 3, 1, 3, 0, 0, 1, 8, 3, 2, 2, 4, 1, 6, 1, 0, 3, 1, 0, 4]; // net A
+/// let record = [2, 2, 2, 2, 0, 0, 1, 8, 4, 2, 2, 2, 4, 1, 0, 9]; // its cover for k 2
+/// let mut scratch = vec![0; SCRATCH];
+/// assert_eq!(mark(&net, 2, &record, &mut scratch), Ok(0));
+/// assert_eq!(mark(&net, 3, &record, &mut scratch), Ok(1));
+/// assert_eq!(mark(&net, 2, &record[..15], &mut scratch), Err(13)); // it ends early
+/// ```
+pub fn mark(net: &[u8], k: u32, record: &[u8], scratch: &mut [u8]) -> Result<usize, u8> {
+    // SAFETY: each pointer goes with its slice's length, and the slices are apart.
+    told(unsafe {
+        kamfelu_mark(
+            net.as_ptr(),
+            net.len(),
+            k,
+            record.as_ptr(),
+            record.len(),
+            scratch.as_mut_ptr(),
+            scratch.len(),
+        )
+    })
+}
+
+/// The smallest table that a table of three leaves can be turned into by reordering leaves,
+/// inverting leaves and inverting the output.
+///
+/// Bit i of a table is its value where leaf j carries bit j of i. Tables have the same class
+/// exactly when one can be turned into the other. Nothing is refused.
+///
+/// ```
+/// assert_eq!(kamfelu::class(232), 23); // the majority of three leaves
+/// ```
+pub fn class(table: u8) -> u8 {
+    // SAFETY: a number in and a number out.
+    unsafe { kamfelu_class(table) }
+}
+
+/// By how many steps the second of two captures of one unit's outputs began after the first; one
+/// word a step, at most 4,096 words each.
+///
+/// `Ok(Some(shift))` has the smallest shift from 0 to 255 at which at least 16 steps overlap and
+/// all overlapping words agree, where word i of the second is held against word i + shift of the
+/// first. `Ok(None)`: there is none.
+///
+/// `Err(23)`: a capture has more than 4,096 words.
+///
+/// ```
+/// let unit: Vec<u16> = (0..5000).collect();
+/// assert_eq!(kamfelu::align(&unit[..100], &unit[3..103]), Ok(Some(3)));
+/// assert_eq!(kamfelu::align(&unit[3..103], &unit[..100]), Ok(None));
+/// assert_eq!(kamfelu::align(&unit, &unit[..100]), Err(23));
+/// ```
+pub fn align(first: &[u16], second: &[u16]) -> Result<Option<u16>, u8> {
+    // SAFETY: each pointer goes with its slice's length, and both are only read.
+    let answer =
+        unsafe { kamfelu_align(first.as_ptr(), first.len(), second.as_ptr(), second.len()) };
+    told(answer).map(shift)
+}
+
+/// 256 stands for none.
+fn shift(number: usize) -> Option<u16> {
+    assert!(number <= 256, "a shift");
+    u8::try_from(number).ok().map(u16::from)
+}
+
+/// A negative answer is a refusal.
+fn told(answer: i64) -> Result<usize, u8> {
+    let size = answer.unsigned_abs();
+    if answer < 0 {
+        Err(u8::try_from(size).expect("a refusal's number"))
+    } else {
+        Ok(usize::try_from(size).expect("a length"))
+    }
+}
