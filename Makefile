@@ -35,7 +35,7 @@ depth: library
 
 # Map and mark against the second mapper for MINUTES minutes, with fresh nets.
 MINUTES ?= 20
-soak: library
+soak: library programs
 	cd tests && cargo run --release --offline --quiet -p library --bin soak -- $(MINUTES) $(SEED)
 
 # The stored batch of the reader's gate, crates/reading/stdin, and the second mapper's answers, stdout.

@@ -5,4 +5,4 @@ pub mod AlignTold
 pub mod AlignAnswers
 pub mod CaptureLaws
 pub mod WordRuns
-pub mod RunLaws
+pub mod WordRunLaws

@@ -1,6 +1,6 @@
 // The generator of the table of classes: prints 256 numbers, one a line.
-use classtext::CLASS_TEXT;
-use classtext::write_classes;
+use text_classes::CLASS_TEXT;
+use text_classes::write_classes;
 
 fn main() {
     let mut out = [0u8; CLASS_TEXT];

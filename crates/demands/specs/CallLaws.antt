@@ -7,22 +7,22 @@ use Prim.Native.Nat.{ℕ, zero, suc, _+_, _-_, _≤_, _<_}
 use native.Mathlib.Omega.{arith}
 use lib.ListN.{length, getD, take}
 use Rattle.limits.specs.Limits.{coverArea, scratchArea, mostPeriod}
-use Rattle.netlist.specs.Net.{Net}
-use Rattle.netlist.specs.Checks.{Passed}
-use Rattle.netlist.specs.Runs.{Run}
-use Rattle.covers.specs.Covers.{Met, LeastPeriod}
-use Rattle.covers.specs.Board.{Satisfied}
-use Rattle.covers.specs.Key.{Key, entries, asCover}
-use Rattle.covers.specs.KeyUnique.{entries-unique}
-use Rattle.covers.specs.Joined.{reachable-met, met-reachable}
-use Rattle.covers.specs.Period.{leastPeriod, leastPeriod-is, leastPeriod-unique, leastPeriod-bound}
-use Rattle.covers.specs.Written.{noEntry}
-use Rattle.netbytes.specs.Readers.{got-value}
-use Rattle.records.specs.CoverBytes.{Record, coverBytes}
-use Rattle.records.specs.KeyRecord.{WithinLimits, key-length}
-use Rattle.records.specs.Outcomes.{accepted, turnedBack, passes, checkNet, cleared, written, mapSizes, MapOutcome, mapWritten, mapOutcome, markSizes, MarkOutcome, markOutcome}
-use Rattle.sizes.specs.Sizes.{Fit}
-use Rattle.sizes.specs.SizeLaws.{size-none, mark-sizes-are}
+use Rattle.net_model.specs.Net.{Net}
+use Rattle.net_model.specs.Checks.{Passed}
+use Rattle.net_model.specs.Runs.{Run}
+use Rattle.cover_theory.specs.Covers.{Met, LeastPeriod}
+use Rattle.cover_theory.specs.Board.{Satisfied}
+use Rattle.cover_theory.specs.Key.{Key, entries, asCover}
+use Rattle.cover_theory.specs.KeyUnique.{entries-unique}
+use Rattle.cover_theory.specs.Joined.{reachable-met, met-reachable}
+use Rattle.cover_theory.specs.Period.{leastPeriod, leastPeriod-is, leastPeriod-unique, leastPeriod-bound}
+use Rattle.cover_theory.specs.Written.{noEntry}
+use Rattle.net_bytes.specs.Readers.{got-value}
+use Rattle.cover_records.specs.CoverBytes.{Record, coverBytes}
+use Rattle.cover_records.specs.KeyRecord.{WithinLimits, key-length}
+use Rattle.cover_records.specs.Outcomes.{accepted, turnedBack, passes, checkNet, cleared, written, mapSizes, MapOutcome, mapWritten, mapOutcome, markSizes, MarkOutcome, markOutcome}
+use Rattle.job_sizes.specs.Sizes.{Fit}
+use Rattle.job_sizes.specs.SizeLaws.{size-none, mark-sizes-are}
 use Rattle.demands.specs.TurnedBack.{IsNet, IsRecord, MapFails, First}
 use Rattle.demands.specs.Calls.{MapCall, MarkCall, mapDone, markDone, MapBad, MarkBad, MapNet, MarkNet, Asked}
 use Rattle.demands.specs.OrderLaws.{told-first, told-none, one-net, net-range}

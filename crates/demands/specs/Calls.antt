@@ -2,9 +2,9 @@
 use mathlib.Core.Path.{_≡_}
 use mathlib.Core.List.{List}
 use Prim.Native.Nat.{ℕ, _<_}
-use Rattle.netlist.specs.Net.{Net}
-use Rattle.covers.specs.Covers.{LeastPeriod}
-use Rattle.records.specs.Outcomes.{MapOutcome, mapOutcome, MarkOutcome, markOutcome}
+use Rattle.net_model.specs.Net.{Net}
+use Rattle.cover_theory.specs.Covers.{LeastPeriod}
+use Rattle.cover_records.specs.Outcomes.{MapOutcome, mapOutcome, MarkOutcome, markOutcome}
 use Rattle.demands.specs.TurnedBack.{IsNet, MapFails, MarkFails}
 
 -- a call of map, and of mark: all that is lent, whatever it is

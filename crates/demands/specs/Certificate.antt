@@ -1,6 +1,6 @@
 -- **The certificate**: one field for each sentence of the three demands and of the requests that landed, in their words, over every call there can be; `certificate` is its
 -- inhabitant.
--- The contracts of `mapper: map` and `marker: mark` equate what the programs do, for all arguments, with `mapOutcome` and `markOutcome`; so the fields hold of the programs.
+-- The contracts of `job_map: map` and `job_mark: mark` equate what the programs do, for all arguments, with `mapOutcome` and `markOutcome`; so the fields hold of the programs.
 use mathlib.Core.Path.{_≡_}
 use mathlib.Core.Bool.{Bool}
 use mathlib.Core.List.{List}
@@ -8,22 +8,22 @@ use mathlib.Core.Logic.{_↔_}
 use Prim.Native.Nat.{ℕ, _+_, _≤_, _<_}
 use lib.ListN.{length, getD, take}
 use Rattle.limits.specs.Limits.{coverArea, scratchArea}
-use Rattle.netlist.specs.Net.{Net}
-use Rattle.netlist.specs.Runs.{Run}
-use Rattle.covers.specs.Covers.{Met, LeastPeriod}
-use Rattle.covers.specs.Board.{Satisfied}
-use Rattle.covers.specs.Key.{Key, entries, asCover}
-use Rattle.covers.specs.Written.{noEntry}
-use Rattle.records.specs.CoverBytes.{Record, coverBytes}
-use Rattle.records.specs.Outcomes.{accepted, turnedBack, cleared, written}
+use Rattle.net_model.specs.Net.{Net}
+use Rattle.net_model.specs.Runs.{Run}
+use Rattle.cover_theory.specs.Covers.{Met, LeastPeriod}
+use Rattle.cover_theory.specs.Board.{Satisfied}
+use Rattle.cover_theory.specs.Key.{Key, entries, asCover}
+use Rattle.cover_theory.specs.Written.{noEntry}
+use Rattle.cover_records.specs.CoverBytes.{Record, coverBytes}
+use Rattle.cover_records.specs.Outcomes.{accepted, turnedBack, cleared, written}
 use Rattle.lutclass.specs.ClassTable.{ClassTable, shipped}
-use Rattle.lutclass.specs.TableLaws.{class-table}
-use Rattle.classtext.specs.ClassText.{numberLines, classText}
-use Rattle.classtext.specs.ClassTextLaws.{prints-shipped}
+use Rattle.lutclass.specs.ClassTableLaws.{class-table}
+use Rattle.text_classes.specs.ClassText.{numberLines, classText}
+use Rattle.text_classes.specs.ClassTextLaws.{prints-shipped}
 use Rattle.captures.specs.AlignTold.{AlignTold}
 use Rattle.captures.specs.CaptureLaws.{align-told}
-use Rattle.leaflookup.specs.Lookup.{seekOf, LeafLookup}
-use Rattle.leaflookup.specs.LookupLaws.{leaf-lookup}
+use Rattle.cone_leaves.specs.Lookup.{seekOf, LeafLookup}
+use Rattle.cone_leaves.specs.LookupLaws.{leaf-lookup}
 use Rattle.demands.specs.TurnedBack.{IsNet, IsRecord, First, OfMap, OfMark}
 use Rattle.demands.specs.Calls.{MapCall, MarkCall, mapDone, markDone, MapBad, MarkBad, MapNet, MarkNet, Asked}
 use Rattle.demands.specs.MapEnds.{map-range}
@@ -85,7 +85,7 @@ pub record Certificate : Type 0 where
   -- ---- Document 02, E2: the register count, fields in `Registers`
   pub shared : SharedCount
   -- ---- Document 02, E3. "that test is to end at the first leaf beyond the copy sought. Yes and no are the same for every copy and rising leaf list, and what stands
-  -- behind that first leaf, rising or not, never changes them." The contract of `leaflookup: seek` equates what it gives, for all leaves and copies, with `seekOf`.
+  -- behind that first leaf, rising or not, never changes them." The contract of `cone_leaves: seek` equates what it gives, for all leaves and copies, with `seekOf`.
   pub lookup : LeafLookup seekOf
 
 -- **All of it is proved.**

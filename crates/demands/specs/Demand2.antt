@@ -10,29 +10,29 @@ use native.Mathlib.Omega.{arith}
 use lib.ListN.{length, getD, take, drop}
 use lib.Seq.{take-at}
 use Rattle.sequences.specs.Member.{_∈_, getD-in, in-getD}
-use Rattle.netlist.specs.Net.{Net, Pin, IsGate, size}
-use Rattle.netlist.specs.Checks.{Passed}
-use Rattle.netlist.specs.Copies.{Copy, copy, IsCut}
-use Rattle.netlist.specs.Runs.{Run}
-use Rattle.cones.specs.Ranks.{ranked}
-use Rattle.covers.specs.Covers.{Lut, lut, output, IsCover, Meets, RootedAt}
-use Rattle.covers.specs.Board.{Satisfied}
-use Rattle.covers.specs.Key.{Key, Entry, HasLut, entries, placeOf, asLut, asCover}
-use Rattle.covers.specs.Joined.{key?, key-met}
-use Rattle.covers.specs.KeyOf.{entries-in, roots-gate, entryOf}
-use Rattle.covers.specs.Period.{leastPeriod, leastPeriod-is, leastKey, leastPeriod-bound}
-use Rattle.covers.specs.Written.{noEntry, lut-asCover, luts-asCover}
+use Rattle.net_model.specs.Net.{Net, Pin, IsGate, size}
+use Rattle.net_model.specs.Checks.{Passed}
+use Rattle.net_model.specs.Copies.{Copy, copy, IsCut}
+use Rattle.net_model.specs.Runs.{Run}
+use Rattle.cone_theory.specs.Ranks.{ranked}
+use Rattle.cover_theory.specs.Covers.{Lut, lut, output, IsCover, Meets, RootedAt}
+use Rattle.cover_theory.specs.Board.{Satisfied}
+use Rattle.cover_theory.specs.Key.{Key, Entry, HasLut, entries, placeOf, asLut, asCover}
+use Rattle.cover_theory.specs.Joined.{key?, key-met}
+use Rattle.cover_theory.specs.KeyOf.{entries-in, roots-gate, entryOf}
+use Rattle.cover_theory.specs.Period.{leastPeriod, leastPeriod-is, leastKey, leastPeriod-bound}
+use Rattle.cover_theory.specs.Written.{noEntry, lut-asCover, luts-asCover}
 use Rattle.limits.specs.Limits.{mostPeriod, mostLuts, coverArea}
-use Rattle.netbytes.specs.Reading.{got, refused, Result, Reader, andThen, atEnd, between}
-use Rattle.netbytes.specs.Readers.{refused-not-got, got-value, then-got, byte-got, atEnd-got}
-use Rattle.netbytes.specs.Sound.{between-true}
-use Rattle.records.specs.CoverBytes.{Record, coverBytes, coverReader, coverByte, lutsReader}
-use Rattle.records.specs.Decided.{cutsRight?, tablesRight?, allFed?, enough?, shortChains?}
-use Rattle.records.specs.KeyRecord.{WithinLimits, key-back}
-use Rattle.records.specs.Marking.{CutsRight, TableRight, TablesRight, AllFed, EnoughRegisters, ShortChains}
-use Rattle.records.specs.Accepted.{Covering, covering-cover, excess-is, accepted-runs}
-use Rattle.records.specs.Outcomes.{Answer, accepted, turnedBack, Checked, passes, checkNet, MarkOutcome, MapOutcome, mapSizes, written, forTarget, mapWritten, mapped, mapOutcome, markSizes, judged, markRead, markChecked, markSized, markOutcome}
-use Rattle.sizes.specs.SizeLaws.{fit, mark-sizes-are}
+use Rattle.net_bytes.specs.Reading.{got, refused, Result, Reader, andThen, atEnd, between}
+use Rattle.net_bytes.specs.Readers.{refused-not-got, got-value, then-got, byte-got, atEnd-got}
+use Rattle.net_bytes.specs.Sound.{between-true}
+use Rattle.cover_records.specs.CoverBytes.{Record, coverBytes, coverReader, coverByte, lutsReader}
+use Rattle.cover_records.specs.MarkingDecided.{cutsRight?, tablesRight?, allFed?, enough?, shortChains?}
+use Rattle.cover_records.specs.KeyRecord.{WithinLimits, key-back}
+use Rattle.cover_records.specs.Marking.{CutsRight, TableRight, TablesRight, AllFed, EnoughRegisters, ShortChains}
+use Rattle.cover_records.specs.Accepted.{Covering, covering-cover, excess-is, accepted-runs}
+use Rattle.cover_records.specs.Outcomes.{Answer, accepted, turnedBack, Checked, passes, checkNet, MarkOutcome, MapOutcome, mapSizes, written, forTarget, mapWritten, mapped, mapOutcome, markSizes, judged, markRead, markChecked, markSized, markOutcome}
+use Rattle.job_sizes.specs.SizeLaws.{fit, mark-sizes-are}
 use Rattle.demands.specs.Demand3.{outcome-is, limits, map-fit}
 
 -- A record of a cover of N for k that meets its stated period, with right tables.

@@ -8,23 +8,23 @@ use Prim.Native.Nat.{ℕ, zero, suc, _≤_, _<_, suc-le-suc, zero-le}
 use native.Mathlib.Nat.{le-trans}
 use native.Mathlib.Omega.{arith}
 use lib.ListN.{length, drop}
-use Rattle.netlist.specs.Net.{Net, Pin, IsGate, gate, pins}
+use Rattle.net_model.specs.Net.{Net, Pin, IsGate, gate, pins}
 use Rattle.sequences.specs.Member.{_∈_}
-use Rattle.netlist.specs.Checks.{Passed}
-use Rattle.covers.specs.Covers.{IsCover, Meets, Met, LeastPeriod}
-use Rattle.covers.specs.Key.{Key, Entry, entries, asCover}
-use Rattle.covers.specs.Joined.{key?, key-met, key-meets, met-reachable}
-use Rattle.covers.specs.KeyOf.{keyOf}
-use Rattle.covers.specs.Period.{leastPeriod, leastPeriod-is, leastKey, leastPeriod-bound}
+use Rattle.net_model.specs.Checks.{Passed}
+use Rattle.cover_theory.specs.Covers.{IsCover, Meets, Met, LeastPeriod}
+use Rattle.cover_theory.specs.Key.{Key, Entry, entries, asCover}
+use Rattle.cover_theory.specs.Joined.{key?, key-met, key-meets, met-reachable}
+use Rattle.cover_theory.specs.KeyOf.{keyOf}
+use Rattle.cover_theory.specs.Period.{leastPeriod, leastPeriod-is, leastKey, leastPeriod-bound}
 use Rattle.limits.specs.Limits.{mostK, mostPeriod}
-use Rattle.netbytes.specs.Reading.{got, refused, Result}
-use Rattle.netbytes.specs.Walk.{netReader}
-use Rattle.netbytes.specs.Sound.{walk-facts, walk-gate, NetFacts}
-use Rattle.records.specs.CoverBytes.{Record, coverBytes, coverReader}
-use Rattle.records.specs.KeyRecord.{WithinLimits, key-back}
-use Rattle.records.specs.Outcomes.{Answer, accepted, turnedBack, Checked, passes, fails, checkGraph, checkRead, checkNet, MapOutcome, mapSizes, cleared, written, Mapped, covered, unreachable, forTarget, mapWritten, mapped, mapChecked, mapSized, mapOutcome}
-use Rattle.sizes.specs.Sizes.{Fit}
-use Rattle.sizes.specs.SizeLaws.{fit, map-sizes-are}
+use Rattle.net_bytes.specs.Reading.{got, refused, Result}
+use Rattle.net_bytes.specs.Walk.{netReader}
+use Rattle.net_bytes.specs.Sound.{walk-facts, walk-gate, NetFacts}
+use Rattle.cover_records.specs.CoverBytes.{Record, coverBytes, coverReader}
+use Rattle.cover_records.specs.KeyRecord.{WithinLimits, key-back}
+use Rattle.cover_records.specs.Outcomes.{Answer, accepted, turnedBack, Checked, passes, fails, checkGraph, checkRead, checkNet, MapOutcome, mapSizes, cleared, written, Mapped, covered, unreachable, forTarget, mapWritten, mapped, mapChecked, mapSized, mapOutcome}
+use Rattle.job_sizes.specs.Sizes.{Fit}
+use Rattle.job_sizes.specs.SizeLaws.{fit, map-sizes-are}
 use Rattle.demands.specs.OrderLaws.{passes-net}
 
 -- ---- what map does with a net that passed

@@ -10,16 +10,16 @@ use lib.ListN.{length, take, drop, replicate, take-append-drop, length-drop}
 use lib.Seq.{take-all, take-take, take-append-le, drop-append-le, length-take-le}
 use Rattle.limits.specs.Limits.{leastK, mostK, mostPeriod, coverArea, scratchArea, mostNetBytes, inputRoom}
 use Rattle.sequences.specs.Member.{_∈_, there, in-append-left, in-append-right}
-use Rattle.netbytes.specs.Reading.{between}
-use Rattle.netbytes.specs.Readers.{Each}
-use Rattle.netbytes.specs.Sound.{between-true}
-use Rattle.netbytes.specs.Short.{Bytes, short-refuses, short-net}
-use Rattle.records.specs.CoverBytes.{coverReader}
-use Rattle.records.specs.Listing.{refusalText}
-use Rattle.records.specs.Outcomes.{Checked, passes, fails, checkNet, markRead, markChecked, markSizes, markSized, markOutcome}
-use Rattle.records.specs.Program.{listChecked, listing, listingProgram, answerText, marking, markingProgram}
-use Rattle.records.specs.ShortCover.{short-cover}
-use Rattle.records.specs.CheckLaws.{check-refused}
+use Rattle.net_bytes.specs.Reading.{between}
+use Rattle.net_bytes.specs.Readers.{Each}
+use Rattle.net_bytes.specs.Sound.{between-true}
+use Rattle.net_bytes.specs.Short.{Bytes, short-refuses, short-net}
+use Rattle.cover_records.specs.CoverBytes.{coverReader}
+use Rattle.cover_records.specs.Listing.{refusalText}
+use Rattle.cover_records.specs.Outcomes.{Checked, passes, fails, checkNet, markRead, markChecked, markSizes, markSized, markOutcome}
+use Rattle.cover_records.specs.Program.{listChecked, listing, listingProgram, answerText, marking, markingProgram}
+use Rattle.cover_records.specs.ShortCover.{short-cover}
+use Rattle.cover_records.specs.CheckLaws.{check-refused}
 
 -- the parts of bytes are bytes
 module _ (n : ℕ) (s : List ℕ) (b : Bytes s) where

@@ -6,16 +6,16 @@ use Prim.Native.Nat.{ℕ, zero, suc, _≤_, _<_, suc-le-suc, zero-le}
 use native.Mathlib.Omega.{arith}
 use lib.ListN.{length}
 use Rattle.limits.specs.Limits.{mostPeriod, coverArea, scratchArea}
-use Rattle.netlist.specs.Net.{Net}
-use Rattle.netlist.specs.Checks.{Passed}
-use Rattle.labelling.specs.Labels.{Reachable}
-use Rattle.covers.specs.Key.{Key}
-use Rattle.covers.specs.Joined.{key?, key-reachable}
-use Rattle.covers.specs.KeyOf.{keyOf}
-use Rattle.covers.specs.Period.{leastPeriod, leastKey}
-use Rattle.records.specs.Outcomes.{turnedBack, Checked, passes, fails, checkNet, cleared, MapOutcome, mapSizes, covered, forTarget, mapWritten, mapped, mapChecked, mapSized, mapOutcome}
-use Rattle.sizes.specs.Sizes.{sizesOf, Fit}
-use Rattle.sizes.specs.SizeLaws.{map-sizes-are}
+use Rattle.net_model.specs.Net.{Net}
+use Rattle.net_model.specs.Checks.{Passed}
+use Rattle.label_theory.specs.Labels.{Reachable}
+use Rattle.cover_theory.specs.Key.{Key}
+use Rattle.cover_theory.specs.Joined.{key?, key-reachable}
+use Rattle.cover_theory.specs.KeyOf.{keyOf}
+use Rattle.cover_theory.specs.Period.{leastPeriod, leastKey}
+use Rattle.cover_records.specs.Outcomes.{turnedBack, Checked, passes, fails, checkNet, cleared, MapOutcome, mapSizes, covered, forTarget, mapWritten, mapped, mapChecked, mapSized, mapOutcome}
+use Rattle.job_sizes.specs.Sizes.{sizesOf, Fit}
+use Rattle.job_sizes.specs.SizeLaws.{map-sizes-are}
 use Rattle.demands.specs.TurnedBack.{IsNet, NetFails, MapFails, Outside, First, OfMap}
 use Rattle.demands.specs.OrderLaws.{Said, fits, said1, said2, said3, sizes-said, one-net, net-range, NetEnds, stops, goes, net-ends, net-passes, first-of, Told}
 

@@ -6,19 +6,19 @@ use Prim.Native.Nat.{ℕ, zero, suc, _-_, _≤_, _<_}
 use native.Mathlib.Omega.{arith}
 use lib.ListN.{length}
 use Rattle.limits.specs.Limits.{mostPeriod, coverArea, scratchArea}
-use Rattle.netlist.specs.Net.{Net}
-use Rattle.netlist.specs.Checks.{Passed}
-use Rattle.cones.specs.Ranks.{ranked}
-use Rattle.covers.specs.Period.{leastPeriod}
-use Rattle.netbytes.specs.Reading.{Result, got, refused}
-use Rattle.netbytes.specs.Readers.{refused-not-got, got-value}
-use Rattle.records.specs.CoverBytes.{Record, coverReader}
-use Rattle.records.specs.CoverRefusals.{only-cover}
-use Rattle.records.specs.Decided.{cutsRight?, tablesRight?, allFed?, enough?, shortChains?}
-use Rattle.records.specs.Marking.{CutsRight, TablesRight, AllFed, EnoughRegisters, ShortChains}
-use Rattle.records.specs.Outcomes.{Answer, accepted, turnedBack, Checked, passes, fails, checkNet, cleared, MarkOutcome, markSizes, judged, markRead, markChecked, markSized, markOutcome}
-use Rattle.sizes.specs.Sizes.{sizesOf, Fit}
-use Rattle.sizes.specs.SizeLaws.{mark-sizes-are}
+use Rattle.net_model.specs.Net.{Net}
+use Rattle.net_model.specs.Checks.{Passed}
+use Rattle.cone_theory.specs.Ranks.{ranked}
+use Rattle.cover_theory.specs.Period.{leastPeriod}
+use Rattle.net_bytes.specs.Reading.{Result, got, refused}
+use Rattle.net_bytes.specs.Readers.{refused-not-got, got-value}
+use Rattle.cover_records.specs.CoverBytes.{Record, coverReader}
+use Rattle.cover_records.specs.CoverRefusals.{only-cover}
+use Rattle.cover_records.specs.MarkingDecided.{cutsRight?, tablesRight?, allFed?, enough?, shortChains?}
+use Rattle.cover_records.specs.Marking.{CutsRight, TablesRight, AllFed, EnoughRegisters, ShortChains}
+use Rattle.cover_records.specs.Outcomes.{Answer, accepted, turnedBack, Checked, passes, fails, checkNet, cleared, MarkOutcome, markSizes, judged, markRead, markChecked, markSized, markOutcome}
+use Rattle.job_sizes.specs.Sizes.{sizesOf, Fit}
+use Rattle.job_sizes.specs.SizeLaws.{mark-sizes-are}
 use Rattle.demands.specs.TurnedBack.{IsNet, IsRecord, NetFails, MarkFails, Outside, First, OfMark}
 use Rattle.demands.specs.OrderLaws.{Said, fits, said1, said2, said3, sizes-said, one-net, net-range, NetEnds, stops, goes, net-ends, net-passes, first-of, Told}
 

@@ -6,17 +6,17 @@ use Prim.Native.Nat.{ℕ, _≤_, _<_}
 use native.Mathlib.Decide.{decLe}
 use native.Mathlib.Omega.{arith}
 use Rattle.limits.specs.Limits.{leastK, mostK, mostPeriod, coverArea, scratchArea}
-use Rattle.netlist.specs.Net.{Net}
-use Rattle.netlist.specs.Checks.{Loopless, AllReached, AllLeading, Passed}
-use Rattle.cones.specs.Decided.{loopless?, reached?, leading?}
-use Rattle.netbytes.specs.Reading.{Result, got, refused}
-use Rattle.netbytes.specs.Readers.{refused-not-got, got-value}
-use Rattle.netbytes.specs.Refusals.{only-net}
-use Rattle.netbytes.specs.Walk.{netReader}
-use Rattle.records.specs.CheckLaws.{check-refused, check-loop, check-unreached, check-unled, check-passes}
-use Rattle.records.specs.Outcomes.{Answer, accepted, turnedBack, Checked, passes, fails, checkNet}
-use Rattle.sizes.specs.Sizes.{sizesOf, Fit}
-use Rattle.sizes.specs.SizeLaws.{size-low, size-high, size-target, size-area, size-scratch, size-none}
+use Rattle.net_model.specs.Net.{Net}
+use Rattle.net_model.specs.Checks.{Loopless, AllReached, AllLeading, Passed}
+use Rattle.cone_theory.specs.ChecksDecided.{loopless?, reached?, leading?}
+use Rattle.net_bytes.specs.Reading.{Result, got, refused}
+use Rattle.net_bytes.specs.Readers.{refused-not-got, got-value}
+use Rattle.net_bytes.specs.Refusals.{only-net}
+use Rattle.net_bytes.specs.Walk.{netReader}
+use Rattle.cover_records.specs.CheckLaws.{check-refused, check-loop, check-unreached, check-unled, check-passes}
+use Rattle.cover_records.specs.Outcomes.{Answer, accepted, turnedBack, Checked, passes, fails, checkNet}
+use Rattle.job_sizes.specs.Sizes.{sizesOf, Fit}
+use Rattle.job_sizes.specs.SizeLaws.{size-low, size-high, size-target, size-area, size-scratch, size-none}
 use Rattle.demands.specs.TurnedBack.{IsNet, NetFails, Outside, First}
 
 -- ---- checks 1 to 3

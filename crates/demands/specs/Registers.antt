@@ -10,16 +10,16 @@ use lib.Dec.{eqb, ltb}
 use lib.IntN.{ℤ, pos, _+ℤ_, _-ℤ_}
 use lib.ListN.{length, getD}
 use Rattle.sequences.specs.Member.{_∈_, here, there}
-use Rattle.netlist.specs.Net.{Net, Pin, size}
-use Rattle.netlist.specs.Copies.{Copy}
-use Rattle.covers.specs.Covers.{Lut, Cover, lut, lagOf, output, IsCover}
-use Rattle.covers.specs.Key.{Key, Entry, entries, placeOf, asLut, asCover}
-use Rattle.covers.specs.KeyOf.{key-labelled}
-use Rattle.covers.specs.SharedRegisters.{Tap, tap, longest, overNodes, sharedCount, gather, leavesTapped, lutTapped, outputTapped, coverTaps, coverRegisters, Reader, Largest, Serves}
-use Rattle.covers.specs.SharedLaws.{longest-serves, shorter-fails, count-least}
-use Rattle.covers.specs.SharedCovers.{reader-tap, tap-reader, cover-largest}
-use Rattle.covers.specs.Written.{noEntry, lut-asCover, luts-asCover}
-use Rattle.records.specs.Listing.{lagIn, leafTaps, lutTaps, outputTaps, entryTaps, registerCount}
+use Rattle.net_model.specs.Net.{Net, Pin, size}
+use Rattle.net_model.specs.Copies.{Copy}
+use Rattle.cover_theory.specs.Covers.{Lut, Cover, lut, lagOf, output, IsCover}
+use Rattle.cover_theory.specs.Key.{Key, Entry, entries, placeOf, asLut, asCover}
+use Rattle.cover_theory.specs.KeyOf.{key-labelled}
+use Rattle.cover_theory.specs.SharedRegisters.{Tap, tap, longest, overNodes, sharedCount, gather, leavesTapped, lutTapped, outputTapped, coverTaps, coverRegisters, Reader, Largest, Serves}
+use Rattle.cover_theory.specs.SharedLaws.{longest-serves, shorter-fails, count-least}
+use Rattle.cover_theory.specs.SharedCovers.{reader-tap, tap-reader, cover-largest}
+use Rattle.cover_theory.specs.Written.{noEntry, lut-asCover, luts-asCover}
+use Rattle.cover_records.specs.Listing.{lagIn, leafTaps, lutTaps, outputTaps, entryTaps, registerCount}
 
 -- the lag written for a root is that of the entry at its place
 lagIn-place : (es : List Entry) (u : ℕ) → lagIn es u ≡ (getD es (placeOf es u) noEntry) .lag

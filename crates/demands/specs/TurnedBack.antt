@@ -4,13 +4,13 @@ use mathlib.Core.List.{List}
 use Prim.Native.Nat.{ℕ, _≤_, _<_}
 use lib.ListN.{length}
 use Rattle.limits.specs.Limits.{leastK, mostK, mostPeriod, coverArea, scratchArea}
-use Rattle.netlist.specs.Net.{Net}
-use Rattle.netlist.specs.Checks.{Loopless, AllReached, AllLeading}
-use Rattle.labelling.specs.Labels.{Reachable}
-use Rattle.netbytes.specs.Reading.{got, refused}
-use Rattle.netbytes.specs.Walk.{netReader}
-use Rattle.records.specs.CoverBytes.{Record, coverReader}
-use Rattle.records.specs.Marking.{CutsRight, TablesRight, AllFed, EnoughRegisters, ShortChains}
+use Rattle.net_model.specs.Net.{Net}
+use Rattle.net_model.specs.Checks.{Loopless, AllReached, AllLeading}
+use Rattle.label_theory.specs.Labels.{Reachable}
+use Rattle.net_bytes.specs.Reading.{got, refused}
+use Rattle.net_bytes.specs.Walk.{netReader}
+use Rattle.cover_records.specs.CoverBytes.{Record, coverReader}
+use Rattle.cover_records.specs.Marking.{CutsRight, TablesRight, AllFed, EnoughRegisters, ShortChains}
 
 -- the bytes are the record of the net N
 abbrev pub IsNet : ℕ → List ℕ → Net → Type 0

@@ -1,1 +1,1 @@
-// Theory only: demands 2 and 3 as theorems about the outcomes of map and mark, in specs/.
+// Theory only: the certificate: the three demands and the requests as theorems about outcomes, in specs/.

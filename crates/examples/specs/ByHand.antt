@@ -9,9 +9,9 @@ use lib.ListN.{length}
 use lib.Signed.{_≤ℤ_}
 use Rattle.integers.specs.Parts.{ints}
 use Rattle.sequences.specs.Member.{_∈_, here, there, not-in-nil}
-use Rattle.netlist.specs.Net.{Net, Pin, IsGate, gate, pins}
-use Rattle.netlist.specs.Copies.{Copy, copy, Feeds, Leads, stop, IsCone, Leaf, IsLeaves, IsCut, Before}
-use Rattle.covers.specs.Covers.{Lut, Cover, lut, registers, output, outputRegisters, RootedAt, IsCover, Chain, one, more, Meets, Met}
+use Rattle.net_model.specs.Net.{Net, Pin, IsGate, gate, pins}
+use Rattle.net_model.specs.Copies.{Copy, copy, Feeds, Leads, stop, IsCone, Leaf, IsLeaves, IsCut, Before}
+use Rattle.cover_theory.specs.Covers.{Lut, Cover, lut, registers, output, outputRegisters, RootedAt, IsCover, Chain, one, more, Meets, Met}
 use Rattle.examples.specs.Nets.{pin, netB}
 
 -- ---- a gate alone, two copies feeding it

@@ -5,15 +5,15 @@ use Prim.Native.Nat.{ℕ}
 use lib.Count.{ones, onesIn}
 use lib.IntN.{ℤ, pos, negsuc}
 use Rattle.integers.specs.Lag.{lag, ceilDiv}
-use Rattle.netlist.specs.Net.{Net, gate}
-use Rattle.netlist.specs.Copies.{Copy, copy}
-use Rattle.netlist.specs.Tables.{tableOf, pack, valueIn, atLeaf}
-use Rattle.covers.specs.Key.{Entry}
-use Rattle.covers.specs.SharedRegisters.{larger, longest, overNodes, sharedCount}
-use Rattle.netbytes.specs.Reading.{Result, got, refused, times}
-use Rattle.netbytes.specs.Walk.{netReader, gateReader, outputReader, pinsFrom, fromBytes}
-use Rattle.records.specs.CoverBytes.{Record, coverBytes, allLutBytes, lutBytes, depths, leafMap, toBytes, coverReader, lutsReader, lutReader, depthReader, leavesFrom, risingLeaves}
-use Rattle.records.specs.Listing.{coverText, refusalText, lutLines, lutLine, leafText, tableText, hexLow, signed, decimal, digitText, reversed, digitsLow, registerCount, entryTaps, lutTaps, leafTaps, outputTaps, lagIn}
+use Rattle.net_model.specs.Net.{Net, gate}
+use Rattle.net_model.specs.Copies.{Copy, copy}
+use Rattle.net_model.specs.Tables.{tableOf, pack, valueIn, atLeaf}
+use Rattle.cover_theory.specs.Key.{Entry}
+use Rattle.cover_theory.specs.SharedRegisters.{larger, longest, overNodes, sharedCount}
+use Rattle.net_bytes.specs.Reading.{Result, got, refused, times}
+use Rattle.net_bytes.specs.Walk.{netReader, gateReader, outputReader, pinsFrom, fromBytes}
+use Rattle.cover_records.specs.CoverBytes.{Record, coverBytes, allLutBytes, lutBytes, depths, leafMap, toBytes, coverReader, lutsReader, lutReader, depthReader, leavesFrom, risingLeaves}
+use Rattle.cover_records.specs.Listing.{coverText, refusalText, lutLines, lutLine, leafText, tableText, hexLow, signed, decimal, digitText, reversed, digitsLow, registerCount, entryTaps, lutTaps, leafTaps, outputTaps, lagIn}
 use Rattle.examples.specs.Nets.{pin, bytesA, netA, bytesB, netB, bytesC, netC, entriesA, labelsA, recordA}
 
 -- ---- the walk over the net's bytes

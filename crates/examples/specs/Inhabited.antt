@@ -4,16 +4,16 @@ use mathlib.Core.Bool.{Bool, false}
 use mathlib.Core.List.{List, [], _∷_}
 use Prim.Native.Nat.{ℕ, _≤_, _<_}
 use native.Mathlib.Omega.{arith}
-use Rattle.netlist.specs.Net.{Net, IsGate, gate}
-use Rattle.netlist.specs.Checks.{Passed}
-use Rattle.netlist.specs.Runs.{Run, gateAt}
-use Rattle.netlist.specs.Tables.{apply, bit}
-use Rattle.cones.specs.Decided.{passed?}
-use Rattle.labelling.specs.Labels.{Reachable}
-use Rattle.covers.specs.Covers.{Met, LeastPeriod}
-use Rattle.covers.specs.Joined.{key-meets, key-reachable}
-use Rattle.covers.specs.Key.{Key, entries}
-use Rattle.records.specs.CoverBytes.{Record}
+use Rattle.net_model.specs.Net.{Net, IsGate, gate}
+use Rattle.net_model.specs.Checks.{Passed}
+use Rattle.net_model.specs.Runs.{Run, gateAt}
+use Rattle.net_model.specs.Tables.{apply, bit}
+use Rattle.cone_theory.specs.ChecksDecided.{passed?}
+use Rattle.label_theory.specs.Labels.{Reachable}
+use Rattle.cover_theory.specs.Covers.{Met, LeastPeriod}
+use Rattle.cover_theory.specs.Joined.{key-meets, key-reachable}
+use Rattle.cover_theory.specs.Key.{Key, entries}
+use Rattle.cover_records.specs.CoverBytes.{Record}
 use Rattle.demands.specs.Demand2.{RightRecord, key-right}
 use Rattle.examples.specs.Plan.{given}
 use Rattle.examples.specs.Nets.{netA, netC}

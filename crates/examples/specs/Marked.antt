@@ -14,30 +14,30 @@ use Rattle.integers.specs.Lag.{lag, lag-examples}
 use Rattle.integers.specs.Order.{≤ℤ?}
 use Rattle.sequences.specs.Decide.{all?, any?, below?, dec-map, dec-×, dec-→, dec-¬}
 use Rattle.sequences.specs.Member.{_∈_, here, there, not-in-nil}
-use Rattle.netlist.specs.Net.{Net, IsGate, gate}
-use Rattle.netlist.specs.Checks.{Passed}
-use Rattle.netlist.specs.Copies.{Copy, copy, IsCone, IsLeaves}
-use Rattle.cones.specs.Basics.{isGate?, leavesOf}
-use Rattle.cones.specs.Decided.{passed?}
-use Rattle.cones.specs.Part.{isCone?}
-use Rattle.cones.specs.Ranks.{ranked}
-use Rattle.cones.specs.Reach.{reachOf}
-use Rattle.labelling.specs.Labels.{LowCut}
-use Rattle.labelling.specs.Lower.{replace}
-use Rattle.labelling.specs.Bounds.{LowerBound, raise}
-use Rattle.labelling.specs.Decision.{start, starting, start-bound}
-use Rattle.covers.specs.Key.{Key, Entry, entries, placeOf, source}
-use Rattle.covers.specs.KeyOf.{entryOf, in-entries}
-use Rattle.covers.specs.Period.{leastPeriod}
-use Rattle.covers.specs.SharedRegisters.{larger, longest, overNodes, sharedCount}
+use Rattle.net_model.specs.Net.{Net, IsGate, gate}
+use Rattle.net_model.specs.Checks.{Passed}
+use Rattle.net_model.specs.Copies.{Copy, copy, IsCone, IsLeaves}
+use Rattle.cone_theory.specs.Basics.{isGate?, leavesOf}
+use Rattle.cone_theory.specs.ChecksDecided.{passed?}
+use Rattle.cone_theory.specs.Part.{isCone?}
+use Rattle.cone_theory.specs.Ranks.{ranked}
+use Rattle.cone_theory.specs.Reach.{reachOf}
+use Rattle.label_theory.specs.Labels.{LowCut}
+use Rattle.label_theory.specs.Lower.{replace}
+use Rattle.label_theory.specs.Bounds.{LowerBound, raise}
+use Rattle.label_theory.specs.LabelDecision.{start, starting, start-bound}
+use Rattle.cover_theory.specs.Key.{Key, Entry, entries, placeOf, source}
+use Rattle.cover_theory.specs.KeyOf.{entryOf, in-entries}
+use Rattle.cover_theory.specs.Period.{leastPeriod}
+use Rattle.cover_theory.specs.SharedRegisters.{larger, longest, overNodes, sharedCount}
 use Rattle.limits.specs.Limits.{scratchArea}
-use Rattle.netbytes.specs.Reading.{got, times}
-use Rattle.netbytes.specs.Walk.{netReader, gateReader, outputReader, pinsFrom, fromBytes}
-use Rattle.records.specs.CoverBytes.{Record, coverBytes, allLutBytes, lutBytes, depths, leafMap, toBytes, coverReader, lutsReader, lutReader, depthReader, leavesFrom, risingLeaves}
-use Rattle.records.specs.Decided.{cutsRight?, tablesRight?, allFed?, enough?, shortChains?}
-use Rattle.records.specs.Marking.{CutsRight, TableRight, TablesRight, AllFed, EnoughRegisters, ShortChains}
-use Rattle.records.specs.Outcomes.{Answer, turnedBack, Checked, cleared, judged, markRead, markSizes, markSized, markChecked, markOutcome}
-use Rattle.records.specs.Listing.{registerCount, entryTaps, lutTaps, leafTaps, outputTaps, lagIn}
+use Rattle.net_bytes.specs.Reading.{got, times}
+use Rattle.net_bytes.specs.Walk.{netReader, gateReader, outputReader, pinsFrom, fromBytes}
+use Rattle.cover_records.specs.CoverBytes.{Record, coverBytes, allLutBytes, lutBytes, depths, leafMap, toBytes, coverReader, lutsReader, lutReader, depthReader, leavesFrom, risingLeaves}
+use Rattle.cover_records.specs.MarkingDecided.{cutsRight?, tablesRight?, allFed?, enough?, shortChains?}
+use Rattle.cover_records.specs.Marking.{CutsRight, TableRight, TablesRight, AllFed, EnoughRegisters, ShortChains}
+use Rattle.cover_records.specs.Outcomes.{Answer, turnedBack, Checked, cleared, judged, markRead, markSizes, markSized, markChecked, markOutcome}
+use Rattle.cover_records.specs.Listing.{registerCount, entryTaps, lutTaps, leafTaps, outputTaps, lagIn}
 use Rattle.demands.specs.Demand2.{key-right}
 use Rattle.examples.specs.Nets.{pin, throughB, bytesA, netA, bytesB, netB, bytesB0, netB0, bytesC, netC, bytesD, netD, bytesE, netE}
 use Rattle.examples.specs.Statements.{lut, labels, Refuses, Maps, Tie}

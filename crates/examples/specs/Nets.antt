@@ -4,9 +4,9 @@ use Prim.Native.Nat.{ℕ}
 use lib.Dec.{eqb}
 use lib.IntN.{ℤ, pos}
 use mathlib.Core.Bool.{cond}
-use Rattle.netlist.specs.Net.{Net, Pin, Gate}
-use Rattle.netlist.specs.Copies.{Copy, copy}
-use Rattle.covers.specs.Key.{Entry}
+use Rattle.net_model.specs.Net.{Net, Pin, Gate}
+use Rattle.net_model.specs.Copies.{Copy, copy}
+use Rattle.cover_theory.specs.Key.{Entry}
 
 abbrev pub pin : ℕ → ℕ → Pin
 pin s w = record { src = s; count = w }

@@ -19,34 +19,34 @@ use Rattle.sequences.specs.Decide.{all?, below?, dec-map, dec-×, dec-⊎, dec-
 use Rattle.sequences.specs.Grow.{reach?}
 use Rattle.sequences.specs.Rising.{rising-keep}
 use Rattle.sequences.specs.Subsets.{any-subset?}
-use Rattle.netlist.specs.Net.{Net, Pin, IsGate, IsInput, gate, pins}
-use Rattle.netlist.specs.Checks.{Sound, Fits, Loopless, AllReached, AllLeading, Passed}
-use Rattle.netlist.specs.Copies.{Copy, copy, Leads, stop, step, Chosen, Any}
-use Rattle.netlist.specs.Tables.{tableOf, pack, valueIn, atLeaf}
-use Rattle.cones.specs.Basics.{Copy-dec, leavesOf}
-use Rattle.cones.specs.Copies.{gateNumbers, in-gateNumbers}
-use Rattle.cones.specs.Decided.{loopless?, reached?, leading?, passed?}
-use Rattle.cones.specs.Part.{isCone?}
-use Rattle.cones.specs.Ranks.{Ranked, ranked}
-use Rattle.cones.specs.Reach.{reachOf}
-use Rattle.cuts.specs.Choice.{tighten}
-use Rattle.cuts.specs.Decision.{CutSet, cutSet?, cut?}
-use Rattle.labelling.specs.Labels.{Low, LowCut, OutputsMet}
-use Rattle.labelling.specs.Lower.{InputsZero, outputs-under, replace}
-use Rattle.labelling.specs.Pins.{pin-input}
-use Rattle.labelling.specs.Bounds.{LowerBound, settled-least, raised, pin-bound}
-use Rattle.labelling.specs.Forced.{Forced, root, behind, forced-inside}
-use Rattle.labelling.specs.Decision.{lowCut?, start, start-bound}
-use Rattle.covers.specs.Key.{Key, Entry, entries}
-use Rattle.covers.specs.KeyOf.{rootList, rootOf?, rootList-root, root-rootList, numbers-rising, rising-gates}
-use Rattle.covers.specs.KeyUnique.{label-same, entries-unique}
-use Rattle.covers.specs.Joined.{key?}
+use Rattle.net_model.specs.Net.{Net, Pin, IsGate, IsInput, gate, pins}
+use Rattle.net_model.specs.Checks.{Sound, Fits, Loopless, AllReached, AllLeading, Passed}
+use Rattle.net_model.specs.Copies.{Copy, copy, Leads, stop, step, Chosen, Any}
+use Rattle.net_model.specs.Tables.{tableOf, pack, valueIn, atLeaf}
+use Rattle.cone_theory.specs.Basics.{Copy-dec, leavesOf}
+use Rattle.cone_theory.specs.FewCopies.{gateNumbers, in-gateNumbers}
+use Rattle.cone_theory.specs.ChecksDecided.{loopless?, reached?, leading?, passed?}
+use Rattle.cone_theory.specs.Part.{isCone?}
+use Rattle.cone_theory.specs.Ranks.{Ranked, ranked}
+use Rattle.cone_theory.specs.Reach.{reachOf}
+use Rattle.cut_theory.specs.Choice.{tighten}
+use Rattle.cut_theory.specs.CutDecision.{CutSet, cutSet?, cut?}
+use Rattle.label_theory.specs.Labels.{Low, LowCut, OutputsMet}
+use Rattle.label_theory.specs.Lower.{InputsZero, outputs-under, replace}
+use Rattle.label_theory.specs.Pins.{pin-input}
+use Rattle.label_theory.specs.Bounds.{LowerBound, settled-least, raised, pin-bound}
+use Rattle.label_theory.specs.Forced.{Forced, root, behind, forced-inside}
+use Rattle.label_theory.specs.LabelDecision.{lowCut?, start, start-bound}
+use Rattle.cover_theory.specs.Key.{Key, Entry, entries}
+use Rattle.cover_theory.specs.KeyOf.{rootList, rootOf?, rootList-root, root-rootList, numbers-rising, rising-gates}
+use Rattle.cover_theory.specs.KeyUnique.{label-same, entries-unique}
+use Rattle.cover_theory.specs.Joined.{key?}
 use Rattle.limits.specs.Limits.{leastK, mostK, mostPeriod, coverArea, scratchArea}
-use Rattle.netbytes.specs.Reading.{Result, got, between}
-use Rattle.netbytes.specs.Walk.{netReader}
-use Rattle.netbytes.specs.Sound.{walk-sound, walk-fits}
-use Rattle.records.specs.CoverBytes.{coverBytes}
-use Rattle.records.specs.Outcomes.{accepted, turnedBack, passes, checkGraph, checkRead, checkNet, mapSizes, cleared, written, forTarget, mapWritten, mapped, mapOutcome}
+use Rattle.net_bytes.specs.Reading.{Result, got, between}
+use Rattle.net_bytes.specs.Walk.{netReader}
+use Rattle.net_bytes.specs.Sound.{walk-sound, walk-fits}
+use Rattle.cover_records.specs.CoverBytes.{coverBytes}
+use Rattle.cover_records.specs.Outcomes.{accepted, turnedBack, passes, checkGraph, checkRead, checkNet, mapSizes, cleared, written, forTarget, mapWritten, mapped, mapOutcome}
 use Rattle.demands.specs.Demand3.{outcome-is}
 use Rattle.examples.specs.Statements.{labels, Room, Refuses, Maps}
 

@@ -7,15 +7,15 @@ use lib.Dec.{ltb}
 use lib.IntN.{ℤ, pos}
 use lib.ListN.{length, getD}
 use Rattle.sequences.specs.Member.{_∈_, Within}
-use Rattle.netlist.specs.Net.{Net, IsGate}
-use Rattle.netlist.specs.Copies.{Copy}
-use Rattle.labelling.specs.Labels.{LowCut}
-use Rattle.covers.specs.Key.{Key, Entry, entries}
+use Rattle.net_model.specs.Net.{Net, IsGate}
+use Rattle.net_model.specs.Copies.{Copy}
+use Rattle.label_theory.specs.Labels.{LowCut}
+use Rattle.cover_theory.specs.Key.{Key, Entry, entries}
 use Rattle.limits.specs.Limits.{coverArea, scratchArea}
-use Rattle.netbytes.specs.Reading.{got}
-use Rattle.netbytes.specs.Walk.{netReader}
-use Rattle.records.specs.CoverBytes.{coverBytes}
-use Rattle.records.specs.Outcomes.{accepted, turnedBack, cleared, written, mapOutcome}
+use Rattle.net_bytes.specs.Reading.{got}
+use Rattle.net_bytes.specs.Walk.{netReader}
+use Rattle.cover_records.specs.CoverBytes.{coverBytes}
+use Rattle.cover_records.specs.Outcomes.{accepted, turnedBack, cleared, written, mapOutcome}
 
 -- root, leaves, lag, table
 abbrev pub lut : ℕ → List Copy → ℤ → ℕ → Entry

@@ -2,7 +2,7 @@
 ghost use mathlib.Core.Path.{_≡_};
 ghost use Prim.Native.Nat.{_+_, _*_, _≤_, _<_};
 ghost use lib.ListN.{length, getD};
-ghost use Rattle.inputs.specs.Parts.{Behind};
+ghost use Rattle.inputs.specs.InputParts.{Behind};
 
 // A number of 32 bits as a machine word, a machine word as a byte, a byte as a machine word.
 pub fn word(x: u32) -> usize

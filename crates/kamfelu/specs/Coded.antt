@@ -2,7 +2,7 @@
 use mathlib.Core.Path.{_≡_, sym, ap, _∙_}
 use Prim.Native.Nat.{ℕ}
 use lib.IntN.{ℤ, pos, _+ℤ_, _-ℤ_}
-use Rattle.records.specs.Outcomes.{Answer, accepted, turnedBack}
+use Rattle.cover_records.specs.Outcomes.{Answer, accepted, turnedBack}
 use Rattle.captures.specs.Captures.{noShift}
 use Rattle.captures.specs.AlignOutcome.{Aligned, shifted, none, refused}
 

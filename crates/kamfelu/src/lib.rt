@@ -2,18 +2,18 @@
 use captures::Alignment;
 use captures::NO_SHIFT;
 use captures::align;
-use judge::Grade;
+use job_judge::Grade;
+use job_map::map;
+use job_mark::mark;
+use job_record::Answer;
 use lutclass::class_of;
-use mapper::map;
-use marker::mark;
-use netmap::Answer;
 use signed::minus;
 use signed::whole;
 ghost use mathlib.Core.Path.{_≡_};
 ghost use lib.ListN.{getD};
 ghost use Rattle.lutclass.specs.Classes.{IsClass};
 ghost use Rattle.lutclass.specs.ClassTable.{shipped};
-ghost use Rattle.records.specs.Outcomes.{mapOutcome, markOutcome};
+ghost use Rattle.cover_records.specs.Outcomes.{mapOutcome, markOutcome};
 ghost use Rattle.captures.specs.AlignOutcome.{alignOutcome};
 ghost use Rattle.kamfelu.specs.Coded.{coded, codedShift};
 

@@ -8,8 +8,8 @@ use native.Mathlib.Decide.{decLt}
 use native.Mathlib.Nat.{not-suc-le-zero, min-le-left, min-le-right, min-eq-left, min-eq-right, le-antisymm, eq-or-lt-of-le, le-of-suc-le-suc}
 use native.Mathlib.Omega.{arith}
 use lib.ListN.{getD}
-use Rattle.netlist.specs.Tables.{bit, asNumber}
-use Rattle.tables.specs.Words.{asNumber-small, index-small, bit-low}
+use Rattle.net_model.specs.Tables.{bit, asNumber}
+use Rattle.cone_values.specs.Words.{asNumber-small, index-small, bit-low}
 use Rattle.lutclass.specs.Classes.{LutLeaf, leaf0, leaf1, leaf2, LeafOrder, Turning, choice, turn, TurnsInto, IsClass}
 use Rattle.lutclass.specs.Turnings.{byLeaf, straight, orders, turningAt, leastOf, classOf}
 use Rattle.lutclass.specs.TurningLaws.{choiceOf, choice-of, SameTurning, turn-alike, turns-self, turns-back, turns-on}

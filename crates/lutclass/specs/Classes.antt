@@ -3,7 +3,7 @@ use mathlib.Core.Path.{_≡_}
 use mathlib.Core.Bool.{Bool, true, false, not}
 use mathlib.Core.List.{[], _∷_}
 use Prim.Native.Nat.{ℕ, _≤_}
-use Rattle.netlist.specs.Tables.{bit, apply, pack}
+use Rattle.net_model.specs.Tables.{bit, apply, pack}
 
 -- the three leaves of a LUT
 pub data LutLeaf : Type 0 where

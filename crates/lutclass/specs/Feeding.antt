@@ -3,7 +3,7 @@ use mathlib.Core.Bool.{cond}
 use mathlib.Core.List.{List, [], _∷_}
 use Prim.Native.Nat.{ℕ, _+_, _-_, _*_, _/_}
 use lib.ListN.{getD}
-use Rattle.netlist.specs.Tables.{bit}
+use Rattle.net_model.specs.Tables.{bit}
 
 -- for each of the six orders the words of the leaves that feed leaf 0, 1 and 2: bit i is the leaf's value in choice i
 abbrev pub orderWords : List ℕ

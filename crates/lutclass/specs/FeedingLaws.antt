@@ -9,9 +9,9 @@ use native.Mathlib.Omega.{arith}
 use lib.Dec.{T}
 use lib.ListN.{getD}
 use Rattle.sequences.specs.Decide.{dec-×, below?, below-step}
-use Rattle.netlist.specs.Tables.{bit, asNumber, pack}
-use Rattle.tables.specs.Words.{pack-same, pack-bits}
-use Rattle.truth.specs.Words.{Composed}
+use Rattle.net_model.specs.Tables.{bit, asNumber, pack}
+use Rattle.cone_values.specs.Words.{pack-same, pack-bits}
+use Rattle.cone_words.specs.LeafWords.{Composed}
 use Rattle.lutclass.specs.Classes.{LutLeaf, leaf0, leaf1, leaf2, choice, valueFor, reaching, turn}
 use Rattle.lutclass.specs.Turnings.{orders, turningAt}
 use Rattle.lutclass.specs.TurningLaws.{value-same}

@@ -3,6 +3,6 @@ pub mod Turnings
 pub mod TurningLaws
 pub mod ClassLaws
 pub mod ClassTable
-pub mod TableLaws
+pub mod ClassTableLaws
 pub mod Feeding
 pub mod FeedingLaws

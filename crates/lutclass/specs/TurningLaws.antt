@@ -5,8 +5,8 @@ use mathlib.Core.Bool.{Bool, true, false}
 use mathlib.Core.List.{[], _∷_}
 use Prim.Native.Nat.{ℕ, _<_}
 use native.Mathlib.Omega.{arith}
-use Rattle.netlist.specs.Tables.{bit, index, pack}
-use Rattle.tables.specs.Words.{bit-pack, pack-small, pack-same, pack-bits, index-small, bit-index}
+use Rattle.net_model.specs.Tables.{bit, index, pack}
+use Rattle.cone_values.specs.Words.{bit-pack, pack-small, pack-same, pack-bits, index-small, bit-index}
 use Rattle.lutclass.specs.Classes.{LutLeaf, leaf0, leaf1, leaf2, Turning, flipped, choice, valueFor, reaching, turn, TurnsInto}
 
 -- ---- values

@@ -4,7 +4,7 @@ use mathlib.Core.List.{List, [], _∷_, map}
 use Prim.Native.Nat.{ℕ, zero, suc, _/_, _%_, min}
 use lib.ListN.{getD}
 use Rattle.sequences.specs.Decide.{upTo}
-use Rattle.netlist.specs.Tables.{bit}
+use Rattle.net_model.specs.Tables.{bit}
 use Rattle.lutclass.specs.Classes.{LutLeaf, leaf0, leaf1, leaf2, LeafOrder, Turning, choice, turn}
 
 -- what a map of the leaves gives, leaf by leaf

@@ -1,9 +1,9 @@
 // Classes of three-input LUTs: the constant table, and the generator's rule.
 mod constants;
 
+use cone_words::compose;
 use constants::CLASSES;
 use constants::WORDS;
-use truth::compose;
 ghost use mathlib.Core.Path.{_≡_};
 ghost use Prim.Native.Nat.{_<_, min};
 ghost use lib.ListN.{getD};

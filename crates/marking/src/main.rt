@@ -1,5 +1,5 @@
 // The marking program: reads k, the net's length in two bytes, the net and a candidate's record from standard input, and prints the excess or the refusal.
-use grader::grade;
+use job_grade::grade;
 use limits::ANSWER;
 use limits::INPUT;
 

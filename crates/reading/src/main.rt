@@ -1,8 +1,8 @@
 // The reader's gate: reads a batch of cases from standard input, and prints the reader's answer to each on a line.
 use limits::INPUT;
 use limits::LINE;
-use readings::case_end;
-use readings::write_case;
+use text_readings::case_end;
+use text_readings::write_case;
 ghost use Prim.Native.Nat.{_≤_, _<_};
 ghost use lib.ListN.{length};
 

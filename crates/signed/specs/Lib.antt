@@ -1,3 +1,3 @@
 pub mod Range
 pub mod RangeLaws
-pub mod LagLaws
+pub mod LagOfLaws

@@ -2,11 +2,13 @@
 //! areas and scratch, whole.
 
 use crate::nets::{net_a, net_b, net_c, of_family, FAMILIES};
+use crate::programs::printed;
 use kamfelu::STACK;
 use second::damage::{candidate, damaged, damaged_net};
 use second::encode::{encode, encode_with_holes};
 use second::generate::{random_net, wild_net, Shape};
 use second::jobs::{COVER_BYTES, SCRATCH_BYTES};
+use second::listing::{listing_within, GAVE_UP};
 use second::mark::check_cover;
 use second::{read_net, read_record, Answer, Limits, Random};
 use std::collections::BTreeMap;
@@ -380,6 +382,23 @@ pub fn some_net(random: &mut Random) -> (Vec<u8>, usize) {
         _ => bytes,
     };
     (bytes, pins)
+}
+
+/// The listing program on a random net, against the second mapper's text.
+pub fn random_listing(tally: &mut Tally, random: &mut Random) {
+    let (net, pins) = some_net(random);
+    let k = some_k(random, pins) as u8;
+    let target = random.pick(&[0, 0, 1, 2, 3, 32, 33]);
+    let expected = listing_within(LIMITS, k.into(), target.into(), &net);
+    if expected == GAVE_UP {
+        tally.skipped += 1;
+        return;
+    }
+    let text = printed("listing", &[&[k, target], &net[..]].concat());
+    tally.pairs += 1;
+    tally.check(text == expected, || {
+        format!("listing, k {k} target {target} net {net:02x?}: {text}, not {expected}")
+    });
 }
 
 fn some_target(random: &mut Random, least: u32) -> u32 {

@@ -7,7 +7,7 @@ use borrow.Author.Needs.{needs}
 use borrow.Author.Tests.{not-true, not-false}
 use Rattle.captures.specs.Captures.{overlap}
 use Rattle.captures.specs.WordRuns.{Same}
-use Rattle.captures.specs.RunLaws.{same-none, same-run, few-overlap, run-inside, run-differs, all-same}
+use Rattle.captures.specs.WordRunLaws.{same-none, same-run, few-overlap, run-inside, run-differs, all-same}
 use Rattle.captures.proofs.agrees.Statement.{statement}
 use Rattle.captures.proofs.agrees.Tie as tie
 

@@ -7,7 +7,7 @@ use borrow.Author.Needs.{needs}
 use Rattle.sequences.specs.Tests.{Tells}
 use Rattle.sequences.specs.TestLaws.{tells-yes}
 use Rattle.captures.specs.WordRuns.{Same}
-use Rattle.captures.specs.RunLaws.{same-none, same-word}
+use Rattle.captures.specs.WordRunLaws.{same-none, same-word}
 use Rattle.captures.proofs.same.Statement.{statement}
 use Rattle.captures.proofs.same.Tie as tie
 

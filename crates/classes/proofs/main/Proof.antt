@@ -2,13 +2,13 @@
 use mathlib.Core.Path.{sym}
 use native.Mathlib.Omega.{arith}
 use lib.Seq.{length-take-le}
-use Rattle.digits.specs.PutLaws.{wrote-within}
+use Rattle.text_digits.specs.PutLaws.{wrote-within}
 use borrow.Author.Needs.{needs}
 use Rattle.classes.proofs.main.Statement.{statement}
 use Rattle.classes.proofs.main.Tie as tie
 use Rattle.classes.proofs.main.Reads as reads
 use Rattle.classes.proofs.main.Lts as lts
-use Rattle.classtext.proofs.write_classes.Reads as write-classes-reads
+use Rattle.text_classes.proofs.write_classes.Reads as write-classes-reads
 use Rattle.io.proofs.write_all.Reads as write-all-reads
 
 -- src/main.rt:6:9

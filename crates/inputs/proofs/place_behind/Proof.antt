@@ -1,7 +1,7 @@
 -- `inputs::place_behind` meets its contract.
 use denote.Ref.{now}
 use native.Mathlib.Omega.{arith}
-use Rattle.inputs.specs.PartLaws.{behind-some, behind-all}
+use Rattle.inputs.specs.InputPartLaws.{behind-some, behind-all}
 use borrow.Author.Needs.{needs}
 use Rattle.inputs.proofs.place_behind.Statement.{statement}
 use Rattle.inputs.proofs.place_behind.Tie as tie

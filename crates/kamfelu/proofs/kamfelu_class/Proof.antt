@@ -1,7 +1,7 @@
 -- `kamfelu::kamfelu_class` meets its contract: an entry of the table of classes.
 use native.Mathlib.Omega.{arith}
 use borrow.Author.Needs.{needs}
-use Rattle.lutclass.specs.TableLaws.{class-table}
+use Rattle.lutclass.specs.ClassTableLaws.{class-table}
 use Rattle.kamfelu.proofs.kamfelu_class.Statement.{statement}
 use Rattle.kamfelu.proofs.kamfelu_class.Tie as tie
 use Rattle.kamfelu.proofs.kamfelu_class.Reads as reads

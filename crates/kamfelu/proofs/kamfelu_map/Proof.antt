@@ -6,16 +6,16 @@ use mir.Syntax.{w64}
 use mir.Val.{SFits}
 use Rattle.limits.specs.Limits.{coverArea}
 use Rattle.signed.specs.RangeLaws.{back, fits-of, minus-mag}
-use Rattle.records.specs.Outcomes.{MapOutcome}
-use Rattle.netmap.specs.Answers.{answerOf, InRange}
-use Rattle.netmap.specs.declared.Answer.{Answer}
+use Rattle.cover_records.specs.Outcomes.{MapOutcome}
+use Rattle.job_record.specs.MapAnswers.{answerOf, InRange}
+use Rattle.job_record.specs.declared.Answer.{Answer}
 use Rattle.kamfelu.specs.Coded.{coded, coded-as}
 use borrow.Author.Needs.{needs}
 use Rattle.kamfelu.proofs.kamfelu_map.Statement.{statement}
 use Rattle.kamfelu.proofs.kamfelu_map.Tie as tie
 use Rattle.kamfelu.proofs.kamfelu_map.Reads as reads
 use Rattle.kamfelu.proofs.kamfelu_map.Lts as lts
-use Rattle.mapper.proofs.map.Reads as map-reads
+use Rattle.job_map.proofs.map.Reads as map-reads
 use Rattle.signed.proofs.minus.Reads as minus-reads
 use Rattle.signed.proofs.whole.Reads as whole-reads
 
@@ -53,7 +53,15 @@ same-length-2 c = search needs
 
 -- src/lib.rt:11:1
 returns : tie.Need-returns
-returns c = let n = c .before .before .answer .given .0 .0 in let h = subst (λ (a : Answer). InRange (answerOf a)) (c .before .before .answer .given .1) (c .before .before .before .before .before .before .before .before .map .ensures .1) in let e = c .before .before .before .before .before .before .before .before .map .ensures .0 in (coded-as (ap (λ (o : MapOutcome). o .answer) e) (back (c .whole .result) (subst (SFits w64) (sym (c .whole .ensures)) (fits-of (pos n) coverArea (omega arith) h)) ∙ c .whole .ensures ∙ ap (λ (a : Answer). coded (answerOf a)) (sym (c .before .before .answer .given .1))), (sym (ap (λ (o : MapOutcome). o .area) e), sym (ap (λ (o : MapOutcome). o .scratch) e)))
+returns c =
+    let map = c .before .before .before .before .before .before .before .before .map in
+    let n = c .before .before .answer .given .0 .0 in let h = subst (λ (a : Answer). InRange (answerOf a)) (c .before .before .answer .given .1) (map .ensures .1) in
+    let e = map .ensures .0 in (
+      coded-as (ap (λ (o : MapOutcome). o .answer) e) (back (c .whole .result)
+          (subst (SFits w64) (sym (c .whole .ensures)) (fits-of (pos n) coverArea (omega arith) h)) ∙ c .whole .ensures ∙ ap
+          (λ (a : Answer). coded (answerOf a)) (sym (c .before .before .answer .given .1))),
+      (sym (ap (λ (o : MapOutcome). o .area) e), sym (ap (λ (o : MapOutcome). o .scratch) e)),
+    )
 
 -- src/lib.rt:11:1
 same-length-3 : tie.Need-same-length-3
@@ -65,7 +73,15 @@ same-length-4 c = search needs
 
 -- src/lib.rt:11:1
 returns-2 : tie.Need-returns-2
-returns-2 c = let n = c .before .before .answer2 .given .0 .0 in let h = subst (λ (a : Answer). InRange (answerOf a)) (c .before .before .answer2 .given .1) (c .before .before .before .before .before .before .before .before .map .ensures .1) in let e = c .before .before .before .before .before .before .before .before .map .ensures .0 in (coded-as (ap (λ (o : MapOutcome). o .answer) e) (back (c .minus .result) (subst (SFits w64) (sym (c .minus .ensures)) (fits-of (pos 0 -ℤ pos n) 256 (omega arith) (minus-mag (pos 0) n 0 256 (omega arith) (omega (arith, h))))) ∙ c .minus .ensures ∙ ap (λ (a : Answer). coded (answerOf a)) (sym (c .before .before .answer2 .given .1))), (sym (ap (λ (o : MapOutcome). o .area) e), sym (ap (λ (o : MapOutcome). o .scratch) e)))
+returns-2 c =
+    let map = c .before .before .before .before .before .before .before .before .map in
+    let n = c .before .before .answer2 .given .0 .0 in let h = subst (λ (a : Answer). InRange (answerOf a)) (c .before .before .answer2 .given .1) (map .ensures .1) in
+    let e = map .ensures .0 in (
+      coded-as (ap (λ (o : MapOutcome). o .answer) e) (back (c .minus .result)
+          (subst (SFits w64) (sym (c .minus .ensures)) (fits-of (pos 0 -ℤ pos n) 256 (omega arith) (minus-mag (pos 0) n 0 256 (omega arith) (omega (arith, h))))) ∙ c .minus .ensures ∙ ap
+          (λ (a : Answer). coded (answerOf a)) (sym (c .before .before .answer2 .given .1))),
+      (sym (ap (λ (o : MapOutcome). o .area) e), sym (ap (λ (o : MapOutcome). o .scratch) e)),
+    )
 
 pub kamfelu-map-spec : {M : Type 1} → statement M
 kamfelu-map-spec =

@@ -2,7 +2,7 @@
 use mathlib.Core.Path.{sym}
 use native.Mathlib.Omega.{arith}
 use lib.Seq.{length-take-le}
-use Rattle.digits.specs.PutLaws.{wrote-within}
+use Rattle.text_digits.specs.PutLaws.{wrote-within}
 use borrow.Author.Needs.{needs}
 use Rattle.listing.proofs.main.Statement.{statement}
 use Rattle.listing.proofs.main.Tie as tie
@@ -10,7 +10,7 @@ use Rattle.listing.proofs.main.Reads as reads
 use Rattle.listing.proofs.main.Lts as lts
 use Rattle.io.proofs.read_full.Reads as read-full-reads
 use Rattle.io.proofs.write_all.Reads as write-all-reads
-use Rattle.lister.proofs.list.Reads as list-reads
+use Rattle.job_list.proofs.list.Reads as list-reads
 
 -- src/main.rt:6:30
 slice-aggregate-read-full : tie.Need-slice-aggregate-read-full

@@ -9,7 +9,7 @@ use Rattle.lutclass.proofs.turned.Tie as tie
 use Rattle.lutclass.proofs.turned.Reads as reads
 use Rattle.lutclass.proofs.turned.Lts as lts
 use Rattle.lutclass.proofs.word_at.Reads as word-at-reads
-use Rattle.truth.proofs.compose.Reads as compose-reads
+use Rattle.cone_words.proofs.compose.Reads as compose-reads
 
 -- src/lib.rt:36:18
 word-at-requires : tie.Need-word-at-requires

@@ -2,15 +2,15 @@
 use mathlib.Core.Path.{sym}
 use native.Mathlib.Omega.{arith}
 use lib.Seq.{length-take-le}
-use Rattle.digits.specs.PutLaws.{wrote-within}
+use Rattle.text_digits.specs.PutLaws.{wrote-within}
 use borrow.Author.Needs.{needs}
 use Rattle.reading.proofs.print_case.Statement.{statement}
 use Rattle.reading.proofs.print_case.Tie as tie
 use Rattle.reading.proofs.print_case.Reads as reads
 use Rattle.reading.proofs.print_case.Lts as lts
 use Rattle.io.proofs.write_all.Reads as write-all-reads
-use Rattle.readings.proofs.case_end.Reads as case-end-reads
-use Rattle.readings.proofs.write_case.Reads as write-case-reads
+use Rattle.text_readings.proofs.case_end.Reads as case-end-reads
+use Rattle.text_readings.proofs.write_case.Reads as write-case-reads
 
 -- src/main.rt:13:9
 case-end-requires : tie.Need-case-end-requires

@@ -9,7 +9,7 @@ use mir.Syntax.{w64}
 use mir.Val.{SFits}
 use Rattle.signed.specs.Range.{room, Small}
 use Rattle.signed.specs.RangeLaws.{back, fits-of, small-fits, minus-mag, ltZ-true, ltZ-false}
-use Rattle.signed.specs.LagLaws.{lag-quot, lag-quot-less, mag-quot}
+use Rattle.signed.specs.LagOfLaws.{lag-quot, lag-quot-less, mag-quot}
 use Rattle.signed.proofs.lag_of.Statement.{statement}
 use Rattle.signed.proofs.lag_of.Tie as tie
 

@@ -1,0 +1,177 @@
+// The LUT over given leaves: whether they are a cut of a gate, and the table over the cone between. The tables of a cover's LUTs.
+use cone_table::table;
+use cone_walk::Told;
+use cone_walk::walk;
+use limits::PINS;
+ghost use mathlib.Core.Path.{_≡_};
+ghost use Prim.Native.Nat.{ℕ, _+_, _*_, _≤_, _<_};
+ghost use lib.ListN.{length, getD};
+ghost use Rattle.limits.specs.Limits.{mostPins};
+ghost use Rattle.cone_copies.specs.CopyLists.{SmallWires, copiesIn};
+ghost use Rattle.net_model.specs.Copies.{Rising};
+ghost use Rattle.net_model.specs.Arrays.{stride, copiesFrom};
+ghost use Rattle.cone_luts.specs.Luts.{Row, LutTried, GateTable, Tabulates, Tabulated};
+
+// Whether leaves are no cut, and the table where they are one.
+pub struct Tried {
+    pub none: bool,
+    pub table: u64,
+}
+
+// The n leaves of gate g.
+fn try_lut(
+    inputs: usize,
+    gates: usize,
+    pins: &[usize],
+    sources: &[usize],
+    counts: &[usize],
+    tables: &[u64],
+    leaf_nodes: &[usize],
+    leaf_backs: &[usize],
+    n: usize,
+    g: usize,
+) -> Tried
+    requires { ⌜ SmallWires inputs gates (now pins) (now sources) (now counts) × (gates ≤ length (now tables)) × (n ≤ mostPins) × (n ≤ length (now «leaf_nodes»)) × (n ≤ length (now «leaf_backs»)) × (g < gates) × Rising (copiesIn (now «leaf_nodes») (now «leaf_backs») n) ⌝ }
+    ensures { λ r. ⌜ LutTried inputs gates (now (pins .entry)) (now (sources .entry)) (now (counts .entry)) (now (tables .entry)) (copiesIn (now («leaf_nodes» .entry)) (now («leaf_backs» .entry)) n) g r ⌝ }
+{
+    let cone = walk(
+        inputs,
+        gates,
+        pins,
+        sources,
+        counts,
+        leaf_nodes,
+        leaf_backs,
+        n,
+        g,
+    );
+    let verdict = cone.verdict;
+    if let Told::NoCut = verdict {
+        return Tried {
+            none: true,
+            table: 0,
+        };
+    }
+    let t = table(
+        inputs,
+        gates,
+        pins,
+        sources,
+        counts,
+        tables,
+        leaf_nodes,
+        leaf_backs,
+        n,
+        g,
+        cone,
+    );
+    Tried {
+        none: false,
+        table: t,
+    }
+}
+
+// The leaves in row i of the arrays, from place PINS·i on, as those of gate g.
+pub fn try_row(
+    inputs: usize,
+    gates: usize,
+    pins: &[usize],
+    sources: &[usize],
+    counts: &[usize],
+    tables: &[u64],
+    sizes: &[usize],
+    nodes: &[usize],
+    backs: &[usize],
+    i: usize,
+    g: usize,
+) -> Tried
+    requires { ⌜ SmallWires inputs gates (now pins) (now sources) (now counts) × (gates ≤ length (now tables)) × Row (now sizes) (now nodes) (now backs) i × (g < gates) ⌝ }
+    ensures { λ r. ⌜ LutTried inputs gates (now (pins .entry)) (now (sources .entry)) (now (counts .entry)) (now (tables .entry)) (copiesFrom (now (nodes .entry)) (now (backs .entry)) (stride * i) (getD (now (sizes .entry)) i 0)) g r ⌝ }
+{
+    let at = PINS * i;
+    let n = sizes[i];
+    try_lut(
+        inputs,
+        gates,
+        pins,
+        sources,
+        counts,
+        tables,
+        &nodes[at..],
+        &backs[at..],
+        n,
+        g,
+    )
+}
+
+// The table of the LUT of gate g, 0 where it has no mark.
+fn gate_table(
+    inputs: usize,
+    gates: usize,
+    pins: &[usize],
+    sources: &[usize],
+    counts: &[usize],
+    tables: &[u64],
+    marks: &[usize],
+    sizes: &[usize],
+    nodes: &[usize],
+    backs: &[usize],
+    g: usize,
+) -> u64
+    requires { ⌜ Tabulates inputs gates (now pins) (now sources) (now counts) (now tables) (now marks) (now sizes) (now nodes) (now backs) × (g < gates) ⌝ }
+    ensures { λ r. ⌜ GateTable inputs gates (now (pins .entry)) (now (sources .entry)) (now (counts .entry)) (now (tables .entry)) (now (marks .entry)) (now (sizes .entry)) (now (nodes .entry)) (now (backs .entry)) g r ⌝ }
+{
+    if marks[g] == 0 {
+        return 0;
+    }
+    let t = try_row(
+        inputs,
+        gates,
+        pins,
+        sources,
+        counts,
+        tables,
+        sizes,
+        nodes,
+        backs,
+        g,
+        g,
+    );
+    t.table
+}
+
+// The tables of all gates with a mark.
+pub fn tabulate(
+    inputs: usize,
+    gates: usize,
+    pins: &[usize],
+    sources: &[usize],
+    counts: &[usize],
+    tables: &[u64],
+    marks: &[usize],
+    sizes: &[usize],
+    nodes: &[usize],
+    backs: &[usize],
+    luts: &mut [u64],
+)
+    requires { ⌜ Tabulates inputs gates (now pins) (now sources) (now counts) (now tables) (now marks) (now sizes) (now nodes) (now backs) × (gates ≤ length (now luts)) ⌝ }
+    ensures { λ _. ⌜ Tabulated inputs gates (now (pins .entry)) (now (sources .entry)) (now (counts .entry)) (now (tables .entry)) (now (marks .entry)) (now (sizes .entry)) (now (nodes .entry)) (now (backs .entry)) (now (luts .exit)) gates ⌝ }
+{
+    let mut g = 0;
+    while g < gates {
+        luts[g] = gate_table(
+            inputs,
+            gates,
+            pins,
+            sources,
+            counts,
+            tables,
+            marks,
+            sizes,
+            nodes,
+            backs,
+            g,
+        );
+        g += 1;
+    }
+}

@@ -1,0 +1,2 @@
+pub mod ConeWords
+pub mod ConeWordsLaws

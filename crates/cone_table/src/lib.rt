@@ -1,0 +1,194 @@
+// The table of a LUT over a cone: a word for each copy, from the words of the copies before it.
+use cone_copies::find;
+use cone_leaves::seek;
+use cone_walk::Cone;
+use limits::COPIES;
+use limits::PINS;
+ghost use mathlib.Core.Path.{_≡_};
+ghost use Prim.Native.Nat.{ℕ, _+_, _*_, _^_, _≤_, _<_};
+ghost use lib.ListN.{length, getD};
+ghost use Rattle.limits.specs.Limits.{mostPins};
+ghost use Rattle.net_model.specs.Copies.{copy, Rising};
+ghost use Rattle.cone_copies.specs.CopyLists.{copiesIn, members, most, Place, sourceAt};
+ghost use Rattle.cone_table.specs.ConeWords.{Given, Carries, WordAt, WordsSettled, TableOver};
+
+// The word of a copy: a leaf's own, or a listed copy's from `words`.
+fn source_word(
+    leaf_nodes: &[usize],
+    leaf_backs: &[usize],
+    n: usize,
+    nodes: &[usize],
+    backs: &[usize],
+    len: usize,
+    words: &[u64],
+    node: usize,
+    back: usize,
+) -> u64
+    requires { ⌜ (n ≤ mostPins) × (n ≤ length (now «leaf_nodes»)) × (n ≤ length (now «leaf_backs»)) × (len ≤ length (now nodes)) × (len ≤ length (now backs)) × (len ≤ length (now words)) × Rising (copiesIn (now «leaf_nodes») (now «leaf_backs») n) ⌝ }
+    ensures { λ r. ⌜ Carries (copiesIn (now («leaf_nodes» .entry)) (now («leaf_backs» .entry)) n) (copiesIn (now (nodes .entry)) (now (backs .entry)) len) (now (words .entry)) (copy node back) r ⌝ }
+{
+    let leaf = seek(leaf_nodes, leaf_backs, n, node, back);
+    if leaf < n {
+        return cone_words::leaf_word(leaf);
+    }
+    let at = find(nodes, backs, len, node, back);
+    if at < len { words[at] } else { 0 }
+}
+
+// The words of the copies that feed the copy of gate g, `base` registers back, at m pins.
+fn gather(
+    sources: &[usize],
+    counts: &[usize],
+    leaf_nodes: &[usize],
+    leaf_backs: &[usize],
+    n: usize,
+    nodes: &[usize],
+    backs: &[usize],
+    len: usize,
+    words: &[u64],
+    g: usize,
+    m: usize,
+    base: usize,
+) -> [u64; PINS]
+    requires { ⌜ ((n ≤ mostPins) × (n ≤ length (now «leaf_nodes»)) × (n ≤ length (now «leaf_backs»)) × (len ≤ length (now nodes)) × (len ≤ length (now backs)) × (len ≤ length (now words)) × Rising (copiesIn (now «leaf_nodes») (now «leaf_backs») n)) × ((j : ℕ) → j < m → Place (now sources) (now counts) g j) × (g ≤ members) × (m ≤ mostPins) × (base ≤ most * members) ⌝ }
+    ensures { λ r. ⌜ (m ≤ length r) × ((j : ℕ) → j < m → Carries (copiesIn (now («leaf_nodes» .entry)) (now («leaf_backs» .entry)) n) (copiesIn (now (nodes .entry)) (now (backs .entry)) len) (now (words .entry)) (sourceAt (now (sources .entry)) (now (counts .entry)) g base j) (getD r j 0)) ⌝ }
+{
+    let mut fed = [0u64; PINS];
+    let mut j = 0;
+    while j < m {
+        let at = PINS * g + j;
+        fed[j] = source_word(
+            leaf_nodes,
+            leaf_backs,
+            n,
+            nodes,
+            backs,
+            len,
+            words,
+            sources[at],
+            base + counts[at],
+        );
+        j += 1;
+    }
+    fed
+}
+
+// The word of the listed copy at place p, from the words of the copies before it.
+fn copy_word(
+    inputs: usize,
+    gates: usize,
+    pins: &[usize],
+    sources: &[usize],
+    counts: &[usize],
+    tables: &[u64],
+    leaf_nodes: &[usize],
+    leaf_backs: &[usize],
+    n: usize,
+    nodes: &[usize],
+    backs: &[usize],
+    len: usize,
+    words: &[u64],
+    p: usize,
+) -> u64
+    requires { ⌜ Given inputs gates (now pins) (now sources) (now counts) (now tables) (now «leaf_nodes») (now «leaf_backs») n (now nodes) (now backs) len × (len ≤ length (now words)) × (p < len) ⌝ }
+    ensures { λ r. ⌜ WordAt inputs (now (pins .entry)) (now (sources .entry)) (now (counts .entry)) (now (tables .entry)) (copiesIn (now («leaf_nodes» .entry)) (now («leaf_backs» .entry)) n) (now (nodes .entry)) (now (backs .entry)) p (now (words .entry)) (2 ^ n) r ⌝ }
+{
+    let g = nodes[p] - inputs;
+    let m = pins[g];
+    let fed = gather(
+        sources,
+        counts,
+        leaf_nodes,
+        leaf_backs,
+        n,
+        nodes,
+        backs,
+        p,
+        words,
+        g,
+        m,
+        backs[p],
+    );
+    cone_words::compose(tables[g], fed, m, 1 << n)
+}
+
+// The words of the listed copies, one after the other.
+fn fill_words(
+    inputs: usize,
+    gates: usize,
+    pins: &[usize],
+    sources: &[usize],
+    counts: &[usize],
+    tables: &[u64],
+    leaf_nodes: &[usize],
+    leaf_backs: &[usize],
+    n: usize,
+    nodes: &[usize],
+    backs: &[usize],
+    len: usize,
+) -> [u64; COPIES]
+    requires { ⌜ Given inputs gates (now pins) (now sources) (now counts) (now tables) (now «leaf_nodes») (now «leaf_backs») n (now nodes) (now backs) len ⌝ }
+    ensures { λ r. ⌜ (length r ≡ members) × WordsSettled inputs gates (now (pins .entry)) (now (sources .entry)) (now (counts .entry)) (now (tables .entry)) (copiesIn (now («leaf_nodes» .entry)) (now («leaf_backs» .entry)) n) (now (nodes .entry)) (now (backs .entry)) len r (2 ^ n) len ⌝ }
+{
+    let mut words = [0u64; COPIES];
+    let mut p = 0;
+    while p < len {
+        let word = copy_word(
+            inputs,
+            gates,
+            pins,
+            sources,
+            counts,
+            tables,
+            leaf_nodes,
+            leaf_backs,
+            n,
+            nodes,
+            backs,
+            len,
+            &words,
+            p,
+        );
+        words[p] = word;
+        p += 1;
+    }
+    words
+}
+
+// The table of the LUT over the cone of gate g with these leaves, in one pass over the cone.
+pub fn table(
+    inputs: usize,
+    gates: usize,
+    pins: &[usize],
+    sources: &[usize],
+    counts: &[usize],
+    tables: &[u64],
+    leaf_nodes: &[usize],
+    leaf_backs: &[usize],
+    n: usize,
+    g: usize,
+    cone: Cone,
+) -> u64
+    requires { ⌜ Given inputs gates (now pins) (now sources) (now counts) (now tables) (now «leaf_nodes») (now «leaf_backs») n (cone .nodes) (cone .backs) (cone .len) × (g < gates) ⌝ }
+    ensures { λ r. ⌜ TableOver inputs gates (now (pins .entry)) (now (sources .entry)) (now (counts .entry)) (now (tables .entry)) (copiesIn (now («leaf_nodes» .entry)) (now («leaf_backs» .entry)) n) (copiesIn (cone .nodes) (cone .backs) (cone .len)) (inputs + g) r ⌝ }
+{
+    let nodes = cone.nodes;
+    let backs = cone.backs;
+    let len = cone.len;
+    let words = fill_words(
+        inputs,
+        gates,
+        pins,
+        sources,
+        counts,
+        tables,
+        leaf_nodes,
+        leaf_backs,
+        n,
+        &nodes,
+        &backs,
+        len,
+    );
+    let at = find(&nodes, &backs, len, inputs + g, 0);
+    if at < len { words[at] } else { 0 }
+}

@@ -1,0 +1,2 @@
+pub mod LeafWords
+pub mod LeafWordLaws

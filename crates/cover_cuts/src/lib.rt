@@ -1,0 +1,112 @@
+// Checks 14 and 15 of a candidate's LUTs: leaves that are cuts of their roots, tables that are right.
+use cone_luts::try_row;
+use limits::LUTS;
+ghost use mathlib.Core.Path.{_≡_};
+ghost use Prim.Native.Nat.{ℕ, _+_, _*_, _≤_, _<_};
+ghost use lib.ListN.{length, getD};
+ghost use Rattle.limits.specs.Limits.{mostLuts};
+ghost use Rattle.cover_cuts.specs.Cuts.{Cutting, CutsTried, Compared, CutsTold};
+
+// Whether some LUT's leaves are no cut. Where none are, right has the tables.
+fn no_cuts(
+    inputs: usize,
+    gates: usize,
+    pins: &[usize],
+    sources: &[usize],
+    counts: &[usize],
+    tables: &[u64],
+    roots: &[usize],
+    sizes: &[usize],
+    nodes: &[usize],
+    backs: &[usize],
+    k: usize,
+    n: usize,
+    right: &mut [u64],
+) -> bool
+    requires { ⌜ Cutting inputs gates (now pins) (now sources) (now counts) (now tables) (now roots) (now sizes) (now nodes) (now backs) k n × (n ≤ mostLuts) × (n ≤ length (now right)) ⌝ }
+    ensures { λ r. ⌜ CutsTried inputs gates (now (pins .entry)) (now (sources .entry)) (now (counts .entry)) (now (tables .entry)) (now (roots .entry)) (now (sizes .entry)) (now (nodes .entry)) (now (backs .entry)) k n (now (right .exit)) r ⌝ }
+{
+    let mut i = 0;
+    while i < n {
+        let g = roots[i] - inputs;
+        let t = try_row(
+            inputs,
+            gates,
+            pins,
+            sources,
+            counts,
+            tables,
+            sizes,
+            nodes,
+            backs,
+            i,
+            g,
+        );
+        if t.none {
+            return true;
+        }
+        right[i] = t.table;
+        i += 1;
+    }
+    false
+}
+
+// Whether the first n tables differ.
+fn differ(a: &[u64], b: &[u64], n: usize) -> bool
+    requires { ⌜ (n ≤ length (now a)) × (n ≤ length (now b)) ⌝ }
+    ensures { λ r. ⌜ Compared (now (a .entry)) (now (b .entry)) n r ⌝ }
+{
+    let mut i = 0;
+    while i < n {
+        if a[i] != b[i] {
+            return true;
+        }
+        i += 1;
+    }
+    false
+}
+
+// 0, or the number of the first of 14 and 15 that fails; 14 over all LUTs before 15.
+pub fn check_luts(
+    inputs: usize,
+    gates: usize,
+    pins: &[usize],
+    sources: &[usize],
+    counts: &[usize],
+    tables: &[u64],
+    roots: &[usize],
+    sizes: &[usize],
+    nodes: &[usize],
+    backs: &[usize],
+    luts: &[u64],
+    k: usize,
+    n: usize,
+) -> usize
+    requires { ⌜ Cutting inputs gates (now pins) (now sources) (now counts) (now tables) (now roots) (now sizes) (now nodes) (now backs) k n × (n ≤ mostLuts) × (n ≤ length (now luts)) ⌝ }
+    ensures { λ r. ⌜ CutsTold inputs gates (now (pins .entry)) (now (sources .entry)) (now (counts .entry)) (now (tables .entry)) (now (roots .entry)) (now (sizes .entry)) (now (nodes .entry)) (now (backs .entry)) (now (luts .entry)) k n r ⌝ }
+{
+    let mut right = [0u64; LUTS];
+    let uncut = no_cuts(
+        inputs,
+        gates,
+        pins,
+        sources,
+        counts,
+        tables,
+        roots,
+        sizes,
+        nodes,
+        backs,
+        k,
+        n,
+        &mut right,
+    );
+    let wrong = differ(luts, &right, n);
+    if uncut {
+        return 14;
+    }
+    if wrong {
+        return 15;
+    }
+    0
+}

@@ -1,0 +1,75 @@
+-- `cover_links::rounds` meets its contract. The loop's invariant: the marks of the LUTs that end a chain of so many LUTs.
+use borrow.Author.Needs.{needs}
+use denote.Ref.{now}
+use mathlib.Core.Path.{_≡_, refl, subst}
+use Prim.Native.Nat.{_+_, _-_, _≤_}
+use native.Mathlib.Omega.{arith}
+use lib.ListN.{length}
+use Rattle.cover_links.specs.LinkPlaces.{most}
+use Rattle.cover_links.specs.LinkPlaceLaws.{Told, told-first, told-more}
+use Rattle.cover_links.proofs.rounds.Statement.{statement}
+use Rattle.cover_links.proofs.rounds.Tie as tie
+
+abbrev Inv-loop : tie.InvT-loop
+Inv-loop inputs gates roots sizes nodes backs lags n period marks₀ luts₀ marks luts =
+    ((1 ≤ luts) × (luts ≤ period + 1)) × (length marks ≡ most) × Told inputs roots sizes nodes backs lags n marks (luts - 1)
+
+abbrev μ-loop : tie.MeasureT-loop
+μ-loop inputs gates roots sizes nodes backs lags n period marks₀ luts₀ marks luts = (period + 1) - luts
+
+loop-holds : tie.Need-loop-holds Inv-loop μ-loop
+loop-holds c =
+    let start = c .before .before .before .before in
+    let a = start .args in
+    ((omega arith, omega arith), refl, told-first (a .inputs) (now (a .roots)) (now (a .sizes)) (now (a .nodes)) (now (a .backs)) (now (a .lags)) (a .n) (start .pre .0 .0 .leafRoom .few))
+
+slice-aggregate-round : tie.Need-slice-aggregate-round Inv-loop μ-loop
+slice-aggregate-round c = search needs
+
+round-requires : tie.Need-round-requires Inv-loop μ-loop
+round-requires c κs =
+    let start = c .before .before .before .before .before .before .before in
+    let f = start .pre .0 .0 .leafRoom .few in
+    let e = c .before .before .loop .inv .1 in
+    ((start .pre .0 .0, omega arith), start .pre .1)
+
+add-luts : tie.Need-add-luts Inv-loop μ-loop
+add-luts c =
+    let p = c .before .before .before .before .before .before .before .before .pre .0 .1 in
+    omega arith
+
+loop-less : tie.Need-loop-less Inv-loop μ-loop
+loop-less c = omega arith
+
+loop-again : tie.Need-loop-again Inv-loop μ-loop
+loop-again c =
+    let loop = c .before .before .before .loop in
+    let start = c .before .before .before .before .before .before .before .before in
+    let a = start .args in
+    let some = loop .inv .0 .0 in (
+      (omega arith, omega arith),
+      c .round .ensures .0,
+      told-more (a .inputs) (now (a .roots)) (now (a .sizes)) (now (a .nodes)) (now (a .backs)) (now (a .lags)) (a .n)
+          (loop .marks) (c .round .result) (loop .luts) some (start .pre .1) (loop .inv .2) (c .round .ensures .1),
+    )
+
+returns : tie.Need-returns Inv-loop μ-loop
+returns c =
+    let a = c .before .before .before .before .before .before .args in
+    let b = c .before .loop .inv .0 in
+    let e : c .before .loop .luts - 1 ≡ a .period = omega (arith, b .0, b .1) in
+    (c .before .loop .inv .1, subst (Told (a .inputs) (now (a .roots)) (now (a .sizes)) (now (a .nodes)) (now (a .backs)) (now (a .lags)) (a .n) (c .before .loop .marks)) e (c .before .loop .inv .2))
+
+pub rounds-spec : {M : Type 1} → statement M
+rounds-spec =
+    tie.close
+    (tie.spec
+    Inv-loop
+    μ-loop
+    loop-holds
+    slice-aggregate-round
+    round-requires
+    add-luts
+    loop-less
+    loop-again
+    returns)

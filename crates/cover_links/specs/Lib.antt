@@ -1,0 +1,4 @@
+pub mod LinkPlaces
+pub mod Links
+pub mod LinkPlaceLaws
+pub mod LinkLaws

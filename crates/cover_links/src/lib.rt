@@ -1,0 +1,426 @@
+// Checks 16, 17 and 18 for LUTs kept in arrays: LUT i has its leaves from place 6i on.
+use limits::LUTS;
+use limits::PINS;
+ghost use mathlib.Core.Path.{_≡_};
+ghost use Prim.Native.Nat.{ℕ, _+_, _*_, _≤_, _<_};
+ghost use lib.IntN.{pos};
+ghost use lib.ListN.{length, getD};
+ghost use lib.Signed.{mag};
+ghost use Rattle.limits.specs.Limits.{mostCount, mostPeriod};
+ghost use Rattle.net_model.specs.Arrays.{stride};
+ghost use Rattle.sequences.specs.Tests.{Tells};
+ghost use Rattle.cover_links.specs.LinkPlaces.{placeIn, Found, LutFed, LutsFed, OutputsFed, raisedAt, levelOf, LeafEnough, LutEnough, LutsEnough, OutputEnough, OutputsEnough, LeafLong, LutLong, LongAt, NoneLong, Marked, Marks, most, LeafRoom, LagRoom, LeafAsked, LutsJoined};
+ghost use Rattle.cover_links.specs.Links.{Linking, LinksTold};
+
+// The place of the first of n LUTs with root u, or n.
+fn place_of(roots: &[usize], n: usize, u: usize) -> usize
+    requires { ⌜ n ≤ length (now roots) ⌝ }
+    ensures { λ r. ⌜ r ≡ placeIn (now (roots .entry)) n u ⌝ }
+{
+    let mut i = 0;
+    while i < n {
+        if roots[i] == u {
+            return i;
+        }
+        i += 1;
+    }
+    n
+}
+
+// Whether node u is an input or has a LUT.
+fn is_fed(inputs: usize, roots: &[usize], n: usize, u: usize) -> bool
+    requires { ⌜ n ≤ length (now roots) ⌝ }
+    ensures { λ r. ⌜ Tells r (Found inputs (now (roots .entry)) n u) ⌝ }
+{
+    if u < inputs {
+        return true;
+    }
+    place_of(roots, n, u) < n
+}
+
+// Whether each leaf of LUT i is an input or has a LUT.
+fn lut_fed(
+    inputs: usize,
+    roots: &[usize],
+    sizes: &[usize],
+    nodes: &[usize],
+    n: usize,
+    i: usize,
+) -> bool
+    requires { ⌜ LeafRoom (now roots) (now sizes) (now nodes) n × (i < n) ⌝ }
+    ensures { λ r. ⌜ Tells r (LutFed inputs (now (roots .entry)) (now (sizes .entry)) (now (nodes .entry)) n i) ⌝ }
+{
+    let m = sizes[i];
+    let mut j = 0;
+    while j < m {
+        if !is_fed(inputs, roots, n, nodes[PINS * i + j]) {
+            return false;
+        }
+        j += 1;
+    }
+    true
+}
+
+// Whether each leaf of each LUT is an input or has a LUT.
+fn luts_fed(inputs: usize, roots: &[usize], sizes: &[usize], nodes: &[usize], n: usize) -> bool
+    requires { ⌜ LeafRoom (now roots) (now sizes) (now nodes) n ⌝ }
+    ensures { λ r. ⌜ Tells r (LutsFed inputs (now (roots .entry)) (now (sizes .entry)) (now (nodes .entry)) n) ⌝ }
+{
+    let mut i = 0;
+    while i < n {
+        if !lut_fed(inputs, roots, sizes, nodes, n, i) {
+            return false;
+        }
+        i += 1;
+    }
+    true
+}
+
+// Whether each output's source is an input or has a LUT.
+fn outputs_fed(inputs: usize, roots: &[usize], n: usize, outs: &[usize], outputs: usize) -> bool
+    requires { ⌜ (n ≤ length (now roots)) × (outputs ≤ length (now outs)) ⌝ }
+    ensures { λ r. ⌜ Tells r (OutputsFed inputs (now (roots .entry)) n (now (outs .entry)) outputs) ⌝ }
+{
+    let mut o = 0;
+    while o < outputs {
+        if !is_fed(inputs, roots, n, outs[o]) {
+            return false;
+        }
+        o += 1;
+    }
+    true
+}
+
+// The lag of LUT i, raised by 256.
+fn raised(lags: &[i64], i: usize) -> usize
+    requires { ⌜ (i < length (now lags)) × (mag (getD (now lags) i (pos 0)) ≤ 128) ⌝ }
+    ensures { λ r. ⌜ r ≡ raisedAt (now (lags .entry)) i ⌝ }
+{
+    (lags[i] + 256) as usize
+}
+
+// The lag of node u, raised by 256.
+fn level_of(inputs: usize, roots: &[usize], lags: &[i64], n: usize, u: usize) -> usize
+    requires { ⌜ LagRoom (now roots) (now lags) n × Found inputs (now roots) n u ⌝ }
+    ensures { λ r. ⌜ r ≡ levelOf inputs (now (roots .entry)) (now (lags .entry)) n u ⌝ }
+{
+    if u < inputs {
+        return 256;
+    }
+    let at = place_of(roots, n, u);
+    raised(lags, at)
+}
+
+// Whether leaf j of LUT i has 0 registers or more.
+fn leaf_enough(
+    inputs: usize,
+    roots: &[usize],
+    nodes: &[usize],
+    backs: &[usize],
+    lags: &[i64],
+    n: usize,
+    i: usize,
+    j: usize,
+) -> bool
+    requires { ⌜ LagRoom (now roots) (now lags) n × (i < n) × (n ≤ most) × (j < stride) ⌝ }
+    requires { ⌜ LeafAsked inputs (now roots) (now nodes) (now backs) n i j ⌝ }
+    ensures { λ r. ⌜ Tells r (LeafEnough inputs (now (roots .entry)) (now (nodes .entry)) (now (backs .entry)) (now (lags .entry)) n i j) ⌝ }
+{
+    let at = PINS * i + j;
+    let level = level_of(inputs, roots, lags, n, nodes[at]);
+    level <= backs[at] + raised(lags, i)
+}
+
+// Whether each leaf of LUT i has 0 registers or more.
+fn lut_enough(
+    inputs: usize,
+    gates: usize,
+    roots: &[usize],
+    sizes: &[usize],
+    nodes: &[usize],
+    backs: &[usize],
+    lags: &[i64],
+    n: usize,
+    i: usize,
+) -> bool
+    requires { ⌜ LutsJoined inputs gates (now roots) (now sizes) (now nodes) (now backs) (now lags) n × (i < n) ⌝ }
+    requires { ⌜ LutsFed inputs (now roots) (now sizes) (now nodes) n ⌝ }
+    ensures { λ r. ⌜ Tells r (LutEnough inputs (now (roots .entry)) (now (sizes .entry)) (now (nodes .entry)) (now (backs .entry)) (now (lags .entry)) n i) ⌝ }
+{
+    let m = sizes[i];
+    let mut j = 0;
+    while j < m {
+        if !leaf_enough(inputs, roots, nodes, backs, lags, n, i, j) {
+            return false;
+        }
+        j += 1;
+    }
+    true
+}
+
+// Whether each leaf of each LUT has 0 registers or more.
+fn luts_enough(
+    inputs: usize,
+    gates: usize,
+    roots: &[usize],
+    sizes: &[usize],
+    nodes: &[usize],
+    backs: &[usize],
+    lags: &[i64],
+    n: usize,
+) -> bool
+    requires { ⌜ LutsJoined inputs gates (now roots) (now sizes) (now nodes) (now backs) (now lags) n ⌝ }
+    requires { ⌜ LutsFed inputs (now roots) (now sizes) (now nodes) n ⌝ }
+    ensures { λ r. ⌜ Tells r (LutsEnough inputs (now (roots .entry)) (now (sizes .entry)) (now (nodes .entry)) (now (backs .entry)) (now (lags .entry)) n) ⌝ }
+{
+    let mut i = 0;
+    while i < n {
+        if !lut_enough(inputs, gates, roots, sizes, nodes, backs, lags, n, i) {
+            return false;
+        }
+        i += 1;
+    }
+    true
+}
+
+// Whether an output with this source and delay has 0 registers or more.
+fn output_enough(
+    inputs: usize,
+    roots: &[usize],
+    lags: &[i64],
+    n: usize,
+    outs: &[usize],
+    delays: &[usize],
+    o: usize,
+) -> bool
+    requires { ⌜ LagRoom (now roots) (now lags) n × (o < length (now outs)) × (o < length (now delays)) × (getD (now delays) o 0 ≤ mostCount) × Found inputs (now roots) n (getD (now outs) o 0) ⌝ }
+    ensures { λ r. ⌜ Tells r (OutputEnough inputs (now (roots .entry)) (now (lags .entry)) n (now (outs .entry)) (now (delays .entry)) o) ⌝ }
+{
+    let level = level_of(inputs, roots, lags, n, outs[o]);
+    level <= delays[o] + 256
+}
+
+// Whether each output has 0 registers or more.
+fn outputs_enough(
+    inputs: usize,
+    roots: &[usize],
+    lags: &[i64],
+    n: usize,
+    outs: &[usize],
+    delays: &[usize],
+    outputs: usize,
+) -> bool
+    requires { ⌜ LagRoom (now roots) (now lags) n × (outputs ≤ length (now outs)) × (outputs ≤ length (now delays)) ⌝ }
+    requires { ⌜ ((o : ℕ) → o < outputs → getD (now delays) o 0 ≤ mostCount) ⌝ }
+    requires { ⌜ OutputsFed inputs (now roots) n (now outs) outputs ⌝ }
+    ensures { λ r. ⌜ Tells r (OutputsEnough inputs (now (roots .entry)) (now (lags .entry)) n (now (outs .entry)) (now (delays .entry)) outputs) ⌝ }
+{
+    let mut o = 0;
+    while o < outputs {
+        if !output_enough(inputs, roots, lags, n, outs, delays, o) {
+            return false;
+        }
+        o += 1;
+    }
+    true
+}
+
+// Whether leaf j of LUT i is a gate, joined with 0 registers, whose LUT is marked.
+fn leaf_long(
+    inputs: usize,
+    roots: &[usize],
+    nodes: &[usize],
+    backs: &[usize],
+    lags: &[i64],
+    n: usize,
+    i: usize,
+    j: usize,
+    marks: &[usize],
+) -> bool
+    requires { ⌜ LagRoom (now roots) (now lags) n × (i < n) × (n ≤ most) × (j < stride) × (n ≤ length (now marks)) ⌝ }
+    requires { ⌜ LeafAsked inputs (now roots) (now nodes) (now backs) n i j ⌝ }
+    ensures { λ r. ⌜ Tells r (LeafLong (Marked (now (marks .entry))) inputs (now (roots .entry)) (now (nodes .entry)) (now (backs .entry)) (now (lags .entry)) n i j) ⌝ }
+{
+    let at = PINS * i + j;
+    let u = nodes[at];
+    if u < inputs {
+        return false;
+    }
+    let k = place_of(roots, n, u);
+    if marks[k] == 0 {
+        return false;
+    }
+    raised(lags, k) == backs[at] + raised(lags, i)
+}
+
+// Whether LUT i has such a leaf.
+fn lut_long(
+    inputs: usize,
+    gates: usize,
+    roots: &[usize],
+    sizes: &[usize],
+    nodes: &[usize],
+    backs: &[usize],
+    lags: &[i64],
+    n: usize,
+    i: usize,
+    marks: &[usize],
+) -> bool
+    requires { ⌜ LutsJoined inputs gates (now roots) (now sizes) (now nodes) (now backs) (now lags) n × (i < n) × (n ≤ length (now marks)) ⌝ }
+    requires { ⌜ LutsFed inputs (now roots) (now sizes) (now nodes) n ⌝ }
+    ensures { λ r. ⌜ Tells r (LutLong (Marked (now (marks .entry))) inputs (now (roots .entry)) (now (sizes .entry)) (now (nodes .entry)) (now (backs .entry)) (now (lags .entry)) n i) ⌝ }
+{
+    let m = sizes[i];
+    let mut j = 0;
+    while j < m {
+        if leaf_long(inputs, roots, nodes, backs, lags, n, i, j, marks) {
+            return true;
+        }
+        j += 1;
+    }
+    false
+}
+
+// 1 where LUT i has such a leaf, else 0.
+fn lut_mark(
+    inputs: usize,
+    gates: usize,
+    roots: &[usize],
+    sizes: &[usize],
+    nodes: &[usize],
+    backs: &[usize],
+    lags: &[i64],
+    n: usize,
+    i: usize,
+    marks: &[usize],
+) -> usize
+    requires { ⌜ LutsJoined inputs gates (now roots) (now sizes) (now nodes) (now backs) (now lags) n × (i < n) × (n ≤ length (now marks)) ⌝ }
+    requires { ⌜ LutsFed inputs (now roots) (now sizes) (now nodes) n ⌝ }
+    ensures { λ r. ⌜ Marks r (LutLong (Marked (now (marks .entry))) inputs (now (roots .entry)) (now (sizes .entry)) (now (nodes .entry)) (now (backs .entry)) (now (lags .entry)) n i) ⌝ }
+{
+    if lut_long(inputs, gates, roots, sizes, nodes, backs, lags, n, i, marks) {
+        return 1;
+    }
+    0
+}
+
+// One round: a LUT's next mark from the marks of the LUTs that feed it without registers.
+fn round(
+    inputs: usize,
+    gates: usize,
+    roots: &[usize],
+    sizes: &[usize],
+    nodes: &[usize],
+    backs: &[usize],
+    lags: &[i64],
+    n: usize,
+    marks: &[usize],
+) -> [usize; LUTS]
+    requires { ⌜ LutsJoined inputs gates (now roots) (now sizes) (now nodes) (now backs) (now lags) n × (n ≤ length (now marks)) ⌝ }
+    requires { ⌜ LutsFed inputs (now roots) (now sizes) (now nodes) n ⌝ }
+    ensures { λ r. ⌜ (length r ≡ most) × ((i : ℕ) → i < n → Marks (getD r i 0) (LutLong (Marked (now (marks .entry))) inputs (now (roots .entry)) (now (sizes .entry)) (now (nodes .entry)) (now (backs .entry)) (now (lags .entry)) n i)) ⌝ }
+{
+    let mut next = [0usize; LUTS];
+    let mut i = 0;
+    while i < n {
+        next[i] = lut_mark(inputs, gates, roots, sizes, nodes, backs, lags, n, i, marks);
+        i += 1;
+    }
+    next
+}
+
+// The marks of the LUTs that end a chain of period + 1 LUTs. All end a chain of 1 LUT, and a round asks for one LUT more.
+fn rounds(
+    inputs: usize,
+    gates: usize,
+    roots: &[usize],
+    sizes: &[usize],
+    nodes: &[usize],
+    backs: &[usize],
+    lags: &[i64],
+    n: usize,
+    period: usize,
+) -> [usize; LUTS]
+    requires { ⌜ LutsJoined inputs gates (now roots) (now sizes) (now nodes) (now backs) (now lags) n × (period ≤ mostPeriod) ⌝ }
+    requires { ⌜ LutsFed inputs (now roots) (now sizes) (now nodes) n ⌝ }
+    ensures { λ r. ⌜ (length r ≡ most) × ((i : ℕ) → i < n → Marks (getD r i 0) (LongAt inputs (now (roots .entry)) (now (sizes .entry)) (now (nodes .entry)) (now (backs .entry)) (now (lags .entry)) n period i)) ⌝ }
+{
+    let mut marks = [1usize; LUTS];
+    let mut luts = 1;
+    while luts <= period {
+        marks = round(inputs, gates, roots, sizes, nodes, backs, lags, n, &marks);
+        luts += 1;
+    }
+    marks
+}
+
+// Whether none of n marks is set.
+fn none_marked(marks: &[usize], n: usize) -> bool
+    requires { ⌜ n ≤ length (now marks) ⌝ }
+    ensures { λ r. ⌜ Tells r ((i : ℕ) → i < n → getD (now (marks .entry)) i 0 ≡ 0) ⌝ }
+{
+    let mut i = 0;
+    while i < n {
+        if marks[i] != 0 {
+            return false;
+        }
+        i += 1;
+    }
+    true
+}
+
+// Whether no LUT ends a chain of more than `period` LUTs.
+fn chains_short(
+    inputs: usize,
+    gates: usize,
+    roots: &[usize],
+    sizes: &[usize],
+    nodes: &[usize],
+    backs: &[usize],
+    lags: &[i64],
+    n: usize,
+    period: usize,
+) -> bool
+    requires { ⌜ LutsJoined inputs gates (now roots) (now sizes) (now nodes) (now backs) (now lags) n × (period ≤ mostPeriod) ⌝ }
+    requires { ⌜ LutsFed inputs (now roots) (now sizes) (now nodes) n ⌝ }
+    ensures { λ r. ⌜ Tells r (NoneLong inputs (now (roots .entry)) (now (sizes .entry)) (now (nodes .entry)) (now (backs .entry)) (now (lags .entry)) n period) ⌝ }
+{
+    let marks = rounds(inputs, gates, roots, sizes, nodes, backs, lags, n, period);
+    none_marked(&marks, n)
+}
+
+// The number of the first of checks 16, 17 and 18 that the LUTs break, or 0.
+pub fn check_links(
+    inputs: usize,
+    gates: usize,
+    outs: &[usize],
+    delays: &[usize],
+    outputs: usize,
+    roots: &[usize],
+    sizes: &[usize],
+    nodes: &[usize],
+    backs: &[usize],
+    lags: &[i64],
+    n: usize,
+    period: usize,
+) -> usize
+    requires { ⌜ Linking inputs gates (now outs) (now delays) outputs (now roots) (now sizes) (now nodes) (now backs) (now lags) n period ⌝ }
+    ensures { λ r. ⌜ LinksTold inputs gates (now (outs .entry)) (now (delays .entry)) outputs (now (roots .entry)) (now (sizes .entry)) (now (nodes .entry)) (now (backs .entry)) (now (lags .entry)) n period r ⌝ }
+{
+    if !luts_fed(inputs, roots, sizes, nodes, n) {
+        return 16;
+    }
+    if !outputs_fed(inputs, roots, n, outs, outputs) {
+        return 16;
+    }
+    if !luts_enough(inputs, gates, roots, sizes, nodes, backs, lags, n) {
+        return 17;
+    }
+    if !outputs_enough(inputs, roots, lags, n, outs, delays, outputs) {
+        return 17;
+    }
+    if !chains_short(inputs, gates, roots, sizes, nodes, backs, lags, n, period) {
+        return 18;
+    }
+    0
+}

@@ -1,0 +1,6 @@
+pub mod Reads
+pub mod CandidateStages
+pub mod LutsStored
+pub mod CandidateStoreLaws
+pub mod CandidateFacts
+pub mod CandidateLaws

@@ -1,0 +1,16 @@
+pub mod CoverBytes
+pub mod Listing
+pub mod Marking
+pub mod RoundTrip
+pub mod KeyRecord
+pub mod MarkingDecided
+pub mod Outcomes
+pub mod Program
+pub mod Accepted
+pub mod Kept
+pub mod Held
+pub mod HeldLaws
+pub mod CheckLaws
+pub mod ShortCover
+pub mod CoverRefusals
+pub mod TapLaws

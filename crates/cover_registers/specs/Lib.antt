@@ -1,0 +1,3 @@
+pub mod Counting
+pub mod LagLaws
+pub mod RegisterCountLaws

@@ -1,0 +1,155 @@
+-- The cut that the engine tells at a gate's own label is the one that every key of the net has there.
+use mathlib.Core.Path.{_≡_, refl, sym, ap, subst, _∙_, fun-ext}
+use mathlib.Core.Logic.{_⊎_, inl, inr}
+use mathlib.Core.List.{List, _∷_, _++_}
+use Prim.Native.Nat.{ℕ, zero, suc, _+_, _-_, _*_, _≤_, _<_}
+use native.Mathlib.Nat.{add-zero}
+use native.Mathlib.Decide.{decLe}
+use native.Mathlib.Omega.{arith}
+use lib.IntN.{ℤ, pos, _-ℤ_}
+use lib.ListN.{length, getD, take, drop, List·getD-append}
+use lib.Seq.{getD-append-add, getD-take, getD-drop, length-take-le}
+use lib.Signed.{_≤ℤ_}
+use borrow.Rule.Slice.PartMut.{mid-len}
+use Rattle.integers.specs.Order.{≤ℤ-trans}
+use Rattle.integers.specs.Parts.{ints, +-parts, sub-parts}
+use Rattle.integers.specs.Height.{height-parts}
+use Rattle.net_model.specs.Net.{Net, IsGate, IsInput}
+use Rattle.net_model.specs.Checks.{Sound}
+use Rattle.net_model.specs.Copies.{copy, Any, Chosen}
+use Rattle.net_model.specs.Arrays.{stride, copiesFrom}
+use Rattle.cone_theory.specs.Ranks.{Ranked}
+use Rattle.cut_theory.specs.Choice.{chosen-leaves}
+use Rattle.label_theory.specs.Labels.{Low, LowCut, Least}
+use Rattle.label_theory.specs.Lower.{input-or-gate}
+use Rattle.label_theory.specs.Pins.{pin-lemma, pin-input}
+use Rattle.label_theory.specs.Forced.{Falling, separation-cut}
+use Rattle.cut_circuit.specs.Circuit.{Circuit}
+use Rattle.cut_least.specs.Bridge.{Holds, gate-of}
+use Rattle.signed.specs.Range.{labelIn}
+use Rattle.cut_question.specs.Question.{Asks, Takes, Separated, Decides, Written}
+use Rattle.cut_question.specs.ChosenCut.{told-cut, told-chosen}
+use Rattle.cut_forced.specs.Forcing.{wiresOf}
+use Rattle.cover_roots.specs.Choosing.{Asking, Keyed}
+
+pub holds-of : (C : Circuit) {N : Net} → Holds (wiresOf C) N → Holds C N
+holds-of C H = record { inputs = H .inputs; gates = H .gates; lists = H .lists }
+
+-- **The least labelling does not fall along pins.**
+least-falling : {N : Net} {k φ : ℕ} {lab : ℕ → ℤ} → Sound N → Least N k φ lab → Falling N φ lab
+least-falling {N} {k} {φ} {lab} s l v g p i = go (input-or-gate N (p .src) (s .pin v g p i))
+  where
+    go : IsInput N (p .src) ⊎ IsGate N (p .src) → (lab (p .src) -ℤ pos (φ * p .count)) ≤ℤ lab v
+    go (inl n) =
+        let a = pin-input N k φ s lab v p (l .labelling) g i n in
+        let e = l .labelling .inputs (p .src) n in
+        omega (arith, ints, height-parts φ (pos 0) (p .count), sub-parts (lab (p .src)) (pos (φ * p .count)))
+    go (inr gs) =
+        let B = pin-lemma N k φ s lab v p (l .labelling) g i gs in
+        let a = ≤ℤ-trans (l .least (B .label) (B .labelling) (p .src) gs) (B .at) in
+        omega (arith, ints, +-parts (lab v) (pos (φ * p .count)), sub-parts (lab (p .src)) (pos (φ * p .count)))
+
+-- a separation with fewest leaves and smallest cone has the leaves of the chosen cut
+separated-leaves : {N : Net} {v φ k r border : ℕ} {lab : ℕ → ℤ} {h : ℤ} (w : Separated N v φ lab h border k r) → Ranked N → Falling N φ lab
+    → {K : LowCut N k φ lab v h} → Chosen N k v (Low φ lab h) Any K → w .parted .leaves ≡ K .leaves
+unfolding told-cut separation-cut
+separated-leaves w R falling c = chosen-leaves (told-chosen w falling R) c
+
+-- ---- what is asked of `chosen`, and what it tells
+
+pub asks-of : {C : Circuit} {ls : List ℤ} {φ k : ℕ} (g : ℕ) → Asking (wiresOf C) ls φ k → g < C .gates → Asks C ls φ k g
+asks-of g a h = record { labels = a .labels; small = a .small; shift = a .shift; gate = h; least = a .least; copies = a .copies }
+
+pub takes-of : {C : Circuit} {ls : List ℤ} {φ k : ℕ} {nodes backs : List ℕ} → Asking (wiresOf C) ls φ k → length nodes ≡ stride → length backs ≡ stride → Takes C k nodes backs
+takes-of {C} a e f = record {
+  net = a .net;
+  holds = holds-of C (a .holds);
+  loopless = a .loopless;
+  atNodes = omega (arith, a .few, e);
+  atBacks = omega (arith, a .few, f);
+}
+
+module _ (C : Circuit) {ls : List ℤ} {φ k : ℕ} (g : ℕ) (gate : g < C .gates) (c : Keyed (wiresOf C) ls φ k) where
+  label-is : c .key .label ≡ labelIn ls
+  label-is = fun-ext (c .label)
+
+  isGate : IsGate (c .net) (C .inputs + g)
+  isGate = gate-of (c .holds) g gate
+
+  module _ {h : ℤ} {r : ℕ} (e : h ≡ labelIn ls (C .inputs + g)) (a : Decides C ls φ k g h r) where
+    key-cut : LowCut (c .net) k φ (labelIn ls) (C .inputs + g) h
+    key-cut =
+        subst (LowCut (c .net) k φ (labelIn ls) (C .inputs + g)) (sym e)
+        (subst (λ (lab : ℕ → ℤ). LowCut (c .net) k φ lab (C .inputs + g) (lab (C .inputs + g))) label-is (c .key .cut (C .inputs + g) isGate))
+
+    -- **There is a cut,**
+    pub told-few : r ≤ k
+    told-few = go (decLe r k)
+      where
+        go : Dec (r ≤ k) → r ≤ k
+        go (yes l) = l
+        go (no n) = absurd (a .none (c .net) (holds-of C (c .holds)) (c .ranked) (c .loopless) (c .border) (omega arith) key-cut)
+
+    -- **and its leaves are the key's.**
+    pub told-leaves : {nodes backs : List ℕ} → Written C ls φ k g h nodes backs r → copiesFrom nodes backs 0 r ≡ c .key .leaves (C .inputs + g)
+    told-leaves {nodes} {backs} w =
+        let v = C .inputs + g in
+        let x = w .leaves (c .net) (holds-of C (c .holds)) (c .ranked) (c .loopless) (c .border) told-few in
+        let y = subst (λ (z : ℤ). (s : Separated (c .net) v φ (labelIn ls) z (C .border) k r) × (s .parted .leaves ≡ copiesFrom nodes backs 0 r)) e x in
+        let z = subst (λ (lab : ℕ → ℤ). (s : Separated (c .net) v φ lab (lab v) (C .border) k r) × (s .parted .leaves ≡ copiesFrom nodes backs 0 r)) (sym label-is) y in
+        sym (z .1) ∙ separated-leaves (z .0) (c .ranked) (least-falling (c .sound) (c .key .least)) (c .key .chosen v isGate) ∙ sym (c .key .isLeaves v isGate)
+
+-- ---- a part of an array
+
+-- only the places of one gate, from place `at` on, may differ
+pub record Beside (at : ℕ) (xs ys : List ℕ) : Type 0 where
+  pub before : (i : ℕ) → i < at → getD ys i 0 ≡ getD xs i 0
+  pub behind : (i : ℕ) → at + stride ≤ i → getD ys i 0 ≡ getD xs i 0
+
+pub part-length : (at : ℕ) (xs : List ℕ) → at + stride ≤ length xs → length (take (at + stride - at) (drop at xs)) ≡ stride
+part-length at xs h = mid-len at (at + stride) xs h ∙ omega arith
+
+-- xs with p in the place of a gate's places
+abbrev pub put : ℕ → List ℕ → List ℕ → List ℕ
+put at xs p = take at xs ++ (p ++ drop (at + stride - at) (drop at xs))
+
+module _ (at : ℕ) (xs p : List ℕ) (room : at + stride ≤ length xs) (size : length p ≡ stride) where
+  start : length (take at xs) ≡ at
+  start = length-take-le at xs (omega arith)
+
+  pub put-beside : Beside at xs (put at xs p)
+  put-beside = record { before = before; behind = behind }
+    where
+      before : (i : ℕ) → i < at → getD (put at xs p) i 0 ≡ getD xs i 0
+      before i h = List·getD-append (take at xs) (p ++ drop (at + stride - at) (drop at xs)) 0 i (omega (arith, start)) ∙ getD-take at xs i 0 h
+
+      behind : (i : ℕ) → at + stride ≤ i → getD (put at xs p) i 0 ≡ getD xs i 0
+      behind i h =
+          let rest = drop (at + stride - at) (drop at xs) in
+          ap (λ (x : ℕ). getD (put at xs p) x 0) (omega (arith, start, h))
+          ∙ getD-append-add (take at xs) (p ++ rest) (length p + (i - (at + stride))) 0
+          ∙ getD-append-add p rest (i - (at + stride)) 0
+          ∙ getD-drop (at + stride - at) (drop at xs) (i - (at + stride)) 0
+          ∙ getD-drop at xs (at + stride - at + (i - (at + stride))) 0
+          ∙ ap (λ (x : ℕ). getD xs x 0) (omega (arith, h))
+
+  pub put-at : (i : ℕ) → i < stride → getD (put at xs p) (at + i) 0 ≡ getD p i 0
+  put-at i h =
+      let rest = drop (at + stride - at) (drop at xs) in
+      ap (λ (x : ℕ). getD (put at xs p) x 0) (omega (arith, start))
+      ∙ getD-append-add (take at xs) (p ++ rest) i 0
+      ∙ List·getD-append p rest 0 i (omega (arith, size, h))
+
+-- copies at other places that have the same nodes and d's
+pub copies-same : (nodes backs nodes′ backs′ : List ℕ) (at at′ n : ℕ) → ((i : ℕ) → i < n → getD nodes (at + i) 0 ≡ getD nodes′ (at′ + i) 0)
+    → ((i : ℕ) → i < n → getD backs (at + i) 0 ≡ getD backs′ (at′ + i) 0) → copiesFrom nodes backs at n ≡ copiesFrom nodes′ backs′ at′ n
+unfolding copiesFrom
+copies-same nodes backs nodes′ backs′ at at′ zero f g = refl
+copies-same nodes backs nodes′ backs′ at at′ (suc n) f g =
+    λ i. copy (first nodes nodes′ f i) (first backs backs′ g i) ∷ copies-same nodes backs nodes′ backs′ (suc at) (suc at′) n (next nodes nodes′ f) (next backs backs′ g) i
+  where
+    first : (xs ys : List ℕ) → ((i : ℕ) → i < suc n → getD xs (at + i) 0 ≡ getD ys (at′ + i) 0) → getD xs at 0 ≡ getD ys at′ 0
+    first xs ys f = ap (λ (x : ℕ). getD xs x 0) (sym (add-zero at)) ∙ f 0 (omega arith) ∙ ap (λ (x : ℕ). getD ys x 0) (add-zero at′)
+
+    next : (xs ys : List ℕ) → ((i : ℕ) → i < suc n → getD xs (at + i) 0 ≡ getD ys (at′ + i) 0) → (i : ℕ) → i < n → getD xs (suc at + i) 0 ≡ getD ys (suc at′ + i) 0
+    next xs ys f i h = ap (λ (x : ℕ). getD xs x 0) (omega arith) ∙ f (suc i) (omega arith) ∙ ap (λ (x : ℕ). getD ys x 0) (omega arith)

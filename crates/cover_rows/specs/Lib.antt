@@ -1,0 +1,8 @@
+pub mod LutStages
+pub mod LutParts
+pub mod DepthLaws
+pub mod LeafSpreadLaws
+pub mod RisingLaws
+pub mod SignedLaws
+pub mod LutReadLaws
+pub mod LutFacts

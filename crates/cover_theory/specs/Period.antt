@@ -1,0 +1,128 @@
+-- The least period: a LUT for each gate alone meets G, so the first period that a cover meets exists, and it is at most G.
+use mathlib.Core.Path.{_≡_, refl, sym, subst, ap, _∙_}
+use mathlib.Core.List.{List, [], _∷_, map}
+use mathlib.Core.Logic.{_⊎_, inl, inr, _↔_}
+use Prim.Native.Nat.{ℕ, zero, suc, _+_, _-_, _*_, _≤_, _<_, suc-le-suc, zero-le}
+use native.Mathlib.Nat.{le-trans, mul-le-mul-left}
+use native.Mathlib.Omega.{arith}
+use lib.IntN.{ℤ, pos, _+ℤ_, _-ℤ_}
+use lib.ListN.{length}
+use lib.Signed.{_≤ℤ_}
+use Rattle.integers.specs.Parts.{ints, +-parts, sub-parts}
+use Rattle.sequences.specs.Member.{_∈_}
+use Rattle.sequences.specs.Decide.{least}
+use Rattle.sequences.specs.Decide as Search
+use Rattle.net_model.specs.Net.{Net, Pin, IsGate, IsInput, pins}
+use Rattle.net_model.specs.Checks.{Passed, Drives}
+use Rattle.net_model.specs.Copies.{copy}
+use Rattle.cone_theory.specs.Basics.{leavesOf}
+use Rattle.cone_theory.specs.CopyOrder.{Levels, levels}
+use Rattle.label_theory.specs.Labels.{LowCut, Labelling, OutputsMet, Reachable}
+use Rattle.label_theory.specs.Lower.{outputs-from}
+use Rattle.label_theory.specs.Bounds.{alone-cut, alone-leaves}
+use Rattle.label_theory.specs.LabelDecision.{reachable?, labelling-reaches}
+use Rattle.cover_theory.specs.Covers.{Met, LeastPeriod}
+use Rattle.cover_theory.specs.Key.{Key}
+use Rattle.cover_theory.specs.KeyOf.{keyOf}
+use Rattle.cover_theory.specs.Joined.{reachable-met, met-reachable, met-more}
+
+unfoldable pub levelsOf : {N : Net} {k : ℕ} → Passed N k → Levels N
+levelsOf P = levels (P .loopless)
+
+module _ {N : Net} {k : ℕ} (P : Passed N k) where
+  module _ (φ : ℕ) (enough : length (N .gates) ≤ φ) where
+    -- each gate labelled by the longest line of gates without registers that ends there
+    unfoldable pub lineLabel : ℕ → ℤ
+    unfolding levelsOf
+    lineLabel v = pos (levelsOf P .level v)
+
+    line-pins : (v : ℕ) → IsGate N v → (q : Pin) → q ∈ pins N v → (c : ℕ) → q .count ≡ c → (lineLabel (q .src) -ℤ pos (φ * q .count)) ≤ℤ pos (levelsOf P .level v - 1)
+    unfolding lineLabel
+    line-pins v g q i zero e =
+        let r = levelsOf P .rises (record { gate = g; pin = q; isPin = i; source = refl; free = e }) in
+        omega (arith, ints, sub-parts (pos (levelsOf P .level (q .src))) (pos (φ * q .count)))
+    line-pins v g q i (suc c) e =
+        let a = levelsOf P .bound (q .src) in
+        let b : φ * 1 ≤ φ * q .count = mul-le-mul-left φ (omega arith) in
+        omega (arith, ints, sub-parts (pos (levelsOf P .level (q .src))) (pos (φ * q .count)))
+
+    -- the gate alone is a cut of that height
+    pub line-cut : (v : ℕ) → IsGate N v → (J : LowCut N k φ lineLabel v (lineLabel v)) × (leavesOf N (copy v 0 ∷ []) .0 ≡ J .leaves)
+    unfolding lineLabel
+    line-cut v g =
+        let O = levelsOf P in
+        let l = O .gate v g in
+        let e : (pos (O .level v - 1) +ℤ pos 1) ≡ pos (O .level v) = omega (arith, ints, +-parts (pos (O .level v - 1)) (pos 1)) in
+        let reach : (q : Pin) → q ∈ pins N v → (lineLabel (q .src) -ℤ pos (φ * q .count)) ≤ℤ pos (O .level v - 1) = λ q i. line-pins v g q i (q .count) refl in
+        subst (λ (h : ℤ). (J : LowCut N k φ lineLabel v h) × (leavesOf N (copy v 0 ∷ []) .0 ≡ J .leaves)) e
+        (alone-cut N k φ (P .sound) lineLabel v (pos (O .level v - 1)) (P .fits) g reach, alone-leaves N k φ (P .sound) lineLabel v (pos (O .level v - 1)) (P .fits) g reach)
+
+    pub line-labelling : Labelling N k φ lineLabel
+    unfolding lineLabel
+    line-labelling = record { inputs = λ v i. ap pos (levelsOf P .input v (not-gate i)); gates = λ v g. line-cut v g .0 }
+      where
+        not-gate : {v : ℕ} → IsInput N v → ¬ IsGate N v
+        not-gate i g = omega (arith, g)
+
+    pub line-outputs : OutputsMet N φ lineLabel
+    unfolding lineLabel
+    line-outputs = outputs-from N φ lineLabel (λ o i. let a = levelsOf P .bound (o .src) in omega (arith, ints))
+
+    -- **Every period from G up is reachable.**
+    pub gates-reach : Reachable N k φ
+    gates-reach = labelling-reaches P φ lineLabel line-labelling line-outputs
+
+  -- ---- the least period
+
+  unfoldable pub firstPeriod : Search.Least (λ n. Reachable N k (suc n)) (length (N .gates))
+  firstPeriod = least (λ n. Reachable N k (suc n)) (λ n. reachable? P (suc n)) (length (N .gates)) (gates-reach (suc (length (N .gates))) (omega arith))
+
+  unfoldable pub leastPeriod : ℕ
+  unfolding firstPeriod
+  leastPeriod = suc (firstPeriod .value)
+
+  -- **The least period exists**: it is the first reachable one, a cover meets it, and no cover meets a smaller one.
+  pub leastPeriod-is : LeastPeriod N k leastPeriod
+  unfolding leastPeriod
+  leastPeriod-is = record {
+    positive = suc-le-suc zero-le;
+    met = reachable-met P (suc-le-suc zero-le) (firstPeriod .holds);
+    least = smaller;
+  }
+    where
+      smaller : (ψ : ℕ) → 1 ≤ ψ → ψ < suc (firstPeriod .value) → ¬ Met N k ψ
+      smaller zero h lt m = absurd (none h)
+        where
+          none : 1 ≤ zero → ⊥
+          none h = omega arith
+      smaller (suc n) h lt m = firstPeriod .least n (omega arith) (met-reachable P h m)
+
+  unfoldable pub leastKey : Key N k leastPeriod
+  unfolding leastPeriod
+  leastKey = keyOf P (firstPeriod .holds)
+
+  -- **It is at most G**, where there is a gate.
+  pub leastPeriod-bound : 1 ≤ length (N .gates) → leastPeriod ≤ length (N .gates)
+  unfolding leastPeriod
+  leastPeriod-bound some = go (length (N .gates)) refl
+    where
+      go : (n : ℕ) → length (N .gates) ≡ n → suc (firstPeriod .value) ≤ length (N .gates)
+      go zero e = absurd (none e)
+        where
+          none : length (N .gates) ≡ zero → ⊥
+          none e = omega arith
+      go (suc n) e = bounded (Rattle.sequences.specs.Rising.ℕ-cmp n (firstPeriod .value))
+        where
+          bounded : (n < firstPeriod .value) ⊎ ((n ≡ firstPeriod .value) ⊎ (firstPeriod .value < n)) → suc (firstPeriod .value) ≤ length (N .gates)
+          bounded (inl lt) = absurd (firstPeriod .least n lt (gates-reach (suc n) (omega arith)))
+          bounded (inr (inl q)) = omega arith
+          bounded (inr (inr lt)) = omega arith
+
+-- the least period is one number
+pub leastPeriod-unique : {N : Net} {k φ ψ : ℕ} → LeastPeriod N k φ → LeastPeriod N k ψ → φ ≡ ψ
+leastPeriod-unique {N} {k} {φ} {ψ} a b = go (Rattle.sequences.specs.Rising.ℕ-cmp φ ψ)
+  where
+    go : (φ < ψ) ⊎ ((φ ≡ ψ) ⊎ (ψ < φ)) → φ ≡ ψ
+    go (inl lt) = absurd (b .least φ (a .positive) lt (a .met))
+    go (inr (inl e)) = e
+    go (inr (inr lt)) = absurd (a .least ψ (b .positive) lt (b .met))

@@ -1,0 +1,5 @@
+pub mod Writing
+pub mod BytesBehind
+pub mod LutBytesLaws
+pub mod CoverBytesLaws
+pub mod LagBytesLaws

@@ -1,0 +1,6 @@
+pub mod CutRounds
+pub mod CutRoundsLaws
+pub mod Collect
+pub mod CollectLaws
+pub mod Bridge
+pub mod CutAnswer

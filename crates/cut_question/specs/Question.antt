@@ -1,0 +1,76 @@
+-- Definitions: the cut question asked of the engine for gate g and a threshold, and what its answer means.
+use mathlib.Core.Path.{_≡_}
+use mathlib.Core.List.{List}
+use Prim.Native.Nat.{ℕ, _+_, _*_, _≤_, _<_}
+use lib.IntN.{ℤ}
+use lib.ListN.{length, getD}
+use Rattle.limits.specs.Limits.{mostCopies}
+use Rattle.sequences.specs.Member.{Within}
+use Rattle.net_model.specs.Net.{Net}
+use Rattle.net_model.specs.Checks.{Loopless}
+use Rattle.net_model.specs.Copies.{Copy, IsLeaves}
+use Rattle.net_model.specs.Arrays.{copiesFrom}
+use Rattle.cone_theory.specs.Ranks.{Ranked}
+use Rattle.cone_theory.specs.Reach.{reachOf}
+use Rattle.label_theory.specs.Labels.{Low, LowCut}
+use Rattle.label_theory.specs.Forced.{ForcedSet, Separation}
+use Rattle.signed.specs.Range.{Small, room, labelIn}
+use Rattle.cut_circuit.specs.Circuit.{Circuit, Layout, total}
+use Rattle.cut_circuit.specs.Chains.{Chains}
+use Rattle.cut_least.specs.CutRounds.{Cleared}
+use Rattle.cut_least.specs.Bridge.{Holds}
+
+-- The engine at rest: arrays laid out, chains linked, no copy forced, no flow and no mark.
+pub record AtRest (C : Circuit) (t l members : List ℕ) : Type 0 where
+  pub layout : Layout C
+  pub chains : Chains C
+  pub table : length t ≡ total C
+  pub longer : length t < length l
+  pub cleared : Cleared t l
+  pub unforced : (x : ℕ) → getD (C .inside) x 0 ≡ 0
+  pub space : mostCopies ≤ length members
+
+-- What may be asked: a gate, labels for all nodes, and numbers that do not overflow.
+pub record Asks (C : Circuit) (ls : List ℤ) (φ k g : ℕ) : Type 0 where
+  pub labels : length ls ≡ C .inputs + C .gates
+  pub small : (u : ℕ) → Small (labelIn ls u)
+  pub shift : φ * C .width ≤ room
+  pub gate : g < C .gates
+  pub least : 1 ≤ k
+  pub copies : k * C .gates ≤ mostCopies
+
+-- A separation of the forced set with at most k leaves.
+pub record Parted (N : Net) (v φ : ℕ) (lab : ℕ → ℤ) (h : ℤ) (border k : ℕ) : Type 0 where
+  pub set : List Copy
+  pub cone : List Copy
+  pub leaves : List Copy
+  pub forced : ForcedSet N v (Low φ lab h) set
+  pub separation : Separation N v set border cone
+  pub isLeaves : IsLeaves N cone leaves
+  pub few : length leaves ≤ k
+
+-- One with r leaves; none has fewer, and its cone lies inside that of each with as few.
+pub record Separated (N : Net) (v φ : ℕ) (lab : ℕ → ℤ) (h : ℤ) (border k r : ℕ) : Type 0 where
+  pub parted : Parted N v φ lab h border k
+  pub count : length (parted .leaves) ≡ r
+  pub fewest : (D L : List Copy) → Separation N v (parted .set) (k * reachOf N) D → IsLeaves N D L → r ≤ length L
+  pub smallest : (D L : List Copy) → Separation N v (parted .set) (k * reachOf N) D → IsLeaves N D L → length L ≡ r → Within (parted .cone) D
+
+-- What an answer r means, for any net with this wiring whose cuts the border leaves room for: above k, gate g has no k-cut so low; else there is a separation.
+pub record Decides (C : Circuit) (ls : List ℤ) (φ k g : ℕ) (h : ℤ) (r : ℕ) : Type 0 where
+  pub none : (N : Net) → Holds C N → Ranked N → Loopless N → k * reachOf N ≤ C .border → k < r → ¬ LowCut N k φ (labelIn ls) (C .inputs + g) h
+  pub some : (N : Net) → Holds C N → Ranked N → Loopless N → k * reachOf N ≤ C .border → r ≤ k → Parted N (C .inputs + g) φ (labelIn ls) h (C .border) k
+
+-- Two arrays with room for k leaves, and a net without loops that has this wiring.
+pub record Takes (C : Circuit) (k : ℕ) (nodes backs : List ℕ) : Type 0 where
+  pub net : Net
+  pub holds : Holds C net
+  pub loopless : Loopless net
+  pub atNodes : k ≤ length nodes
+  pub atBacks : k ≤ length backs
+
+-- The leaves written to the first r places of two arrays, by node and d, where r is at most k: those of a separation with fewest leaves and smallest cone.
+pub record Written (C : Circuit) (ls : List ℤ) (φ k g : ℕ) (h : ℤ) (nodes backs : List ℕ) (r : ℕ) : Type 0 where
+  pub leaves :
+      (N : Net) → Holds C N → Ranked N → Loopless N → k * reachOf N ≤ C .border → r ≤ k
+      → (w : Separated N (C .inputs + g) φ (labelIn ls) h (C .border) k r) × (w .parted .leaves ≡ copiesFrom nodes backs 0 r)

@@ -1,0 +1,9 @@
+pub mod SearchTable
+pub mod SearchTableLaws
+pub mod SearchParts
+pub mod SearchPartsLaws
+pub mod SearchVisits
+pub mod SearchVisitsLaws
+pub mod SearchTold
+pub mod Roots
+pub mod RootsLaws

@@ -1,3 +1,0 @@
-pub mod Lattice
-pub mod Choice
-pub mod Decision

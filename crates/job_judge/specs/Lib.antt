@@ -1,0 +1,4 @@
+pub mod MarkAnswers
+pub mod JudgeMarking
+pub mod Judged
+pub mod MarkOutcomeLaws

@@ -1,0 +1,156 @@
+-- From what the parts of mark tell to the answer that the definition has.
+use mathlib.Core.Path.{_≡_, refl, sym, ap, subst, _∙_}
+use mathlib.Core.Bool.{true}
+use mathlib.Core.List.{List, []}
+use Prim.Native.Nat.{ℕ, _+_, _-_, _*_, _≤_, _<_}
+use native.Mathlib.Omega.{arith}
+use lib.ListN.{length, getD}
+use Rattle.net_model.specs.Net.{Net}
+use Rattle.net_model.specs.Arrays.{netIn}
+use Rattle.net_model.specs.ArrayLaws.{inputs-netIn, size-netIn, outputs-netIn}
+use Rattle.net_model.specs.Wired.{netIn-wired}
+use Rattle.net_model.specs.Checks.{Passed}
+use Rattle.net_model.specs.Copies.{copy}
+use Rattle.limits.specs.Limits.{mostPeriod}
+use Rattle.net_bytes.specs.Reading.{Result, got, refused}
+use Rattle.net_bytes.specs.Walk.{netReader}
+use Rattle.cone_theory.specs.Ranks.{ranked}
+use Rattle.cover_theory.specs.Covers.{LeastPeriod}
+use Rattle.cover_theory.specs.Period.{leastPeriod, leastPeriod-is, leastPeriod-unique}
+use Rattle.cover_records.specs.Accepted.{Covering, excess-is}
+use Rattle.cover_records.specs.CoverBytes.{Record, coverReader}
+use Rattle.cover_records.specs.Kept.{Kept}
+use Rattle.cover_records.specs.Outcomes.{Answer, accepted, turnedBack, Checked, passes, fails, checkNet, markRead, markChecked}
+use Rattle.net_reader.specs.ReadAnswer.{arraysOf}
+use Rattle.net_reader.specs.declared.Wiring.{Wiring}
+use Rattle.cover_cuts.specs.Cuts.{Cutting, CutsTold, CutAs}
+use Rattle.cover_links.specs.Links.{Linking, LinksTold, LinkedAs}
+use Rattle.cover_links.specs.LinkLaws.{wellHeld-wired}
+use Rattle.cover_records.specs.CheckLaws.{check-refused, check-loop, check-unreached, check-unled, check-passes}
+use Rattle.net_reader.specs.Lengths.{Lengths}
+use Rattle.job_plan.specs.Ready.{net-wires, tabled-netIn}
+use Rattle.job_settle.specs.Settling.{SettledAs}
+use Rattle.job_settle.specs.Settling as settling
+use Rattle.job_settle.specs.declared.Settled.{Settled}
+use Rattle.job_settle.specs.Settling.{CoverSettled}
+use Rattle.job_settle.specs.SettlingLaws.{cover-settled}
+use Rattle.cover_reader.specs.Reads.{CoverRead, heldOf, recordOf}
+use Rattle.cover_reader.specs.declared.Candidate.{Candidate}
+use Rattle.job_judge.specs.MarkAnswers.{InRange}
+use Rattle.job_judge.specs.JudgeMarking.{Judging, HeldFor, LeastOf, MarksTo, MarksNet, MarksRead}
+use Rattle.job_judge.specs.Judged.{Cuts, Links, cuts-sure, links-sure, cuts-small, links-small, read-cuts, read-links, read-right}
+
+-- a check of the net failed
+pub marks-fails : (k n : ℕ) (net bytes : List ℕ) → n < 256 → checkNet k net ≡ fails n → MarksTo k net bytes (turnedBack n)
+unfolding markChecked
+marks-fails k n net bytes h e = record { small = h; outcome = ap (λ (c : Checked k). markChecked k c bytes) e }
+
+pub marks-refused : (k n : ℕ) (net bytes : List ℕ) → n < 256 → netReader k net ≡ refused n → MarksTo k net bytes (turnedBack n)
+marks-refused k n net bytes h e = marks-fails k n net bytes h (check-refused k net n e)
+
+module _ {k : ℕ} {w : Wiring} (bytes : List ℕ) where
+  -- **9, 10 and 11**
+  pub net-refused : {a : Kept} {r n : ℕ} → SettledAs k 0 w a r → 0 < r → n ≡ r → MarksNet k w bytes (turnedBack n)
+  net-refused {n = n} (settling.loops e q) h f = record { marks = λ net i. marks-fails k n net bytes (omega arith) (check-loop k net (netIn (arraysOf w)) [] i q ∙ ap fails (sym (f ∙ e))) }
+  net-refused {n = n} (settling.cutOff e l q) h f = record { marks = λ net i. marks-fails k n net bytes (omega arith) (check-unreached k net (netIn (arraysOf w)) [] i l q ∙ ap fails (sym (f ∙ e))) }
+  net-refused {n = n} (settling.idle e l t q) h f = record { marks = λ net i. marks-fails k n net bytes (omega arith) (check-unled k net (netIn (arraysOf w)) [] i l t q ∙ ap fails (sym (f ∙ e))) }
+  net-refused (settling.unreachable e P h′ q) h f = absurd (none h′)
+    where
+      none : 1 ≤ 0 → ⊥
+      none h = omega arith
+  net-refused (settling.covered e P c) h f = absurd (none e h)
+    where
+      none : {r : ℕ} → r ≡ 0 → 0 < r → ⊥
+      none e h = omega arith
+
+  -- a net that passes: the answer of the record's reading
+  pub net-marks : Passed (netIn (arraysOf w)) k → {y : Answer} → InRange y → ((Q : Passed (netIn (arraysOf w)) k) → markRead (netIn (arraysOf w)) k Q (coverReader (netIn (arraysOf w)) k bytes) ≡ y) → MarksNet k w bytes y
+  unfolding markChecked
+  net-marks P {y} h f = record {
+    marks = λ net q.
+        let t = check-passes k net (netIn (arraysOf w)) [] q (P .loopless) (P .reached) (P .leading) in
+        record { small = h; outcome = ap (λ (c : Checked k). markChecked k c bytes) (t .1) ∙ f (t .0) };
+  }
+
+-- the least period
+pub least-judging : {k : ℕ} {w : Wiring} {s : Settled} → settling.Settling k 0 w → LeastOf k w s → s .refusal ≤ 0 → Judging k w (s .period)
+least-judging {k} {w} g l h =
+    let u = cover-settled (l .settled) h in
+    record { settling = g; passed = u .passed; least = subst (LeastPeriod (netIn (arraysOf w)) k) (l .period) (u .cover .least refl) }
+
+module _ {k : ℕ} {w : Wiring} {least : ℕ} (j : Judging k w least) where
+  abbrev N : Net
+  N = netIn (arraysOf w)
+
+  -- **13**
+  pub judged-broken : (bytes : List ℕ) → coverReader N k bytes ≡ refused 13 → MarksNet k w bytes (turnedBack 13)
+  unfolding markRead
+  judged-broken bytes e = net-marks bytes (j .passed) (omega arith) (λ Q. ap (markRead N k Q) e)
+
+  module _ (c : Candidate) where
+    -- what 14 and 15 tell of the record
+    pub cut-as : {r : ℕ} → CutsTold (w .inputs) (w .gates) (w .pins) (w .sources) (w .counts) (w .tables) (c .roots) (c .sizes) (c .nodes) (c .backs) (c .tables) k (c .luts) r
+        → CutAs N k ((recordOf c) .entries) r
+    cut-as t = t .tells N (netIn-wired (arraysOf w)) (tabled-netIn (arraysOf w)) (ranked (j .passed .reached)) (j .passed .loopless) (c .lags)
+
+    -- what 16, 17 and 18 tell of it
+    pub linked-as : {r : ℕ} → LinksTold (w .inputs) (w .gates) (w .outs) (w .delays) (w .outputs) (c .roots) (c .sizes) (c .nodes) (c .backs) (c .lags) (c .luts) (c .period) r
+        → LinkedAs N ((recordOf c) .period) ((recordOf c) .entries) r
+    linked-as t = t .tells N (inputs-netIn (arraysOf w)) (size-netIn (arraysOf w)) (outputs-netIn (arraysOf w)) (c .tables)
+
+    read-marks : {y : Answer} → InRange y → ((Q : Passed N k) → markRead N k Q (got (recordOf c) []) ≡ y) → MarksRead k w c y
+    read-marks h f = record { marks = λ bytes e. net-marks bytes (j .passed) h (λ Q. ap (markRead N k Q) e ∙ f Q) }
+
+    -- **14, 15**
+    pub judged-cuts : {r n : ℕ} → CutAs N k ((recordOf c) .entries) r → 0 < r → n ≡ r → MarksRead k w c (turnedBack n)
+    judged-cuts {r} t h e = subst (λ (x : ℕ). MarksRead k w c (turnedBack x)) (sym e) (read-marks (cuts-small (recordOf c) t) (λ Q. read-cuts Q (recordOf c) t h))
+
+    -- **16, 17, 18**
+    pub judged-links : {m r n : ℕ} → CutAs N k ((recordOf c) .entries) m → m ≤ 0 → LinkedAs N ((recordOf c) .period) ((recordOf c) .entries) r → 0 < r → n ≡ r → MarksRead k w c (turnedBack n)
+    judged-links t z l h e = subst (λ (x : ℕ). MarksRead k w c (turnedBack x)) (sym e) (read-marks (links-small (recordOf c) l) (λ Q. read-links Q (recordOf c) (cuts-sure (recordOf c) t z) l h))
+
+    module _ {m r : ℕ} (t : CutAs N k ((recordOf c) .entries) m) (z : m ≤ 0) (l : LinkedAs N ((recordOf c) .period) ((recordOf c) .entries) r) (z′ : r ≤ 0) where
+      -- the excess is not below 0
+      pub no-less : 1 ≤ c .period → least ≤ c .period
+      no-less h =
+          let a = cuts-sure (recordOf c) t z in
+          let b = links-sure (recordOf c) l z′ in
+          let v : Covering N k ((recordOf c) .entries) = record { roots = λ e i. let x = a .cuts e i in x .isCone .gates (copy (e .root) 0) (x .isCone .root); cuts = a .cuts; fed = b .fed; enough = b .enough } in
+          subst (λ (x : ℕ). x ≤ c .period) (leastPeriod-unique (leastPeriod-is (j .passed)) (j .least)) (excess-is (j .passed) h v (b .short))
+
+      -- **the excess**
+      pub judged-right : c .period ≤ mostPeriod → MarksRead k w c (accepted (c .period - least))
+      judged-right h = read-marks (omega arith)
+          (λ Q. read-right Q (recordOf c) (cuts-sure (recordOf c) t z) (links-sure (recordOf c) l z′) ∙ ap (λ (x : ℕ). accepted (c .period - x)) (leastPeriod-unique (leastPeriod-is Q) (j .least)))
+
+-- ---- what the checks are asked
+
+module _ {k : ℕ} {w : Wiring} {c : Candidate} (h : HeldFor k w c) (l : Lengths w) where
+  pub held-cutting : Cutting (w .inputs) (w .gates) (w .pins) (w .sources) (w .counts) (w .tables) (c .roots) (c .sizes) (c .nodes) (c .backs) k (c .luts)
+  held-cutting = record {
+    wires = net-wires (h .settling .facts) l;
+    atTables = let a = h .settling .facts .gates-high in let b = l .atTables in omega arith;
+    few = h .settling .high;
+    atRoots = h .well .atRoots;
+    atSizes = h .well .atSizes;
+    atNodes = h .well .atNodes;
+    atBacks = h .well .atBacks;
+    low = h .well .low;
+    high = h .well .high;
+    most = h .well .few;
+    rising = h .well .rising;
+  }
+
+  pub held-linking : Linking (w .inputs) (w .gates) (w .outs) (w .delays) (w .outputs) (c .roots) (c .sizes) (c .nodes) (c .backs) (c .lags) (c .luts) (c .period)
+  held-linking = record {
+    luts = wellHeld-wired (heldOf c) (h .well) (h .settling .facts .inputs-high) (h .settling .facts .gates-high) (h .settling .high) (h .few);
+    limit = h .high;
+    atOuts = let a = h .settling .facts .outputs-high in let b = l .atOuts in omega arith;
+    atDelays = let a = h .settling .facts .outputs-high in let b = l .atDelays in omega arith;
+    out = h .settling .facts .out-source;
+    delay = h .settling .facts .out-count;
+  }
+
+-- a record that was read is held
+pub read-held : {k : ℕ} {w : Wiring} {c : Candidate} {bytes : List ℕ} → settling.Settling k 0 w → CoverRead bytes (w .inputs) (w .gates) k c → c .fine ≡ true → HeldFor k w c
+read-held g r e = record { settling = g; well = r .well e; low = r .lowPeriod e; high = r .highPeriod e; few = r .few e }

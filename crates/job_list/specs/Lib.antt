@@ -1,0 +1,4 @@
+pub mod Asked
+pub mod Lines
+pub mod Texts
+pub mod ListerInputs

@@ -1,0 +1,119 @@
+// The listing: from the bytes read (k, the target, the net) to the text printed.
+use inputs::byte_at;
+use inputs::wide;
+use inputs::word;
+use job_settle::settle;
+use job_sizes::check_sizes;
+use limits::AREA;
+use limits::GATES;
+use limits::NODES;
+use limits::PLACES;
+use limits::SCRATCH;
+use limits::TABLE;
+use limits::TEXT;
+use net_fields::Verdict;
+use net_reader::Wiring;
+use net_reader::read_net;
+use text_digits::write_refusal;
+use text_listing::write_text;
+ghost use mathlib.Core.Path.{_≡_};
+ghost use Prim.Native.Nat.{_≤_, _<_};
+ghost use lib.ListN.{length, getD, drop};
+ghost use Rattle.net_bytes.specs.Walk.{rest};
+ghost use Rattle.cover_records.specs.Outcomes.{checkNet};
+ghost use Rattle.cover_records.specs.Program.{listChecked, listing, listingProgram};
+ghost use Rattle.cover_writer.specs.Writing.{Wrote};
+ghost use Rattle.limits.specs.Limits.{leastK, mostK, mostPeriod, textRoom};
+ghost use Rattle.job_list.specs.Asked.{Listing, ListsNet};
+
+// Checks 9 to 12 and the cover of a net read.
+fn list_read(net: Wiring, k: usize, target: usize, out: &mut [u8]) -> usize
+    requires { ⌜ Listing k target net (now out) ⌝ }
+    ensures { λ r. ⌜ ListsNet k target net (now (out .entry)) (now (out .exit)) r ⌝ }
+{
+    let mut work = [0u8; TABLE];
+    let mut labels = [0i64; NODES];
+    let mut marks = [0usize; GATES];
+    let mut sizes = [0usize; GATES];
+    let mut nodes = [0usize; PLACES];
+    let mut backs = [0usize; PLACES];
+    let mut tables = [0u64; GATES];
+    let s = settle(
+        net,
+        k,
+        target,
+        &mut work,
+        &mut labels,
+        &mut marks,
+        &mut sizes,
+        &mut nodes,
+        &mut backs,
+        &mut tables,
+    );
+    let refusal = s.refusal;
+    if refusal > 0 {
+        return write_refusal(refusal, out);
+    }
+    let outs = net.outs;
+    let delays = net.delays;
+    write_text(
+        net.inputs,
+        net.gates,
+        s.period,
+        &labels,
+        &marks,
+        &sizes,
+        &nodes,
+        &backs,
+        &tables,
+        &outs,
+        &delays,
+        net.outputs,
+        out,
+    )
+}
+
+// Checks 4 to 12 and the cover.
+fn list_net(net: &[u8], k: u32, target: u32, out: &mut [u8]) -> usize
+    requires { ⌜ (leastK ≤ k) × (k ≤ mostK) × (target ≤ mostPeriod) × (textRoom ≤ length (now out)) ⌝ }
+    ensures { λ r. ⌜ Wrote (listChecked k target (checkNet k (now (net .entry)))) (now (out .entry)) (now (out .exit)) r ⌝ }
+{
+    let w = read_net(net, k);
+    let v = w.verdict;
+    if let Verdict::Refused(n) = v {
+        return write_refusal(wide(n), out);
+    }
+    list_read(w.net, word(k), word(target), out)
+}
+
+// All checks and the cover.
+fn list_parts(k: u32, target: u32, net: &[u8], out: &mut [u8]) -> usize
+    requires { ⌜ textRoom ≤ length (now out) ⌝ }
+    ensures { λ r. ⌜ Wrote (listing k target (now (net .entry))) (now (out .entry)) (now (out .exit)) r ⌝ }
+{
+    let r = check_sizes(k, target, AREA, SCRATCH);
+    if r > 0 {
+        return write_refusal(wide(r), out);
+    }
+    list_net(net, k, target, out)
+}
+
+// The place behind k and the target.
+fn net_place(input: &[u8]) -> usize
+    ensures { λ r. ⌜ (r ≤ length (now (input .entry))) × (drop r (now (input .entry)) ≡ rest (rest (now (input .entry)))) ⌝ }
+{
+    if input.len() < 2 {
+        return input.len();
+    }
+    2
+}
+
+// The text for every input, in front of out; the bytes behind it are kept.
+pub fn list(input: &[u8], out: &mut [u8; TEXT]) -> usize
+    ensures { λ r. ⌜ Wrote (listingProgram (now (input .entry))) (now (out .entry)) (now (out .exit)) r ⌝ }
+{
+    let k = byte_at(input, 0);
+    let target = byte_at(input, 1);
+    let at = net_place(input);
+    list_parts(k, target, &input[at..], out)
+}

@@ -1,0 +1,2 @@
+pub mod MapSizing
+pub mod MapReading

@@ -1,0 +1,43 @@
+// Map: the key of the examination. A net, k and a target; a cover in the cover area, or a refusal.
+use inputs::word;
+use job_record::Answer;
+use job_record::map_read;
+use job_scratch::clear_first;
+use job_sizes::check_sizes;
+use limits::SCRATCH;
+use net_fields::Verdict;
+use net_reader::read_net;
+ghost use mathlib.Core.Path.{_≡_};
+ghost use Prim.Native.Nat.{_≤_};
+ghost use lib.ListN.{length};
+ghost use Rattle.limits.specs.Limits.{coverArea, leastK, mostK, mostPeriod, scratchArea};
+ghost use Rattle.cover_records.specs.Outcomes.{mapOutcome};
+ghost use Rattle.job_record.specs.MapAnswers.{answerOf, InRange};
+ghost use Rattle.job_record.specs.Mapping.{MapsTo};
+
+// Checks 4 to 12 and the cover.
+fn map_bytes(net: &[u8], k: u32, target: u32, area: &mut [u8], work: &mut [u8]) -> Answer
+    requires { ⌜ (leastK ≤ k) × (k ≤ mostK) × (target ≤ mostPeriod) × (coverArea ≤ length (now area)) × (scratchArea ≤ length (now work)) ⌝ }
+    ensures { λ r. ⌜ MapsTo k target (now (net .entry)) (now (area .entry)) (now (area .exit)) (answerOf r) ⌝ }
+{
+    let w = read_net(net, k);
+    let v = w.verdict;
+    if let Verdict::Refused(n) = v {
+        return Answer::Refused(n);
+    }
+    map_read(w.net, word(k), word(target), area, work)
+}
+
+// Map, for every input.
+pub fn map(net: &[u8], k: u32, target: u32, area: &mut [u8], scratch: &mut [u8]) -> Answer
+    ensures outcome { λ r. ⌜ mapOutcome (now (net .entry)) k target (now (area .entry)) (now (scratch .entry)) ≡ record { answer = answerOf r; area = now (area .exit); scratch = now (scratch .exit) } ⌝ }
+    ensures small { λ r. ⌜ InRange (answerOf r) ⌝ }
+{
+    let r = check_sizes(k, target, area.len(), scratch.len());
+    if r > 0 {
+        return Answer::Refused(r);
+    }
+    let answer = map_bytes(net, k, target, area, &mut scratch[..SCRATCH]);
+    clear_first(scratch, SCRATCH);
+    answer
+}

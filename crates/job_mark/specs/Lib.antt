@@ -1,0 +1,2 @@
+pub mod MarkReading
+pub mod MarkSizing

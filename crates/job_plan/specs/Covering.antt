@@ -1,0 +1,158 @@
+-- What was found, chosen and tabulated is the written cover.
+use mathlib.Core.Path.{_≡_, refl, sym, ap, subst, _∙_}
+use mathlib.Core.List.{List, map}
+use Prim.Native.Nat.{ℕ, _+_, _*_, _≤_, _<_}
+use native.Mathlib.Omega.{arith}
+use lib.IntN.{ℤ, pos}
+use lib.ListN.{length, getD}
+use Rattle.integers.specs.Lag.{lag}
+use Rattle.sequences.specs.Member.{_∈_}
+use Rattle.net_model.specs.Net.{Net, IsGate}
+use Rattle.net_model.specs.Arrays.{stride, pinsIn, copiesFrom}
+use Rattle.net_model.specs.Wired.{Wired, wired-gate, gate-wired}
+use Rattle.net_model.specs.Checks.{Passed}
+use Rattle.net_model.specs.Copies.{Copy, IsCut, Rising}
+use Rattle.net_model.specs.Tables.{tableOf}
+use Rattle.label_theory.specs.Labels.{Reachable}
+use Rattle.cover_theory.specs.Key.{Key, Root, Entry, entries}
+use Rattle.cover_theory.specs.KeyOf.{keyOf, entryOf, root-gate}
+use Rattle.cover_theory.specs.KeyUnique.{numbers-unique}
+use Rattle.cover_records.specs.Kept.{Kept, kept, entryAt, entriesFrom, entriesIn}
+use Rattle.cone_table.specs.ConeWords.{Tabled}
+use Rattle.cut_least.specs.Bridge.{Holds}
+use Rattle.signed.specs.Range.{labelIn}
+use Rattle.cut_forced.specs.Forcing.{wires}
+use Rattle.label_visit.specs.LabelVisits.{Suits, wiring}
+use Rattle.cover_roots.specs.Choosing.{Keyed, RootsTold}
+use Rattle.cone_luts.specs.Luts.{Tabulated}
+use Rattle.job_plan.specs.Found.{PeriodFound}
+use Rattle.job_plan.specs.Entries.{rootsFrom, entries-roots, roots-in, in-roots, roots-rising}
+use Rattle.job_plan.specs.Planned.{Covered, Planned, CoverTold}
+
+-- the labels of a key are those that it was made of
+key-label : {N : Net} {k φ : ℕ} (P : Passed N k) (r : Reachable N k φ) (u : ℕ) → keyOf P r .label u ≡ r .label u
+unfolding keyOf
+key-label P r u = refl
+
+module _ {I G B : ℕ} {ps so co ts os oc : List ℕ} {n : ℕ} {tops : List ℕ} {k target : ℕ} {ls : List ℤ} {marks sizes nodes backs luts : List ℕ} where
+  -- the target is not reachable
+  pub told-none : {r : ℕ} → PeriodFound (wiring I G B ps so co) k target tops os oc n ls r → r ≡ 0
+      → CoverTold I G B ps so co ts os oc n tops k target (kept I G 0 ls marks sizes nodes backs luts)
+  told-none f e = record {
+    cover = λ N S P T o. record {
+      none = λ z. (f .none e .0, f .none e .1 N S o);
+      some = λ h. absurd (nothing h);
+    };
+  }
+    where
+      nothing : 1 ≤ 0 → ⊥
+      nothing h = omega arith
+
+module _ {I G W B : ℕ} {ps so co os oc : List ℕ} {n : ℕ} {tops : List ℕ} {k target : ℕ} {ls : List ℤ} {marks sizes nodes backs : List ℕ} where
+  module _ {r : ℕ} (six : k ≤ stride) (f : PeriodFound (wiring I G B ps so co) k target tops os oc n ls r) (one : 1 ≤ r)
+      (told : RootsTold (wires I G W B ps so co) ls os n r k marks sizes nodes backs)
+      (N : Net) (S : Suits (wiring I G B ps so co) k tops N) (P : Passed N k) (o : N .outputs ≡ pinsIn os oc 0 n) where
+    reachable : Reachable N k r
+    reachable = let l = f .labels one N S P o in record { label = labelIn ls; least = l .0; outputs = l .1 }
+
+    wired : Wired N I G ps so co
+    wired = let h = S .holds in record { inputs = h .inputs; gates = h .gates; wiring = h .lists }
+
+    key : Key N k r
+    key = keyOf P reachable
+
+    label-is : (u : ℕ) → key .label u ≡ labelIn ls u
+    unfolding key reachable
+    label-is u = key-label P reachable u
+
+    keyed : Keyed (wires I G W B ps so co) ls r k
+    keyed = record {
+      net = N;
+      key = key;
+      holds = let h = S .holds in record { inputs = h .inputs; gates = h .gates; lists = h .lists };
+      ranked = S .ranked;
+      loopless = S .loopless;
+      sound = S .sound;
+      border = S .border;
+      label = label-is;
+    }
+
+    leaves-are : (g : ℕ) → g < G → ¬ (getD marks g 0 ≡ 0) → copiesFrom nodes backs (stride * g) (getD sizes g 0) ≡ key .leaves (I + g)
+    unfolding keyed
+    leaves-are g h m = told .leaves keyed g h m
+
+    pub few-leaves : (g : ℕ) → g < G → ¬ (getD marks g 0 ≡ 0) → getD sizes g 0 ≤ stride
+    few-leaves g h m = let s = told .size keyed g h m in omega arith
+
+    pub rising-leaves : (g : ℕ) → g < G → ¬ (getD marks g 0 ≡ 0) → Rising (copiesFrom nodes backs (stride * g) (getD sizes g 0))
+    rising-leaves g h m =
+        let v = wired-gate wired g h in
+        subst Rising (sym (leaves-are g h m ∙ key .isLeaves (I + g) v)) (key .cut (I + g) v .isLeaves .rising)
+
+    module _ {ts : List ℕ} (luts : List ℕ) (tab : Tabulated I G ps so co ts marks sizes nodes backs luts G) (T : Tabled N I G ts) where
+      abbrev a : Kept
+      a = kept I G r ls marks sizes nodes backs luts
+
+      -- the leaves are a cut, and the table is its table
+      table-is : (g : ℕ) → g < G → ¬ (getD marks g 0 ≡ 0) → getD luts g 0 ≡ tableOf N (I + g) (key .cone (I + g)) (key .leaves (I + g))
+      table-is g h m =
+          let v = wired-gate wired g h in
+          let c = key .cut (I + g) v in
+          let L = copiesFrom nodes backs (stride * g) (getD sizes g 0) in
+          let e : L ≡ c .leaves = leaves-are g h m ∙ key .isLeaves (I + g) v in
+          subst (λ (X : List Copy). (i : IsCut N k (I + g) X) → getD luts g 0 ≡ tableOf N (I + g) (i .cone) X) e (tab .each g h .marked m .table N wired T (S .ranked) (S .loopless) k)
+          (record { cone = c .cone; isCone = c .isCone; isLeaves = c .isLeaves; few = c .few })
+          ∙ ap (λ (C : List Copy). tableOf N (I + g) C (c .leaves)) (sym (key .isCone (I + g) v)) ∙ ap (tableOf N (I + g) (key .cone (I + g))) (sym (key .isLeaves (I + g) v))
+
+      entry-is : (g : ℕ) → g < G → ¬ (getD marks g 0 ≡ 0) → entryAt a g ≡ entryOf key (I + g)
+      unfolding entryAt
+      entry-is g h m = λ i. record {
+        root = I + g;
+        leaves = leaves-are g h m i;
+        lag = lag r (sym (label-is (I + g)) i);
+        table = table-is g h m i;
+      }
+
+      roots-are : key .roots ≡ rootsFrom a 0 G
+      unfolding keyed
+      roots-are = numbers-unique (key .roots) (rootsFrom a 0 G) (key .rising) (roots-rising a 0 G) within without
+        where
+          within : (v : ℕ) → v ∈ key .roots → v ∈ rootsFrom a 0 G
+          within v m =
+              let t = key .isRoot v m in
+              let q = gate-wired wired v (root-gate N (key .leaves) t) in
+              subst (λ (x : ℕ). x ∈ rootsFrom a 0 G) (sym (q .2))
+              (in-roots a 0 G (q .0) (omega arith) (omega (arith, q .1)) (told .all keyed (oc, o) (q .0) (q .1) (subst (Root N (key .leaves)) (q .2) t)))
+
+          without : (v : ℕ) → v ∈ rootsFrom a 0 G → v ∈ key .roots
+          without v m =
+              let q = roots-in a 0 G v m in
+              key .allRoots v (subst (Root N (key .leaves)) (sym (q .4)) (told .root keyed (oc, o) (q .0) (omega (arith, q .2)) (q .3)))
+
+      same-entries : entries key ≡ entriesIn a
+      unfolding entries entriesIn
+      same-entries = ap (map (entryOf key)) roots-are ∙ sym (entries-roots a (entryOf key) 0 G (λ g p q m. entry-is g (omega arith) m))
+
+      pub covered : Covered N k target a
+      unfolding keyed
+      covered = record {
+        positive = one;
+        given = f .given one;
+        least = λ z. f .least one z N S P o;
+        key = key;
+        same = same-entries;
+        labels = λ v g. label-is v;
+        small = λ g h. f .fine .small (I + g);
+        few = few-leaves;
+      }
+
+  -- **the cover**
+  pub told-cover : {ts luts : List ℕ} {r : ℕ} → k ≤ stride → PeriodFound (wiring I G B ps so co) k target tops os oc n ls r → ¬ (r ≡ 0)
+      → RootsTold (wires I G W B ps so co) ls os n r k marks sizes nodes backs → Tabulated I G ps so co ts marks sizes nodes backs luts G
+      → CoverTold I G B ps so co ts os oc n tops k target (kept I G r ls marks sizes nodes backs luts)
+  told-cover {luts = luts} six f z told tab = record {
+    cover = λ N S P T o. record {
+      none = λ e. absurd (z e);
+      some = λ h. covered six f h told N S P o luts tab T;
+    };
+  }

@@ -1,0 +1,4 @@
+pub mod MapAnswers
+pub mod Mapping
+pub mod MapOutcomeLaws
+pub mod Recording

@@ -1,0 +1,101 @@
+-- From what was settled to the outcome that the definition has.
+use mathlib.Core.Path.{_≡_, refl, sym, ap, ap₂, subst, subst-refl, _∙_, pathJ}
+use mathlib.Core.List.{List, [], _++_}
+use Prim.Native.Nat.{ℕ, zero, suc, _+_, _≤_, _<_, suc-le-suc, zero-le}
+use native.Mathlib.Omega.{arith}
+use lib.ListN.{length, drop, replicate}
+use Rattle.net_model.specs.Net.{Net}
+use Rattle.net_model.specs.Arrays.{netIn}
+use Rattle.net_model.specs.Checks.{Passed}
+use Rattle.limits.specs.Limits.{scratchArea, coverArea, mostGates, mostPlaces}
+use Rattle.net_bytes.specs.Reading.{Result, got, refused}
+use Rattle.net_bytes.specs.Walk.{netReader}
+use Rattle.label_theory.specs.Labels.{Reachable}
+use Rattle.cover_theory.specs.Key.{Key, Entry, entries}
+use Rattle.cover_theory.specs.KeyUnique.{entries-unique}
+use Rattle.cover_theory.specs.Joined.{key?, key-reachable}
+use Rattle.cover_theory.specs.Period.{leastPeriod, leastKey, leastPeriod-is, leastPeriod-unique}
+use Rattle.cover_records.specs.CoverBytes.{coverBytes}
+use Rattle.cover_records.specs.Kept.{Kept, entriesIn}
+use Rattle.cover_records.specs.Outcomes.{Answer, accepted, turnedBack, MapOutcome, Checked, passes, fails, checkNet, Mapped, covered, unreachable, forTarget, mapped, mapWritten, mapChecked, cleared, written}
+use Rattle.net_reader.specs.ReadAnswer.{arraysOf}
+use Rattle.net_reader.specs.declared.Wiring.{Wiring}
+use Rattle.cover_records.specs.CheckLaws.{check-refused, check-loop, check-unreached, check-unled, check-passes}
+use Rattle.job_plan.specs.Planned.{Covered}
+use Rattle.job_plan.specs.Mapped.{mapped-none, mapped-some}
+use Rattle.job_settle.specs.Settling.{SettledAs, CoverSettled}
+use Rattle.job_settle.specs.Settling as settling
+use Rattle.job_record.specs.Mapping.{MapsTo, MapsNet}
+
+-- the outcome of a refusal, and of a cover
+abbrev refusing : ℕ → List ℕ → List ℕ → MapOutcome
+refusing n area s = record { answer = turnedBack n; area = area; scratch = cleared scratchArea s }
+
+-- a check failed
+pub maps-fails : (k target n : ℕ) (net area : List ℕ) → n < 256 → checkNet k net ≡ fails n → MapsTo k target net area area (turnedBack n)
+unfolding mapChecked
+maps-fails k target n net area h e = record { small = h; outcome = λ s. ap (λ (c : Checked k). mapChecked k target c area s) e }
+
+pub maps-refused : (k target n : ℕ) (net area : List ℕ) → n < 256 → netReader k net ≡ refused n → MapsTo k target net area area (turnedBack n)
+maps-refused k target n net area h e = maps-fails k target n net area h (check-refused k net n e)
+
+-- ---- a net that passes
+
+module _ {N : Net} {k : ℕ} (P : Passed N k) where
+  -- **the definition's record is the one of the arrays**
+  pub written-cover : (target : ℕ) {a : Kept} → Covered N k target a → (area s : List ℕ)
+      → mapWritten (mapped N k target P) area s
+      ≡ record { answer = accepted (length (coverBytes (a .period) (entriesIn a))); area = written (coverBytes (a .period) (entriesIn a)) area; scratch = cleared scratchArea s }
+  unfolding mapWritten
+  written-cover target {a} c area s =
+      let f = mapped-some P target c in
+      let e : entries (f .key) ≡ entriesIn a = entries-unique P (f .key) (c .key) ∙ c .same in
+      ap (λ (m : Mapped N k). mapWritten m area s) (f .is)
+      ∙ ap (λ (es : List Entry). record { answer = accepted (length (coverBytes (a .period) es)); area = written (coverBytes (a .period) es) area; scratch = cleared scratchArea s }) e
+
+  pub written-none : (target : ℕ) → 1 ≤ target → ¬ Reachable N k target → (area s : List ℕ) → mapWritten (mapped N k target P) area s ≡ refusing 12 area s
+  unfolding mapWritten
+  written-none target h n area s = ap (λ (m : Mapped N k). mapWritten m area s) (mapped-none P target h n)
+
+-- the outcome for a net that passes
+passes-as : (k target : ℕ) (net area : List ℕ) (N : Net) (P : Passed N k) → checkNet k net ≡ passes N P → {o : List ℕ → MapOutcome} → ((s : List ℕ) → mapWritten (mapped N k target P) area s ≡ o s)
+    → (s : List ℕ) → mapChecked k target (checkNet k net) area s ≡ o s
+unfolding mapChecked
+passes-as k target net area N P e f s = ap (λ (c : Checked k). mapChecked k target c area s) e ∙ f s
+
+module _ {k target : ℕ} {w : Wiring} (area : List ℕ) where
+  -- **a refusal**
+  pub net-refused : {a : Kept} {r : ℕ} → SettledAs k target w a r → 0 < r → MapsNet k target w area area (turnedBack r)
+  net-refused (settling.loops e n) h = record { maps = λ net q. subst (λ (x : ℕ). MapsTo k target net area area (turnedBack x)) (sym e) (maps-fails k target 9 net area (omega arith) (check-loop k net (netIn (arraysOf w)) [] q n)) }
+  net-refused (settling.cutOff e l n) h =
+      record { maps = λ net q. subst (λ (x : ℕ). MapsTo k target net area area (turnedBack x)) (sym e) (maps-fails k target 10 net area (omega arith) (check-unreached k net (netIn (arraysOf w)) [] q l n)) }
+  net-refused (settling.idle e l t n) h =
+      record { maps = λ net q. subst (λ (x : ℕ). MapsTo k target net area area (turnedBack x)) (sym e) (maps-fails k target 11 net area (omega arith) (check-unled k net (netIn (arraysOf w)) [] q l t n)) }
+  net-refused (settling.unreachable e P h′ n) h = record {
+    maps = λ net q.
+        let t = check-passes k net (netIn (arraysOf w)) [] q (P .loopless) (P .reached) (P .leading) in
+        subst (λ (x : ℕ). MapsTo k target net area area (turnedBack x)) (sym e)
+        (record { small = omega arith; outcome = passes-as k target net area (netIn (arraysOf w)) (t .0) (t .1) (written-none (t .0) target h′ n area) });
+  }
+  net-refused (settling.covered e P c) h = absurd (none e h)
+    where
+      none : {r : ℕ} → r ≡ 0 → 0 < r → ⊥
+      none e h = omega arith
+
+  -- its number as a byte
+  pub net-refused-as : {a : Kept} {r n : ℕ} → SettledAs k target w a r → 0 < r → n ≡ r → MapsNet k target w area area (turnedBack n)
+  net-refused-as t h e = subst (λ (x : ℕ). MapsNet k target w area area (turnedBack x)) (sym e) (net-refused t h)
+
+  -- **a cover**
+  pub net-covered : {a : Kept} {area′ : List ℕ} {n : ℕ} → CoverSettled k target w a → length (coverBytes (a .period) (entriesIn a)) ≤ coverArea → n ≡ length (coverBytes (a .period) (entriesIn a)) → area′ ≡ written (coverBytes (a .period) (entriesIn a)) area
+      → MapsNet k target w area area′ (accepted n)
+  net-covered {a} {area′} {n} u few d e = record {
+    maps = λ net q.
+        let P = u .passed in
+        let t = check-passes k net (netIn (arraysOf w)) [] q (P .loopless) (P .reached) (P .leading) in
+        record {
+          small = omega arith;
+          outcome = λ s. passes-as k target net area (netIn (arraysOf w)) (t .0) (t .1) (written-cover (t .0) target (u .cover) area) s
+              ∙ ap₂ (λ (m : ℕ) (l : List ℕ). record { answer = accepted m; area = l; scratch = cleared scratchArea s }) (sym d) (sym e);
+        };
+  }

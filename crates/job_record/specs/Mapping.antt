@@ -1,0 +1,29 @@
+-- Definitions: what map asks of its parts, and what they tell: the outcome that the definition has.
+use mathlib.Core.Path.{_≡_}
+use mathlib.Core.List.{List, []}
+use Prim.Native.Nat.{ℕ, _≤_}
+use lib.ListN.{length}
+use Rattle.net_model.specs.Arrays.{netIn}
+use Rattle.limits.specs.Limits.{coverArea, scratchArea}
+use Rattle.net_bytes.specs.Reading.{got}
+use Rattle.net_bytes.specs.Walk.{netReader}
+use Rattle.cover_records.specs.Outcomes.{Answer, MapOutcome, checkNet, mapChecked, cleared}
+use Rattle.net_reader.specs.ReadAnswer.{arraysOf}
+use Rattle.net_reader.specs.declared.Wiring.{Wiring}
+use Rattle.job_settle.specs.Settling.{Settling}
+use Rattle.job_record.specs.MapAnswers.{InRange}
+
+-- a net read, with room for its cover
+pub record Mapping (k target : ℕ) (w : Wiring) (area work : List ℕ) : Type 0 where
+  pub settling : Settling k target w
+  pub room : coverArea ≤ length area
+  pub space : scratchArea ≤ length work
+
+-- the outcome of map after checks 1 to 3
+pub record MapsTo (k target : ℕ) (net area area′ : List ℕ) (answer : Answer) : Type 0 where
+  pub small : InRange answer
+  pub outcome : (s : List ℕ) → mapChecked k target (checkNet k net) area s ≡ record { answer = answer; area = area′; scratch = cleared scratchArea s }
+
+-- the same, for all bytes that hold the net read
+pub record MapsNet (k target : ℕ) (w : Wiring) (area area′ : List ℕ) (answer : Answer) : Type 0 where
+  pub maps : (net : List ℕ) → netReader k net ≡ got (netIn (arraysOf w)) [] → MapsTo k target net area area′ answer

@@ -1,4 +1,0 @@
-pub mod Answers
-pub mod Marking
-pub mod Judged
-pub mod Outcome

@@ -1,0 +1,2 @@
+pub mod PeriodSearch
+pub mod PeriodSearchLaws

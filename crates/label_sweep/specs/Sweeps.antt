@@ -1,0 +1,106 @@
+-- Definitions: what the functions of the sweep ask and tell.
+use mathlib.Core.Path.{_≡_}
+use mathlib.Core.List.{List}
+use mathlib.Core.Bool.{Bool, true, false}
+use Prim.Native.Nat.{ℕ, _+_, _*_, _≤_, _<_}
+use lib.IntN.{ℤ}
+use lib.ListN.{length, getD}
+use Rattle.net_model.specs.Net.{Net}
+use Rattle.net_model.specs.Arrays.{pinsIn}
+use Rattle.label_theory.specs.Labels.{Least, OutputsMet, Reachable}
+use Rattle.signed.specs.Range.{room, labelIn}
+use Rattle.cut_circuit.specs.Circuit.{Circuit}
+use Rattle.limits.specs.Limits.{mostCopies}
+use Rattle.label_visit.specs.LabelVisits.{Suits, Quiet, Bounds, Refuted, Fine, left}
+use Rattle.label_pins.specs.PinHeights.{PinFits}
+
+-- a where a visit raised a label, else b
+abbrev pub IfRose : ℕ → ℕ → ℕ → ℕ → Type 0
+IfRose e a b r = (e ≡ 1 → r ≡ a) × (¬ (e ≡ 1) → r ≡ b)
+
+-- from place n of the order on nothing can change
+abbrev pub QuietFrom : Circuit → ℕ → ℕ → List ℕ → List ℕ → List ℤ → ℕ → Type 0
+QuietFrom C k φ tops order ls n = (i : ℕ) → n ≤ i → i < C .gates → Quiet C k φ tops ls (getD order i 0)
+
+-- A sweep with n gates of the order visited. It ends at place `end`; `last` is the place behind the last rise so far, 0 where no label rose.
+pub record Sweep (C : Circuit) (k φ : ℕ) (tops order : List ℕ) (ls ls′ : List ℤ) (n end last : ℕ) : Type 0 where
+  pub ends : end ≤ C .gates
+  pub place : n ≤ end
+  pub behind : last ≤ n
+  pub fine : Fine C ls′
+  pub bounds : Bounds C k φ tops ls → Bounds C k φ tops ls′
+  pub same : last ≡ 0 → ls′ ≡ ls
+  pub quiet : (i : ℕ) → last ≤ i → i < n → Quiet C k φ tops ls′ (getD order i 0)
+  pub rest : QuietFrom C k φ tops order ls′ end
+  pub less : left C φ tops ls′ (C .gates) ≤ left C φ tops ls (C .gates)
+  pub falls : 1 ≤ last → left C φ tops ls′ (C .gates) < left C φ tops ls (C .gates)
+
+-- One sweep. 0: nothing can change. From 1 to the number of gates: the place behind the last rise. One more: a label would pass its ceiling.
+pub record SweepTold (C : Circuit) (k φ : ℕ) (tops order : List ℕ) (ls ls′ : List ℤ) (r : ℕ) : Type 0 where
+  pub most : r ≤ C .gates + 1
+  pub fine : Fine C ls′
+  pub bounds : Bounds C k φ tops ls → Bounds C k φ tops ls′
+  pub same : r ≡ 0 → ls′ ≡ ls
+  pub quiet : r ≤ C .gates → QuietFrom C k φ tops order ls′ r
+  pub less : left C φ tops ls′ (C .gates) ≤ left C φ tops ls (C .gates)
+  pub falls : 1 ≤ r → r ≤ C .gates → left C φ tops ls′ (C .gates) < left C φ tops ls (C .gates)
+  pub refuted : C .gates < r → Bounds C k φ tops ls → Refuted C k φ tops
+
+-- What a sweep's result r says. 0: nothing can change. 1: a label rose. 2: it would pass its ceiling.
+pub record Outcome (gates r o : ℕ) : Type 0 where
+  pub most : o ≤ 2
+  pub none : o ≡ 0 → r ≡ 0
+  pub rose : o ≡ 1 → (1 ≤ r) × (r ≤ gates)
+  pub past : o ≡ 2 → gates < r
+
+-- z from one place up to another, all else kept
+pub record Filled (ls ls′ : List ℤ) (from to : ℕ) (z : ℤ) : Type 0 where
+  pub size : length ls′ ≡ length ls
+  pub between : (u : ℕ) → from ≤ u → u < to → labelIn ls′ u ≡ z
+  pub before : (u : ℕ) → u < from → labelIn ls′ u ≡ labelIn ls u
+  pub behind : (u : ℕ) → to ≤ u → labelIn ls′ u ≡ labelIn ls u
+
+-- outputs that can be read
+pub record OutFits (os oc : List ℕ) (ls : List ℤ) (φ n : ℕ) : Type 0 where
+  pub period : φ ≤ room
+  pub sources : n ≤ length os
+  pub counts : n ≤ length oc
+  pub pin : (i : ℕ) → i < n → PinFits os oc ls φ i
+
+-- what the search for labels needs, whatever the labels hold
+pub record Sized (I G width : ℕ) (ls : List ℤ) (os oc : List ℕ) (φ k n : ℕ) : Type 0 where
+  pub size : length ls ≡ I + G
+  pub shift : φ * width ≤ room
+  pub period : φ ≤ room
+  pub least : 1 ≤ k
+  pub copies : k * G ≤ mostCopies
+  pub sources : n ≤ length os
+  pub counts : n ≤ length oc
+  pub node : (i : ℕ) → i < n → getD os i 0 < I + G
+  pub count : (i : ℕ) → i < n → φ * getD oc i 0 ≤ room
+
+-- The labels' end, for every net with this wiring and these outputs: the least labelling, which meets the outputs, or that the target is not reachable.
+pub record Labelled (C : Circuit) (k φ : ℕ) (tops os oc : List ℕ) (n : ℕ) (ls : List ℤ) (r : Bool) : Type 0 where
+  pub fine : Fine C ls
+  pub found : r ≡ true → (N : Net) → Suits C k tops N → N .outputs ≡ pinsIn os oc 0 n → Least N k φ (labelIn ls) × OutputsMet N φ (labelIn ls)
+  pub quiet : r ≡ true → (g : ℕ) → g < C .gates → Quiet C k φ tops ls g
+  pub none : r ≡ false → (N : Net) → Suits C k tops N → N .outputs ≡ pinsIn os oc 0 n → ¬ Reachable N k φ
+
+-- an order of the gates
+pub record Ordered (C : Circuit) (order : List ℕ) : Type 0 where
+  pub room : C .gates ≤ length order
+  pub gate : (i : ℕ) → i < C .gates → getD order i 0 < C .gates
+  pub all : (g : ℕ) → g < C .gates → (i : ℕ) × (i < C .gates) × (getD order i 0 ≡ g)
+
+-- The sweeps so far, the last with result r.
+pub record Settling (C : Circuit) (k φ : ℕ) (tops : List ℕ) (ls ls′ : List ℤ) (r : ℕ) : Type 0 where
+  pub fine : Fine C ls′
+  pub bounds : Bounds C k φ tops ls → Bounds C k φ tops ls′
+  pub quiet : r ≡ 0 → (g : ℕ) → g < C .gates → Quiet C k φ tops ls′ g
+  pub refuted : r ≡ 2 → Bounds C k φ tops ls → Refuted C k φ tops
+  pub most : r ≤ 2
+
+-- The sweeps' end. 0: all gates are quiet under labels no higher than any labelling's. 2: no labelling meets the outputs.
+pub record SettleTold (C : Circuit) (k φ : ℕ) (tops : List ℕ) (ls ls′ : List ℤ) (r : ℕ) : Type 0 where
+  pub settling : Settling C k φ tops ls ls′ r
+  pub ends : ¬ (r ≡ 1)

@@ -1,0 +1,259 @@
+// The label sweep: labels raised from below, gate by gate, until nothing can change or a label would pass its ceiling.
+use cut_circuit::Extent;
+use label_pins::pin_height;
+use label_visit::visit;
+use signed::minus;
+use signed::whole;
+ghost use mathlib.Core.Path.{_≡_};
+ghost use mathlib.Core.Bool.{true, false};
+ghost use Prim.Native.Nat.{_+_, _*_, _≤_, _<_};
+ghost use lib.IntN.{pos, _-ℤ_};
+ghost use lib.ListN.{length};
+ghost use lib.Signed.{_≤ℤ_, _<ℤ_};
+ghost use Rattle.signed.specs.Range.{Small, room};
+ghost use Rattle.cut_circuit.specs.Circuit.{circuit};
+ghost use Rattle.cut_question.specs.Question.{AtRest};
+ghost use Rattle.label_visit.specs.LabelVisits.{wiring, Ready, Ceilings};
+ghost use Rattle.label_pins.specs.PinHeights.{heightAt, PinFits};
+ghost use Rattle.label_sweep.specs.Sweeps.{Ordered, IfRose, QuietFrom, SweepTold, Outcome, SettleTold, Filled, OutFits, Sized, Labelled};
+ghost use Rattle.label_sweep.specs.Starting.{Started, OutsMet};
+
+// One sweep over the gates in an order, up to place stop, or over all of them once a label rose: from stop on nothing can change unless one rises.
+// 0 where nothing can change, the place behind the last rise, or gates + 1 where a label would pass its ceiling.
+fn sweep(
+    s: Extent,
+    pins: &[usize],
+    first: &[usize],
+    sources: &[usize],
+    counts: &[usize],
+    heads: &[usize],
+    nexts: &[usize],
+    inside: &mut [u8],
+    table: &mut [u8],
+    list: &mut [usize],
+    members: &mut [usize],
+    labels: &mut [i64],
+    tops: &[usize],
+    order: &[usize],
+    phi: usize,
+    k: usize,
+    stop: usize,
+) -> usize
+    requires { ⌜ AtRest (circuit (s .inputs) (s .gates) (s .width) (s .border) (now pins) (now first) (now sources) (now counts) (now heads) (now nexts) (now inside)) (now table) (now list) (now members) ⌝ }
+    requires { ⌜ Ready (s .inputs) (s .gates) (s .width) (now labels) phi k × Ordered (wiring (s .inputs) (s .gates) (s .border) (now pins) (now sources) (now counts)) (now order) × Ceilings (wiring (s .inputs) (s .gates) (s .border) (now pins) (now sources) (now counts)) phi (now tops) ⌝ }
+    requires { ⌜ (stop ≤ s .gates) × QuietFrom (wiring (s .inputs) (s .gates) (s .border) (now pins) (now sources) (now counts)) k phi (now tops) (now order) (now labels) stop ⌝ }
+    ensures { λ _. ⌜ AtRest (circuit (s .inputs) (s .gates) (s .width) (s .border) (now (pins .entry)) (now (first .entry)) (now (sources .entry)) (now (counts .entry)) (now (heads .entry)) (now (nexts .entry)) (now (inside .exit))) (now (table .exit)) (now (list .exit)) (now (members .exit)) ⌝ }
+    ensures { λ r. ⌜ SweepTold (wiring (s .inputs) (s .gates) (s .border) (now (pins .entry)) (now (sources .entry)) (now (counts .entry))) k phi (now (tops .entry)) (now (order .entry)) (now (labels .entry)) (now (labels .exit)) r ⌝ }
+{
+    let mut last = 0;
+    let mut end = stop;
+    let mut i = 0;
+    while i < end {
+        let e = visit(
+            s,
+            pins,
+            first,
+            sources,
+            counts,
+            heads,
+            nexts,
+            inside,
+            table,
+            list,
+            members,
+            labels,
+            tops,
+            phi,
+            k,
+            order[i],
+        );
+        if e == 2 {
+            return s.gates + 1;
+        }
+        i += 1;
+        last = if_rose(e, i, last);
+        end = if_rose(e, s.gates, end);
+    }
+    last
+}
+
+// a where a visit raised a label, else b.
+fn if_rose(e: usize, a: usize, b: usize) -> usize
+    ensures { λ r. ⌜ IfRose e a b r ⌝ }
+{
+    if e == 1 { a } else { b }
+}
+
+// What a sweep's result says: 0 where nothing can change, 1 where a label rose, 2 where one would pass its ceiling.
+fn outcome(gates: usize, r: usize) -> usize
+    ensures { λ o. ⌜ Outcome gates r o ⌝ }
+{
+    if r == 0 {
+        0
+    } else if r <= gates {
+        1
+    } else {
+        2
+    }
+}
+
+// Sweeps until nothing can change, or a label would pass its ceiling.
+fn sweep_all(
+    s: Extent,
+    pins: &[usize],
+    first: &[usize],
+    sources: &[usize],
+    counts: &[usize],
+    heads: &[usize],
+    nexts: &[usize],
+    inside: &mut [u8],
+    table: &mut [u8],
+    list: &mut [usize],
+    members: &mut [usize],
+    labels: &mut [i64],
+    tops: &[usize],
+    order: &[usize],
+    phi: usize,
+    k: usize,
+) -> usize
+    requires { ⌜ AtRest (circuit (s .inputs) (s .gates) (s .width) (s .border) (now pins) (now first) (now sources) (now counts) (now heads) (now nexts) (now inside)) (now table) (now list) (now members) ⌝ }
+    requires { ⌜ Ready (s .inputs) (s .gates) (s .width) (now labels) phi k × Ordered (wiring (s .inputs) (s .gates) (s .border) (now pins) (now sources) (now counts)) (now order) × Ceilings (wiring (s .inputs) (s .gates) (s .border) (now pins) (now sources) (now counts)) phi (now tops) ⌝ }
+    ensures { λ _. ⌜ AtRest (circuit (s .inputs) (s .gates) (s .width) (s .border) (now (pins .entry)) (now (first .entry)) (now (sources .entry)) (now (counts .entry)) (now (heads .entry)) (now (nexts .entry)) (now (inside .exit))) (now (table .exit)) (now (list .exit)) (now (members .exit)) ⌝ }
+    ensures { λ r. ⌜ SettleTold (wiring (s .inputs) (s .gates) (s .border) (now (pins .entry)) (now (sources .entry)) (now (counts .entry))) k phi (now (tops .entry)) (now (labels .entry)) (now (labels .exit)) r ⌝ }
+{
+    let mut stop = s.gates;
+    let mut r = 1;
+    while r == 1 {
+        stop = sweep(
+            s,
+            pins,
+            first,
+            sources,
+            counts,
+            heads,
+            nexts,
+            inside,
+            table,
+            list,
+            members,
+            labels,
+            tops,
+            order,
+            phi,
+            k,
+            stop,
+        );
+        r = outcome(s.gates, stop);
+    }
+    r
+}
+
+// Writes z from one place up to another.
+fn fill(labels: &mut [i64], from: usize, to: usize, z: i64)
+    requires { ⌜ (from ≤ to) × (to ≤ length (now labels)) ⌝ }
+    ensures { λ _. ⌜ Filled (now (labels .entry)) (now (labels .exit)) from to z ⌝ }
+{
+    let mut i = from;
+    while i < to {
+        labels[i] = z;
+        i += 1;
+    }
+}
+
+// 0 at the inputs, low at the gates.
+fn begin(labels: &mut [i64], inputs: usize, gates: usize, low: i64)
+    requires { ⌜ (length (now labels) ≡ inputs + gates) × Small low ⌝ }
+    ensures { λ _. ⌜ Started inputs gates (now (labels .exit)) low ⌝ }
+{
+    fill(labels, 0, inputs, 0);
+    fill(labels, inputs, inputs + gates, low);
+}
+
+// The floor of all labels: 1 − φ·m.
+fn floor(phi: usize, m: usize) -> i64
+    requires { ⌜ phi * m ≤ room ⌝ }
+    ensures { λ r. ⌜ r ≡ (pos 1 -ℤ pos (phi * m)) ⌝ }
+{
+    minus(1, phi * m)
+}
+
+// Whether the label at output i, less its registers, is above φ.
+fn output_high(outs: &[usize], delays: &[usize], labels: &[i64], phi: usize, i: usize) -> bool
+    requires { ⌜ PinFits (now outs) (now delays) (now labels) phi i × (phi ≤ room) ⌝ }
+    ensures yes { λ r. ⌜ (r ≡ true → pos phi <ℤ heightAt (now (outs .entry)) (now (delays .entry)) (now (labels .entry)) phi i) ⌝ }
+    ensures no { λ r. ⌜ (r ≡ false → heightAt (now (outs .entry)) (now (delays .entry)) (now (labels .entry)) phi i ≤ℤ pos phi) ⌝ }
+{
+    let p = whole(phi);
+    let h = pin_height(outs, delays, labels, phi, i);
+    p < h
+}
+
+// Whether all outputs are met.
+fn outputs_met(outs: &[usize], delays: &[usize], labels: &[i64], phi: usize, n: usize) -> bool
+    requires { ⌜ OutFits (now outs) (now delays) (now labels) phi n ⌝ }
+    ensures yes { λ r. ⌜ (r ≡ true → OutsMet (now (outs .entry)) (now (delays .entry)) (now (labels .entry)) phi n) ⌝ }
+    ensures no { λ r. ⌜ (r ≡ false → ¬ OutsMet (now (outs .entry)) (now (delays .entry)) (now (labels .entry)) phi n) ⌝ }
+{
+    let mut i = 0;
+    while i < n {
+        if output_high(outs, delays, labels, phi, i) {
+            return false;
+        }
+        i += 1;
+    }
+    true
+}
+
+// The least labelling for φ, where it meets the outputs. Else no labelling does: the target is not reachable.
+pub fn reach(
+    s: Extent,
+    pins: &[usize],
+    first: &[usize],
+    sources: &[usize],
+    counts: &[usize],
+    heads: &[usize],
+    nexts: &[usize],
+    inside: &mut [u8],
+    table: &mut [u8],
+    list: &mut [usize],
+    members: &mut [usize],
+    labels: &mut [i64],
+    tops: &[usize],
+    order: &[usize],
+    outs: &[usize],
+    delays: &[usize],
+    n: usize,
+    phi: usize,
+    k: usize,
+) -> bool
+    requires { ⌜ AtRest (circuit (s .inputs) (s .gates) (s .width) (s .border) (now pins) (now first) (now sources) (now counts) (now heads) (now nexts) (now inside)) (now table) (now list) (now members) ⌝ }
+    requires { ⌜ Sized (s .inputs) (s .gates) (s .width) (now labels) (now outs) (now delays) phi k n × Ordered (wiring (s .inputs) (s .gates) (s .border) (now pins) (now sources) (now counts)) (now order) × Ceilings (wiring (s .inputs) (s .gates) (s .border) (now pins) (now sources) (now counts)) phi (now tops) ⌝ }
+    ensures { λ _. ⌜ AtRest (circuit (s .inputs) (s .gates) (s .width) (s .border) (now (pins .entry)) (now (first .entry)) (now (sources .entry)) (now (counts .entry)) (now (heads .entry)) (now (nexts .entry)) (now (inside .exit))) (now (table .exit)) (now (list .exit)) (now (members .exit)) ⌝ }
+    ensures { λ r. ⌜ Labelled (wiring (s .inputs) (s .gates) (s .border) (now (pins .entry)) (now (sources .entry)) (now (counts .entry))) k phi (now (tops .entry)) (now (outs .entry)) (now (delays .entry)) n (now (labels .exit)) r ⌝ }
+{
+    let m = s.border / k;
+    let low = floor(phi, m);
+    begin(labels, s.inputs, s.gates, low);
+    let r = sweep_all(
+        s,
+        pins,
+        first,
+        sources,
+        counts,
+        heads,
+        nexts,
+        inside,
+        table,
+        list,
+        members,
+        labels,
+        tops,
+        order,
+        phi,
+        k,
+    );
+    if r == 2 {
+        return false;
+    }
+    outputs_met(outs, delays, labels, phi, n)
+}

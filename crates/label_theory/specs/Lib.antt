@@ -1,0 +1,9 @@
+pub mod Labels
+pub mod Lower
+pub mod Pins
+pub mod Floor
+pub mod Bounds
+pub mod LabelDecision
+pub mod Small
+pub mod Exists
+pub mod Forced

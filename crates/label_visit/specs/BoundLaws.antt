@@ -1,0 +1,125 @@
+-- Labels that no labelling is below: raised to what every labelling reaches, past a ceiling, and where all gates are quiet.
+use mathlib.Core.Path.{_≡_, sym, ap, _∙_, subst, fun-ext}
+use mathlib.Core.List.{List}
+use mathlib.Core.Logic.{_⊎_, inl, inr}
+use Prim.Native.Nat.{ℕ, suc, _+_, _-_, _*_, _<_}
+use native.Mathlib.Decide.{ℕ-discrete}
+use native.Mathlib.Omega.{arith}
+use lib.IntN.{ℤ, pos, _+ℤ_, _-ℤ_}
+use lib.ListN.{length, getD, set}
+use lib.Seq.{getD-set-same, getD-set-other}
+use lib.Signed.{_≤ℤ_, _<ℤ_}
+use Rattle.integers.specs.Parts.{ints, +-parts}
+use Rattle.integers.specs.Order.{≤ℤ-trans}
+use Rattle.sequences.specs.Member.{_∈_}
+use Rattle.net_model.specs.Net.{Net, Pin, IsGate, pins}
+use Rattle.net_model.specs.Arrays.{stride}
+use Rattle.net_model.specs.ArrayLaws.{pinAt, pinsIn-in, in-pinsIn}
+use Rattle.net_model.specs.Checks.{Sound}
+use Rattle.label_theory.specs.Labels.{LowCut, Labelling, Least}
+use Rattle.label_theory.specs.Lower.{relabel, replace, replace-same, replace-other}
+use Rattle.label_theory.specs.Bounds.{LowerBound, PinsReach, pin-bound, raised, refutes, alone-cut, settled-least}
+use Rattle.label_theory.specs.Forced.{Falling, separation-cut}
+use Rattle.signed.specs.Range.{labelIn}
+use Rattle.cut_circuit.specs.Circuit.{Circuit}
+use Rattle.cut_least.specs.Bridge.{Holds, gate-of}
+use Rattle.cut_question.specs.Question.{Decides}
+use Rattle.label_visit.specs.LabelVisits.{Suits, pinHeight, PinMax, Quiet, higher, level, Bounds, Refuted}
+
+-- gates and pins of a net with this wiring
+place-of : {C : Circuit} {N : Net} → Holds C N → (v : ℕ) → IsGate N v → (g : ℕ) × (g < C .gates) × (v ≡ C .inputs + g)
+place-of {C} h v i = let a = h .inputs in let b = h .gates in let l = i .low in let u = i .high in (v - C .inputs, omega arith, omega arith)
+
+pin-of : {C : Circuit} {N : Net} → Holds C N → (g : ℕ) → g < C .gates → (p : Pin) → p ∈ pins N (C .inputs + g) → (j : ℕ) × (j < getD (C .pins) g 0) × (p ≡ pinAt (C .sources) (C .counts) (stride * g + j))
+pin-of {C} h g l p m = pinsIn-in (C .sources) (C .counts) (stride * g) (getD (C .pins) g 0) p (subst (λ (q : List Pin). p ∈ q) (h .lists g l) m)
+
+is-pin : {C : Circuit} {N : Net} → Holds C N → (g j : ℕ) → g < C .gates → j < getD (C .pins) g 0 → pinAt (C .sources) (C .counts) (stride * g + j) ∈ pins N (C .inputs + g)
+is-pin {C} h g j l k′ = rw (h .lists g l) (in-pinsIn (C .sources) (C .counts) (stride * g) (getD (C .pins) g 0) j k′)
+
+-- the pins reach p
+pins-reach : {C : Circuit} (k φ : ℕ) {N : Net} {ls : List ℤ} {p : ℤ} (H : Holds C N) (s : Sound N) (g : ℕ) → g < C .gates → PinMax C ls φ g p → PinsReach N k φ s (labelIn ls) (C .inputs + g) p
+pins-reach {C} k φ {N} {ls} {p} H s g l m q i =
+    let t = pin-of H g l q i in
+    subst (λ (x : Pin). (labelIn ls (x .src) -ℤ pos (φ * x .count)) ≤ℤ p) (sym (t .2)) (m .above (t .0) (t .1))
+
+-- an array with one label replaced
+label-set : (ls : List ℤ) (v u : ℕ) (h : ℤ) → v < length ls → labelIn (set ls v h) u ≡ replace (labelIn ls) v h u
+label-set ls v u h l = go (ℕ-discrete u v)
+  where
+    go : Dec (u ≡ v) → labelIn (set ls v h) u ≡ replace (labelIn ls) v h u
+    go (yes e) = rw e (getD-set-same ls v h (pos 0) l ∙ sym (replace-same (labelIn ls) v h))
+    go (no n) = getD-set-other ls v u h (pos 0) n ∙ sym (replace-other (labelIn ls) v h u n)
+
+module _ {C : Circuit} {k φ : ℕ} {tops : List ℕ} where
+  -- **every labelling reaches p**
+  reaches-p : {N : Net} {ls : List ℤ} {p : ℤ} (S : Suits C k tops N) (g : ℕ) → g < C .gates → PinMax C ls φ g p → LowerBound N k φ (labelIn ls)
+      → (lab : ℕ → ℤ) → Labelling N k φ lab → p ≤ℤ lab (C .inputs + g)
+  reaches-p {N} {ls} {p} S g l m b lab x =
+      subst (λ (z : ℤ). z ≤ℤ lab (C .inputs + g)) (m .attained)
+      (pin-bound N k φ (S .sound) (labelIn ls) (C .inputs + g) (pinAt (C .sources) (C .counts) (stride * g + m .pin)) b (gate-of (S .holds) g l) (is-pin (S .holds) g (m .pin) l (m .isPin)) lab x)
+
+  -- **and p + 1 where there is no cut of height p**
+  reaches-more : {N : Net} {ls : List ℤ} {p : ℤ} (S : Suits C k tops N) (g : ℕ) → g < C .gates → PinMax C ls φ g p → LowerBound N k φ (labelIn ls)
+      → ¬ LowCut N k φ (labelIn ls) (C .inputs + g) p → (lab : ℕ → ℤ) → Labelling N k φ lab → (p +ℤ pos 1) ≤ℤ lab (C .inputs + g)
+  reaches-more {N} {ls} {p} S g l m b n lab x = go (Rattle.integers.specs.Order.≤ℤ-total (lab (C .inputs + g)) p)
+    where
+      v : ℕ
+      v = C .inputs + g
+
+      go : (lab v ≤ℤ p) ⊎ (p <ℤ lab v) → (p +ℤ pos 1) ≤ℤ lab v
+      go (inl h) = absurd (n (relabel N k φ (S .sound) v (b .inputs) (x .inputs) (b .below lab x) h (x .gates v (gate-of (S .holds) g l))))
+      go (inr h) = omega (arith, ints, +-parts p (pos 1))
+
+  -- a label raised to what every labelling reaches
+  pub bounds-set : (ls : List ℤ) (g : ℕ) (h : ℤ) → g < C .gates → C .inputs + g < length ls → Bounds C k φ tops ls
+      → ((N : Net) → Suits C k tops N → (lab : ℕ → ℤ) → Labelling N k φ lab → h ≤ℤ lab (C .inputs + g)) → Bounds C k φ tops (set ls (C .inputs + g) h)
+  bounds-set ls g h l r b f N S =
+      subst (LowerBound N k φ) (sym (fun-ext (λ u. label-set ls (C .inputs + g) u h r))) (raised N k φ (S .sound) (labelIn ls) (C .inputs + g) h (b N S) (gate-of (S .holds) g l) (f N S))
+
+  pub bounds-p : (ls : List ℤ) (g : ℕ) (p : ℤ) → g < C .gates → C .inputs + g < length ls → PinMax C ls φ g p → Bounds C k φ tops ls → Bounds C k φ tops (set ls (C .inputs + g) p)
+  bounds-p ls g p l r m b = bounds-set ls g p l r b (λ N S. reaches-p S g l m (b N S))
+
+  pub bounds-more : (ls : List ℤ) (g q : ℕ) (p : ℤ) → g < C .gates → C .inputs + g < length ls → PinMax C ls φ g p → Decides C ls φ k g p q → k < q → Bounds C k φ tops ls
+      → Bounds C k φ tops (set ls (C .inputs + g) (p +ℤ pos 1))
+  bounds-more ls g q p l r m a few b =
+      bounds-set ls g (p +ℤ pos 1) l r b (λ N S. reaches-more S g l m (b N S) (a .none N (S .holds) (S .ranked) (S .loopless) (S .border) few))
+
+  -- **past its ceiling a gate refutes**
+  pub past-top : (ls : List ℤ) (g : ℕ) → g < C .gates → Bounds C k φ tops ls → pos (φ * getD tops g 0) <ℤ labelIn ls (C .inputs + g) → Refuted C k φ tops
+  past-top ls g l b h N S =
+      let t = S .path g l in
+      let a = t .0 in
+      let e : φ * suc (getD tops g 0 - 1) ≡ φ * getD tops g 0 = ap (λ (x : ℕ). φ * x) (omega arith) in
+      refutes N k φ (S .sound) (labelIn ls) (C .inputs + g) (getD tops g 0 - 1) (b N S) (gate-of (S .holds) g l) (t .1) (omega (arith, ints))
+
+  -- ---- all gates quiet
+
+  quiet-falls : {ls : List ℤ} (g : ℕ) → Quiet C k φ tops ls g → (j : ℕ) → j < getD (C .pins) g 0 → pinHeight C ls φ g j ≤ℤ labelIn ls (C .inputs + g)
+  quiet-falls {ls} g (higher p m h) j l = let a = m .above j l in omega (arith, ints, +-parts p (pos 1))
+  quiet-falls {ls} g (level p m e s) j l = let a = m .above j l in omega (arith, ints)
+
+  falling : {N : Net} {ls : List ℤ} → Holds C N → ((g : ℕ) → g < C .gates → Quiet C k φ tops ls g) → Falling N φ (labelIn ls)
+  falling {N} {ls} H q v i p m =
+      let t = place-of H v i in
+      let w = pin-of H (t .0) (t .1) p (subst (λ (x : ℕ). p ∈ pins N x) (t .2) m) in
+      subst (λ (x : ℕ). (labelIn ls (p .src) -ℤ pos (φ * p .count)) ≤ℤ labelIn ls x) (sym (t .2))
+      (subst (λ (x : Pin). (labelIn ls (x .src) -ℤ pos (φ * x .count)) ≤ℤ labelIn ls (C .inputs + t .0)) (sym (w .2)) (quiet-falls (t .0) (q (t .0) (t .1)) (w .0) (w .1)))
+
+  quiet-cut : {N : Net} {ls : List ℤ} (S : Suits C k tops N) → Falling N φ (labelIn ls) → (g : ℕ) → g < C .gates → Quiet C k φ tops ls g
+      → LowCut N k φ (labelIn ls) (C .inputs + g) (labelIn ls (C .inputs + g))
+  quiet-cut {N} {ls} S f g l (higher p m h) =
+      Rattle.label_theory.specs.Lower.recut (alone-cut N k φ (S .sound) (labelIn ls) (C .inputs + g) p (S .fits) (gate-of (S .holds) g l) (pins-reach k φ {ls = ls} (S .holds) (S .sound) g l m))
+      (λ y i a. ≤ℤ-trans a h)
+  quiet-cut {N} {ls} S f g l (level p m e s) =
+      let x = s N S in
+      subst (LowCut N k φ (labelIn ls) (C .inputs + g)) (sym e)
+      (separation-cut N (C .inputs + g) φ (labelIn ls) p (x .set) (x .cone) (C .border) f (x .forced) (x .separation) k (x .isLeaves) (x .few))
+
+  -- **Where all gates are quiet a lower bound is the least labelling.**
+  pub quiet-least : {ls : List ℤ} → Bounds C k φ tops ls → ((g : ℕ) → g < C .gates → Quiet C k φ tops ls g) → (N : Net) → Suits C k tops N → Least N k φ (labelIn ls)
+  quiet-least {ls} b q N S =
+      settled-least k φ (b N S) (λ v i. let t = place-of (S .holds) v i in
+      subst (λ (x : ℕ). LowCut N k φ (labelIn ls) x (labelIn ls x)) (sym (t .2)) (quiet-cut S (falling (S .holds) q) (t .0) (t .1) (q (t .0) (t .1))))
+
+  pub quiet-falling : {ls : List ℤ} → ((g : ℕ) → g < C .gates → Quiet C k φ tops ls g) → (N : Net) → Suits C k tops N → Falling N φ (labelIn ls)
+  quiet-falling q N S = falling (S .holds) q

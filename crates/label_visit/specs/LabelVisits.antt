@@ -1,0 +1,108 @@
+-- Definitions: one visit of a gate in the sweep: what it keeps, when nothing can change, and when it refutes.
+use mathlib.Core.Path.{_≡_}
+use mathlib.Core.List.{List, []}
+use Prim.Native.Nat.{ℕ, zero, suc, _+_, _-_, _*_, _≤_, _<_}
+use lib.IntN.{ℤ, pos, _+ℤ_, _-ℤ_}
+use lib.ListN.{length, getD, set}
+use lib.Signed.{_≤ℤ_, _<ℤ_}
+use Rattle.limits.specs.Limits.{mostCopies}
+use Rattle.integers.specs.Parts.{up}
+use Rattle.net_model.specs.Net.{Net}
+use Rattle.net_model.specs.Arrays.{stride}
+use Rattle.net_model.specs.Checks.{Sound, Fits, Loopless}
+use Rattle.cone_theory.specs.Ranks.{Ranked}
+use Rattle.cone_theory.specs.Reach.{reachOf}
+use Rattle.label_theory.specs.Labels.{Labelling, OutputsMet}
+use Rattle.label_theory.specs.Pins.{OutPath}
+use Rattle.label_theory.specs.Bounds.{LowerBound}
+use Rattle.signed.specs.Range.{Small, room, labelIn}
+use Rattle.cut_circuit.specs.Circuit.{Circuit, circuit}
+use Rattle.cut_least.specs.Bridge.{Holds}
+use Rattle.cut_question.specs.Question.{Parted}
+use Rattle.label_pins.specs.PinHeights.{heightAt}
+
+-- What the sweep may assume of a net: its wiring is the circuit's, it passed the checks, the border leaves room for its cuts, and each gate g has a path to an
+-- output with tops g − 1 registers.
+pub record Suits (C : Circuit) (k : ℕ) (tops : List ℕ) (N : Net) : Type 0 where
+  pub holds : Holds C N
+  pub ranked : Ranked N
+  pub loopless : Loopless N
+  pub sound : Sound N
+  pub fits : Fits N k
+  pub border : k * reachOf N ≤ C .border
+  pub path : (g : ℕ) → g < C .gates → (1 ≤ getD tops g 0) × OutPath N (C .inputs + g) (getD tops g 0 - 1)
+
+-- label(u) − φ·w for pin j of gate g
+abbrev pub pinHeight : Circuit → List ℤ → ℕ → ℕ → ℕ → ℤ
+pinHeight C ls φ g j = heightAt (C .sources) (C .counts) ls φ (stride * g + j)
+
+-- p is the largest of them
+pub record PinMax (C : Circuit) (ls : List ℤ) (φ g : ℕ) (p : ℤ) : Type 0 where
+  pub above : (j : ℕ) → j < getD (C .pins) g 0 → pinHeight C ls φ g j ≤ℤ p
+  pub pin : ℕ
+  pub isPin : pin < getD (C .pins) g 0
+  pub attained : pinHeight C ls φ g pin ≡ p
+
+-- nothing can change at gate g: its label is above the pins' by 1, or it is the pins' and a separation with at most k leaves was found
+pub data Quiet (C : Circuit) (k φ : ℕ) (tops : List ℕ) (ls : List ℤ) (g : ℕ) : Type 0 where
+  higher : (p : ℤ) → PinMax C ls φ g p → (p +ℤ pos 1) ≤ℤ labelIn ls (C .inputs + g) → Quiet C k φ tops ls g
+  level : (p : ℤ) → PinMax C ls φ g p → labelIn ls (C .inputs + g) ≡ p
+      → ((N : Net) → Suits C k tops N → Parted N (C .inputs + g) φ (labelIn ls) p (C .border) k) → Quiet C k φ tops ls g
+
+-- a lower bound for every net that suits
+abbrev pub Bounds : Circuit → ℕ → ℕ → List ℕ → List ℤ → Type 0
+Bounds C k φ tops ls = (N : Net) → Suits C k tops N → LowerBound N k φ (labelIn ls)
+
+-- no labelling meets the outputs of a net that suits
+abbrev pub Refuted : Circuit → ℕ → ℕ → List ℕ → Type 0
+Refuted C k φ tops = (N : Net) → Suits C k tops N → (lab : ℕ → ℤ) → Labelling N k φ lab → ¬ OutputsMet N φ lab
+
+-- the wiring alone
+abbrev pub wiring : ℕ → ℕ → ℕ → List ℕ → List ℕ → List ℕ → Circuit
+wiring inputs gates border pins sources counts = circuit inputs gates 0 border pins [] sources counts [] [] []
+
+-- the label of v raised to p, unless it is p
+pub record Raised (ls ls′ : List ℤ) (v : ℕ) (p : ℤ) (r : ℕ) : Type 0 where
+  pub bound : r < 2
+  pub lower : r ≡ 1 → (labelIn ls v <ℤ p) × (ls′ ≡ set ls v p)
+  pub there : r ≡ 0 → (labelIn ls v ≡ p) × (ls′ ≡ ls)
+
+-- one label changed
+pub record Changed (ls ls′ : List ℤ) (v : ℕ) (p : ℤ) : Type 0 where
+  pub size : length ls′ ≡ length ls
+  pub at : labelIn ls′ v ≡ p
+  pub other : (u : ℕ) → ¬ (u ≡ v) → labelIn ls′ u ≡ labelIn ls u
+
+-- labels for all nodes, far from the ends of 64 bits
+pub record Fine (C : Circuit) (ls : List ℤ) : Type 0 where
+  pub size : length ls ≡ C .inputs + C .gates
+  pub small : (u : ℕ) → Small (labelIn ls u)
+
+-- what the engine needs of labels and sizes
+pub record Ready (I G width : ℕ) (ls : List ℤ) (φ k : ℕ) : Type 0 where
+  pub size : length ls ≡ I + G
+  pub small : (u : ℕ) → Small (labelIn ls u)
+  pub shift : φ * width ≤ room
+  pub least : 1 ≤ k
+  pub copies : k * G ≤ mostCopies
+
+-- ceilings that do not overflow
+pub record Ceilings (C : Circuit) (φ : ℕ) (tops : List ℕ) : Type 0 where
+  pub size : C .gates ≤ length tops
+  pub top : (g : ℕ) → g < C .gates → φ * getD tops g 0 < room
+
+-- what is left below the ceilings of the first n gates
+unfoldable pub left : Circuit → ℕ → List ℕ → List ℤ → ℕ → ℕ
+left C φ tops ls zero = 0
+left C φ tops ls (suc n) = up (pos (φ * getD tops n 0) -ℤ labelIn ls (C .inputs + n)) + left C φ tops ls n
+
+-- One visit of gate g. 0: nothing can change. 1: its label rose. 2: it would pass its ceiling.
+pub record Visited (C : Circuit) (k φ : ℕ) (tops : List ℕ) (ls ls′ : List ℤ) (g r : ℕ) : Type 0 where
+  pub most : r ≤ 2
+  pub fine : Fine C ls′
+  pub bounds : Bounds C k φ tops ls → Bounds C k φ tops ls′
+  pub same : r ≡ 0 → ls′ ≡ ls
+  pub quiet : r ≡ 0 → Quiet C k φ tops ls g
+  pub less : left C φ tops ls′ (C .gates) ≤ left C φ tops ls (C .gates)
+  pub falls : r ≡ 1 → left C φ tops ls′ (C .gates) < left C φ tops ls (C .gates)
+  pub refuted : r ≡ 2 → Bounds C k φ tops ls → Refuted C k φ tops

@@ -1,0 +1,4 @@
+pub mod LabelVisits
+pub mod BoundLaws
+pub mod ReadyLaws
+pub mod LabelVisitLaws

@@ -1,9 +1,0 @@
-pub mod Labels
-pub mod Lower
-pub mod Pins
-pub mod Floor
-pub mod Bounds
-pub mod Decision
-pub mod Small
-pub mod Exists
-pub mod Forced

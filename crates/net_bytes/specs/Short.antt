@@ -1,0 +1,136 @@
+-- Laws of readers that look at a limited number of bytes: what follows more bytes than that changes nothing. The reader of a net record looks at no more than 755.
+use mathlib.Core.Path.{_≡_, refl, sym, _∙_}
+use mathlib.Core.Bool.{Bool, true, false}
+use mathlib.Core.List.{List, [], _∷_, _++_}
+use Prim.Native.Nat.{ℕ, zero, suc, _+_, _*_, _≤_, _<_}
+use native.Mathlib.Nat.{zero-mul, suc-mul, mul-le-mul-right}
+use native.Mathlib.Omega.{arith}
+use borrow.Author.Tests.{leb-true, eqb-true}
+use lib.Bits.{and-le-r}
+use lib.Count.{ones, ones-le}
+use lib.Dec.{leb}
+use lib.ListN.{length}
+use lib.Pow.{pow-mono}
+use Rattle.limits.specs.Limits.{mostGateBytes, mostGates, mostNetBytes, mostOutputBytes, mostOutputs, mostPins}
+use Rattle.sequences.specs.Member.{here, there}
+use Rattle.net_bytes.specs.Reading.{Result, Reader, _>>=_, andThen, give, check, byte, times, atEnd, got, refused}
+use Rattle.net_bytes.specs.Walk.{netReader, gateReader, outputReader, onlyBits, tableBytes}
+use Rattle.net_bytes.specs.Readers.{Each}
+use Rattle.net_bytes.specs.Maps.{only-mask}
+use Rattle.net_bytes.specs.Sound.{between-true}
+
+abbrev pub Bytes : List ℕ → Type 0
+Bytes s = Each (λ (b : ℕ). b < 256) s
+
+-- What a reader makes of some bytes, by what follows them: always the same refusal; or always the same value, of which P holds, with more than n of the bytes left.
+pub data Steady {A : Type 0} (P : A → Type 0) (n : ℕ) : (List ℕ → Result A) → Type 0 where
+  stops : (e : ℕ) → Steady P n (λ t. refused e)
+  goes : {a : A} {s : List ℕ} → P a → Bytes s → n < length s → Steady P n (λ t. got a (s ++ t))
+
+-- m looks at no more than c bytes: what follows more than c + n does not matter, and more than n are left
+pub record Short {A : Type 0} (c : ℕ) (P : A → Type 0) (m : Reader A) : Type 0 where
+  pub steady : (n : ℕ) (s : List ℕ) → Bytes s → c + n < length s → Steady P n (λ t. m (s ++ t))
+
+-- of a value: nothing is known; there is none
+abbrev pub Anything : {A : Type 0} → A → Type 0
+Anything a = Unit {0}
+
+abbrev pub Nothing : {A : Type 0} → A → Type 0
+Nothing a = ⊥
+
+-- a byte that passed its test
+abbrev pub Tested : (ℕ → Bool) → ℕ → Type 0
+Tested ok b = (b < 256) × (ok b ≡ true)
+
+-- a reader that gives no value for more than c bytes refuses them with one number, whatever follows
+pub short-refuses : {A : Type 0} {c : ℕ} {m : Reader A} → Short c Nothing m → (s : List ℕ) → Bytes s → c < length s
+    → (e : ℕ) × ((t : List ℕ) → m (s ++ t) ≡ refused e)
+short-refuses {A} x s b l = go (x .steady 0 s b (omega arith))
+  where
+    go : {q : List ℕ → Result A} → Steady Nothing 0 q → (e : ℕ) × ((t : List ℕ) → q t ≡ refused e)
+    go (stops e) = (e, λ t. refl)
+    go (goes p b l) = absurd p
+
+module _ {A : Type 0} where
+  pub short-give : {a : A} → Short 0 Anything (give a)
+  short-give = record { steady = λ n s b l. goes tt b (omega arith) }
+
+  pub short-check : {P : A → Type 0} (t : Bool) (e : ℕ) (a : A) → P a → Short 0 P (check t e a)
+  short-check true e a p = record { steady = λ n s b l. goes p b (omega arith) }
+  short-check false e a p = record { steady = λ n s b l. stops e }
+
+  pub short-end : (e : ℕ) (a : A) → Short 0 Nothing (atEnd e a)
+  short-end e a = record { steady = over }
+    where
+      over : (n : ℕ) (s : List ℕ) → Bytes s → 0 + n < length s → Steady Nothing n (λ t. atEnd e a (s ++ t))
+      over n [] b l = absurd (omega arith)
+      over n (c ∷ s) b l = stops e
+
+pub short-byte : (early bad : ℕ) (ok : ℕ → Bool) → Short 1 (Tested ok) (byte early bad ok)
+short-byte early bad ok = record { steady = one }
+  where
+    told : (t : Bool) (n c : ℕ) (s : List ℕ) → ok c ≡ t → c < 256 → Bytes s → n < length s → Steady (Tested ok) n (λ u. check t bad c (s ++ u))
+    told true n c s e h b l = goes (h, e) b l
+    told false n c s e h b l = stops bad
+
+    one : (n : ℕ) (s : List ℕ) → Bytes s → 1 + n < length s → Steady (Tested ok) n (λ t. byte early bad ok (s ++ t))
+    one n [] b l = absurd (omega arith)
+    one n (c ∷ s) b l = told (ok c) n c s refl (b c (here refl)) (λ a m. b a (there m)) (omega arith)
+
+module _ {A : Type 0} {P : A → Type 0} where
+  pub short-most : {c d : ℕ} {m : Reader A} → c ≤ d → Short c P m → Short d P m
+  short-most h x = record { steady = λ n s b l. x .steady n s b (omega arith) }
+
+  pub short-then : {B : Type 0} {Q : B → Type 0} {c d : ℕ} {m : Reader A} {f : A → Reader B} → Short c P m → ((a : A) → P a → Short d Q (f a)) → Short (c + d) Q (m >>= f)
+  short-then {B} {Q} {c} {d} {m} {f} x y = record { steady = λ n s b l. go n (x .steady (d + n) s b (omega arith)) }
+    where
+      go : (n : ℕ) {q : List ℕ → Result A} → Steady P (d + n) q → Steady Q n (λ t. andThen (q t) f)
+      go n (stops e) = stops e
+      go n (goes {a} {s} p b l) = y a p .steady n s b l
+
+module _ {A : Type 0} {P : A → Type 0} where
+  -- n things of at most c bytes each
+  short-all : {c : ℕ} {m : Reader A} (n : ℕ) → Short c P m → Short (n * c) Anything (times n m)
+  unfolding times
+  short-all {c} zero x = record { steady = λ n s b l. goes tt b (omega (arith, zero-mul c)) }
+  short-all {c} (suc n) x = short-most (omega (arith, suc-mul n c)) (short-then x λ a p. short-then (short-all n x) λ l q. short-give {a = a ∷ l})
+
+  pub short-times : {c n most : ℕ} {m : Reader A} → n ≤ most → Short c P m → Short (most * c) Anything (times n m)
+  short-times {c} {n} h x = short-most (mul-le-mul-right c h) (short-all n x)
+
+pub tableBytes-most : {m n : ℕ} → m ≤ n → tableBytes m ≤ tableBytes n
+tableBytes-most h = omega (arith, pow-mono h)
+
+-- a map with only bits of a map of six bits
+map-most : (p r : ℕ) → p ≤ 63 → r < 256 → onlyBits 8 p r ≡ true → ones r ≤ mostPins
+map-most p r h l e = ones-le mostPins r (omega (arith, and-le-r r p, eqb-true _ r (sym (only-mask 8 p r l) ∙ e)))
+
+-- ---- the net
+
+short-gate : (k nodes : ℕ) → Short mostGateBytes Anything (gateReader k nodes)
+unfolding gateReader
+short-gate k nodes =
+    short-then (short-byte 4 6 _) λ p hp.
+    let high = between-true 1 63 p (hp .1) .1 in
+    short-then (short-check {P = λ m. m ≤ mostPins} (leb (ones p) k) 7 (ones p) (ones-le mostPins p (omega arith))) λ m few.
+    short-then (short-byte 4 6 _) λ r hr.
+    short-then (short-times few (short-byte 4 6 _)) λ s hs.
+    short-then (short-times (map-most p r high (hr .0) (hr .1)) (short-byte 4 6 _)) λ c hc.
+    short-then (short-times (tableBytes-most few) (short-byte 4 6 _)) λ t ht. short-give
+
+short-output : (nodes : ℕ) → Short mostOutputBytes Anything (outputReader nodes)
+unfolding outputReader
+short-output nodes =
+    short-then (short-byte 4 6 _) λ m hm.
+    short-then (short-byte 4 6 _) λ s hs.
+    short-then (short-times (leb-true m 1 (hm .1)) (short-byte 4 6 _)) λ c hc. short-give
+
+-- **A net record has at most 755 bytes.**
+pub short-net : (k : ℕ) → Short mostNetBytes Nothing (netReader k)
+unfolding netReader
+short-net k =
+    short-then (short-byte 4 5 _) λ i hi.
+    short-then (short-byte 4 5 _) λ g hg.
+    short-then (short-byte 4 5 _) λ o ho.
+    short-then (short-times (between-true 1 mostGates g (hg .1) .1) (short-gate k (i + g))) λ gs hgs.
+    short-then (short-times (between-true 1 mostOutputs o (ho .1) .1) (short-output (i + g))) λ os hos. short-end 8 _

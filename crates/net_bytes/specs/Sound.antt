@@ -1,0 +1,160 @@
+-- Laws: what the walk guarantees of the net that it gives.
+use mathlib.Core.Path.{_≡_, refl, sym, ap, _∙_, subst}
+use mathlib.Core.Bool.{Bool, true, false, _&&_, false≢true}
+use mathlib.Core.List.{List, [], _∷_}
+use Prim.Native.Nat.{ℕ, zero, suc, _+_, _-_, _*_, _/_, _^_, _≤_, _<_}
+use native.Mathlib.Nat.{div-one}
+use native.Mathlib.Omega.{arith}
+use lib.Count.{ones, ones-le, onesIn}
+use lib.Dec.{leb, ltb, lit≤}
+use lib.ListN.{length, getD}
+use borrow.Author.Tests.{ltb-true, leb-true}
+use Rattle.limits.specs.Limits.{mostCount, mostGates, mostInputs, mostOutputs, mostPins}
+use Rattle.sequences.specs.Member.{_∈_, in-getD}
+use Rattle.net_model.specs.Net.{Net, Pin, Gate, size, gate, pins, nothing, IsGate, IsNode}
+use Rattle.net_model.specs.Checks.{Sound, Fits}
+use Rattle.net_bytes.specs.Reading.{between, got, times, check}
+use Rattle.net_bytes.specs.Walk.{netReader, gateReader, outputReader, netByte, onlyBits, tableByte, tableBytes, pinsFrom, fromBytes, first}
+use Rattle.net_bytes.specs.Readers.{Gives, Each, got-value, then-got, check-got, byte-got, atEnd-got, times-got}
+use Rattle.net_bytes.specs.Stages.{madeGate, fromPinMap, fromWidth, fromMaps, fromSources, fromCounts, fromTable, gate-stages, fromOutMap, fromOutSource, fromOutCounts, output-stages, fromInputs, fromGates, fromSizes, fromGateList, fromOutputList, net-stages}
+use Rattle.net_bytes.specs.Maps.{ones-in, some-one, length-pinsFrom, each-pinsFrom, first-each, table-lt}
+
+pub between-true : (low high b : ℕ) → between low high b ≡ true → (low ≤ b) × (b ≤ high)
+between-true low high b e = go (leb low b) (leb b high) (leb-true low b) (leb-true b high) e
+  where
+    go : (x y : Bool) → (x ≡ true → low ≤ b) → (y ≡ true → b ≤ high) → (x && y) ≡ true → (low ≤ b) × (b ≤ high)
+    go true y f g e = (f refl, g e)
+    go false y f g e = absurd (false≢true e)
+
+pub record PinFacts (nodes : ℕ) (p : Pin) : Type 0 where
+  pub source : p .src < nodes
+  pub count : p .count ≤ mostCount
+
+pub record GateFacts (k nodes : ℕ) (g : Gate) : Type 0 where
+  pub some : 1 ≤ length (g .pins)
+  pub most : length (g .pins) ≤ mostPins
+  pub fits : length (g .pins) ≤ k
+  pub pin : Each (PinFacts nodes) (g .pins)
+  pub table : g .table < 2 ^ (2 ^ length (g .pins))
+
+-- what the walk guarantees of a net
+pub record NetFacts (k : ℕ) (N : Net) : Type 0 where
+  pub inputs-low : 1 ≤ N .inputs
+  pub inputs-high : N .inputs ≤ mostInputs
+  pub gates-low : 1 ≤ length (N .gates)
+  pub gates-high : length (N .gates) ≤ mostGates
+  pub outputs-low : 1 ≤ length (N .outputs)
+  pub outputs-high : length (N .outputs) ≤ mostOutputs
+  pub gate : Each (GateFacts k (size N)) (N .gates)
+  pub output : Each (PinFacts (size N)) (N .outputs)
+
+module _ (k nodes : ℕ) (pos : 0 < nodes) where
+  gate-made : (p r m : ℕ) (s c t : List ℕ) → ones p ≡ m → between 1 63 p ≡ true → leb (ones p) k ≡ true
+      → Each (λ (b : ℕ). ltb b nodes ≡ true) s → Each (λ (b : ℕ). between 1 mostCount b ≡ true) c
+      → length t ≡ tableBytes m → Each (λ (b : ℕ). tableByte m b ≡ true) t
+      → GateFacts k nodes (record { pins = pinsFrom mostPins 0 p r s c; table = fromBytes t })
+  gate-made p r m s c t hm hp hk hs hc ht et =
+      let range = between-true 1 63 p hp in
+      let low = range .0 in
+      let high = range .1 in
+      let digits : ones p ≡ onesIn mostPins p = ones-in mostPins p (omega arith) in
+      let long : length (pinsFrom mostPins 0 p r s c) ≡ ones p = length-pinsFrom mostPins 0 p r s c ∙ ap (onesIn mostPins) (div-one p) ∙ sym digits in
+      let six : ones p ≤ mostPins = ones-le mostPins p (omega arith) in
+      record {
+        some = omega (arith, some-one mostPins p (omega arith) low);
+        most = omega arith;
+        fits = omega (arith, leb-true (ones p) k hk);
+        pin = λ q h. pinFacts q
+            (each-pinsFrom (λ (b : ℕ). b < nodes) (λ (b : ℕ). b ≤ mostCount) pos (lit≤ tt) mostPins 0 p r s c
+            (λ b m. ltb-true b nodes (hs b m)) (λ b m. between-true 1 mostCount b (hc b m) .1) q h);
+        table = rw (long, hm) (table-lt m t ht et);
+      }
+    where
+      pinFacts : (q : Pin) → (q .src < nodes) × (q .count ≤ mostCount) → PinFacts nodes q
+      pinFacts q h = record { source = h .0; count = h .1 }
+
+  pub gate-facts : Gives (gateReader k nodes) (GateFacts k nodes)
+  gate-facts s g end e =
+      let x1 = then-got (netByte 6 (between 1 63) s) (fromPinMap k nodes) g end (sym (gate-stages k nodes s) ∙ e) in
+      let p = x1 .0 in
+      let x2 = then-got (check (leb (ones p) k) 7 (ones p) (x1 .1)) (fromWidth nodes p) g end (x1 .3) in
+      let m = x2 .0 in
+      let x3 = then-got (netByte 6 (onlyBits 8 p) (x2 .1)) (fromMaps nodes p m) g end (x2 .3) in
+      let r = x3 .0 in
+      let x4 = then-got (times m (netByte 6 (λ b. ltb b nodes)) (x3 .1)) (fromSources m p r) g end (x3 .3) in
+      let x5 = then-got (times (ones r) (netByte 6 (between 1 mostCount)) (x4 .1)) (fromCounts m p r (x4 .0)) g end (x4 .3) in
+      let x6 = then-got (times (tableBytes m) (netByte 6 (tableByte m)) (x5 .1)) (fromTable p r (x4 .0) (x5 .0)) g end (x5 .3) in
+      let w = check-got (leb (ones p) k) 7 (ones p) (x1 .1) m (x2 .1) (x2 .2) in
+      let ss = times-got (λ (b : ℕ). ltb b nodes ≡ true) m (netByte 6 (λ b. ltb b nodes)) (byte-got 4 6 (λ b. ltb b nodes)) (x3 .1) (x4 .0) (x4 .1) (x4 .2) in
+      let cs = times-got (λ (b : ℕ). between 1 mostCount b ≡ true) (ones r) (netByte 6 (between 1 mostCount)) (byte-got 4 6 (between 1 mostCount)) (x4 .1) (x5 .0) (x5 .1) (x5 .2) in
+      let ts = times-got (λ (b : ℕ). tableByte m b ≡ true) (tableBytes m) (netByte 6 (tableByte m)) (byte-got 4 6 (tableByte m)) (x5 .1) (x6 .0) (x6 .1) (x6 .2) in
+      let same = got-value (madeGate p r (x4 .0) (x5 .0) (x6 .0)) (x6 .1) g end (x6 .3) in
+      rw (← same) (gate-made p r m (x4 .0) (x5 .0) (x6 .0) (w .1) (byte-got 4 6 (between 1 63) s p (x1 .1) (x1 .2)) (w .0) (ss .1) (cs .1)
+      (ts .0) (ts .1))
+
+  pub output-facts : Gives (outputReader nodes) (PinFacts nodes)
+  output-facts s o end e =
+      let x1 = then-got (netByte 6 (λ b. leb b 1) s) (fromOutMap nodes) o end (sym (output-stages nodes s) ∙ e) in
+      let m = x1 .0 in
+      let x2 = then-got (netByte 6 (λ b. ltb b nodes) (x1 .1)) (fromOutSource m) o end (x1 .3) in
+      let x3 = then-got (times m (netByte 6 (between 1 mostCount)) (x2 .1)) (fromOutCounts (x2 .0)) o end (x2 .3) in
+      let cs = times-got (λ (b : ℕ). between 1 mostCount b ≡ true) m (netByte 6 (between 1 mostCount)) (byte-got 4 6 (between 1 mostCount)) (x2 .1) (x3 .0) (x3 .1) (x3 .2) in
+      let same = got-value (record { src = x2 .0; count = first (x3 .0) }) (x3 .1) o end (x3 .3) in
+      rw (← same) (record {
+        source = ltb-true (x2 .0) nodes (byte-got 4 6 (λ b. ltb b nodes) (x1 .1) (x2 .0) (x2 .1) (x2 .2));
+        count = first-each (λ (b : ℕ). b ≤ mostCount) (x3 .0) (lit≤ tt) (λ b h. between-true 1 mostCount b (cs .1 b h) .1);
+      })
+
+-- what the walk guarantees of the net, and no byte is left
+pub walk-facts : (k : ℕ) (s : List ℕ) (N : Net) (end : List ℕ) → netReader k s ≡ got N end → NetFacts k N × (end ≡ [])
+walk-facts k s N end e =
+    let x1 = then-got (netByte 5 (between 1 mostInputs) s) (fromInputs k) N end (sym (net-stages k s) ∙ e) in
+    let i = x1 .0 in
+    let x2 = then-got (netByte 5 (between 1 mostGates) (x1 .1)) (fromGates k i) N end (x1 .3) in
+    let g = x2 .0 in
+    let x3 = then-got (netByte 5 (between 1 mostOutputs) (x2 .1)) (fromSizes k i g) N end (x2 .3) in
+    let o = x3 .0 in
+    let x4 = then-got (times g (gateReader k (i + g)) (x3 .1)) (fromGateList i g o) N end (x3 .3) in
+    let x5 = then-got (times o (outputReader (i + g)) (x4 .1)) (fromOutputList i (x4 .0)) N end (x4 .3) in
+    let x6 = atEnd-got 8 (record { inputs = i; gates = x4 .0; outputs = x5 .0 }) (x5 .1) N end (x5 .3) in
+    let is = between-true 1 mostInputs i (byte-got 4 5 (between 1 mostInputs) s i (x1 .1) (x1 .2)) in
+    let gr = between-true 1 mostGates g (byte-got 4 5 (between 1 mostGates) (x1 .1) g (x2 .1) (x2 .2)) in
+    let or = between-true 1 mostOutputs o (byte-got 4 5 (between 1 mostOutputs) (x2 .1) o (x3 .1) (x3 .2)) in
+    let il = is .0 in
+    let pos : 0 < i + g = omega arith in
+    let gs = times-got (GateFacts k (i + g)) g (gateReader k (i + g)) (gate-facts k (i + g) pos) (x3 .1) (x4 .0) (x4 .1) (x4 .2) in
+    let os = times-got (PinFacts (i + g)) o (outputReader (i + g)) (output-facts k (i + g) pos) (x4 .1) (x5 .0) (x5 .1) (x5 .2) in
+    let all : i + length (x4 .0) ≡ i + g = ap (λ (n : ℕ). i + n) (gs .0) in
+    let facts : NetFacts k (record { inputs = i; gates = x4 .0; outputs = x5 .0 }) = record {
+      inputs-low = is .0;
+      inputs-high = is .1;
+      gates-low = rw (gs .0) (gr .0);
+      gates-high = rw (gs .0) (gr .1);
+      outputs-low = rw (os .0) (or .0);
+      outputs-high = rw (os .0) (or .1);
+      gate = rw all (gs .1);
+      output = rw all (os .1);
+    } in
+    (subst (NetFacts k) (x6 .0) facts, x6 .1)
+
+module _ (k : ℕ) (s : List ℕ) (N : Net) (end : List ℕ) (e : netReader k s ≡ got N end) where
+  -- the gate with number v
+  pub walk-gate : (v : ℕ) → IsGate N v → GateFacts k (size N) (gate N v)
+  unfolding gate
+  walk-gate v h =
+      let low = h .low in
+      let high = h .high in
+      walk-facts k s N end e .0 .gate (getD (N .gates) (v - N .inputs) nothing) (in-getD (N .gates) (v - N .inputs) nothing (omega arith))
+
+  -- check 6, as far as it speaks of sources, and check 7 hold of the net that the walk gives
+  pub walk-sound : Sound N
+  walk-sound = record {
+    pin = λ v h p m. walk-gate v h .pin p m .source;
+    output = λ o m. walk-facts k s N end e .0 .output o m .source;
+  }
+
+  pub walk-fits : Fits N k
+  walk-fits v h = walk-gate v h .fits
+
+  pub walk-ends : end ≡ []
+  walk-ends = walk-facts k s N end e .1

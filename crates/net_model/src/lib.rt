@@ -1,0 +1,1 @@
+// Definitions and laws only: nets, copies, cones, cuts, tables and runs, in specs/.

@@ -1,0 +1,128 @@
+// Check 10 over a net's wiring, with a rank and an input pin of each gate.
+use limits::PINS;
+use net_marks::all_marked;
+use net_marks::known;
+use net_marks::zero;
+ghost use mathlib.Core.Path.{_≡_};
+ghost use Prim.Native.Nat.{ℕ, _+_, _-_, _*_, _≤_, _<_};
+ghost use lib.ListN.{length, getD};
+ghost use Rattle.net_model.specs.Wired.{Wires};
+ghost use Rattle.sequences.specs.Tests.{First};
+ghost use Rattle.net_marks.specs.Marks.{Known};
+ghost use Rattle.net_reached.specs.Reaching.{Behind, Reaching, ReachGate, ReachSweep, Shut, ReachCheck};
+
+// The first of n pins from place `at` on whose source is known, or n.
+fn first_known(inputs: usize, marks: &[usize], sources: &[usize], at: usize, n: usize) -> usize
+    requires { ⌜ (at + n ≤ length (now sources)) × ((j : ℕ) → j < n → getD (now sources) (at + j) 0 < inputs + length (now marks)) ⌝ }
+    ensures { λ r. ⌜ First (λ j. Known inputs (now (marks .entry)) (getD (now (sources .entry)) (at + j) 0)) n r ⌝ }
+{
+    let mut j = 0;
+    while j < n {
+        let node = sources[at + j];
+        if known(inputs, marks, node) {
+            return j;
+        }
+        j += 1;
+    }
+    n
+}
+
+// The rank of a gate that reads this node: 0 behind an input, else 1 more than the node's.
+fn rank_behind(inputs: usize, gates: usize, ranks: &[usize], node: usize) -> usize
+    requires { ⌜ (node < inputs + length (now ranks)) × (inputs ≤ node → getD (now ranks) (node - inputs) 0 < gates) ⌝ }
+    ensures { λ r. ⌜ Behind inputs (now (ranks .entry)) node r ⌝ }
+{
+    if node < inputs {
+        0
+    } else {
+        ranks[node - inputs] + 1
+    }
+}
+
+// Marks gate g if it reads a known node: 1 if it is newly marked.
+fn reach_gate(
+    inputs: usize,
+    gates: usize,
+    pins: &[usize],
+    sources: &[usize],
+    counts: &[usize],
+    marks: &mut [usize],
+    ranks: &mut [usize],
+    g: usize,
+) -> usize
+    requires { ⌜ Wires inputs gates (now pins) (now sources) (now counts) × (g < gates) × Reaching inputs gates (now pins) (now sources) (now counts) (now marks) (now ranks) ⌝ }
+    ensures { λ r. ⌜ ReachGate inputs gates (now (pins .entry)) (now (sources .entry)) (now (counts .entry)) (now (marks .entry)) (now (marks .exit)) (now (ranks .exit)) g r ⌝ }
+{
+    if marks[g] != 0 {
+        return 0;
+    }
+    let n = pins[g];
+    let j = first_known(inputs, marks, sources, PINS * g, n);
+    if j < n {
+        ranks[g] = rank_behind(inputs, gates, ranks, sources[PINS * g + j]);
+        marks[g] = j + 1;
+        1
+    } else {
+        0
+    }
+}
+
+// One sweep over all gates: how many are newly marked.
+fn reach_sweep(
+    inputs: usize,
+    gates: usize,
+    pins: &[usize],
+    sources: &[usize],
+    counts: &[usize],
+    marks: &mut [usize],
+    ranks: &mut [usize],
+) -> usize
+    requires { ⌜ Wires inputs gates (now pins) (now sources) (now counts) × Reaching inputs gates (now pins) (now sources) (now counts) (now marks) (now ranks) ⌝ }
+    ensures { λ r. ⌜ ReachSweep inputs gates (now (pins .entry)) (now (sources .entry)) (now (counts .entry)) (now (marks .entry)) (now (marks .exit)) (now (ranks .exit)) gates r ⌝ }
+{
+    let mut new = 0;
+    let mut g = 0;
+    while g < gates {
+        let r = reach_gate(inputs, gates, pins, sources, counts, marks, ranks, g);
+        new += r;
+        g += 1;
+    }
+    new
+}
+
+// Sweeps until nothing is newly marked.
+fn reach_all(
+    inputs: usize,
+    gates: usize,
+    pins: &[usize],
+    sources: &[usize],
+    counts: &[usize],
+    marks: &mut [usize],
+    ranks: &mut [usize],
+)
+    requires { ⌜ Wires inputs gates (now pins) (now sources) (now counts) × Reaching inputs gates (now pins) (now sources) (now counts) (now marks) (now ranks) ⌝ }
+    ensures { λ _. ⌜ Reaching inputs gates (now (pins .entry)) (now (sources .entry)) (now (counts .entry)) (now (marks .exit)) (now (ranks .exit)) × ((g : ℕ) → g < gates → Shut inputs (now (pins .entry)) (now (sources .entry)) (now (marks .exit)) g) ⌝ }
+{
+    let mut new = reach_sweep(inputs, gates, pins, sources, counts, marks, ranks);
+    while 0 < new {
+        new = reach_sweep(inputs, gates, pins, sources, counts, marks, ranks);
+    }
+}
+
+// Check 10: whether every gate is reached from an input. Each gate's mark is then 1 more than the place of a pin that reads an input or a gate of smaller rank.
+pub fn check_reached(
+    inputs: usize,
+    gates: usize,
+    pins: &[usize],
+    sources: &[usize],
+    counts: &[usize],
+    marks: &mut [usize],
+    ranks: &mut [usize],
+) -> bool
+    requires { ⌜ Wires inputs gates (now pins) (now sources) (now counts) × (length (now marks) ≡ gates) × (length (now ranks) ≡ gates) ⌝ }
+    ensures { λ r. ⌜ ReachCheck inputs gates (now (pins .entry)) (now (sources .entry)) (now (counts .entry)) (now (marks .exit)) (now (ranks .exit)) r ⌝ }
+{
+    zero(marks);
+    reach_all(inputs, gates, pins, sources, counts, marks, ranks);
+    all_marked(marks, gates)
+}

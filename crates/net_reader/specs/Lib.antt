@@ -1,0 +1,7 @@
+pub mod ReadAnswer
+pub mod NetStored
+pub mod NetStoreLaws
+pub mod NetLaws
+pub mod WalkFacts
+pub mod Lengths
+pub mod ReadWires

@@ -1,0 +1,5 @@
+pub mod RowParts
+pub mod RowLaws
+pub mod PinSpreadLaws
+pub mod GateLaws
+pub mod OutputLaws

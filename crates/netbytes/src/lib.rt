@@ -1,1 +1,0 @@
-// Definitions only: the limits, reading bytes, and the walk over a net record, in specs/.

@@ -1,1 +1,0 @@
-// Definitions only: nets, copies, cones, cuts, tables and runs, in specs/.

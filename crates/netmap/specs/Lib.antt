@@ -1,4 +1,0 @@
-pub mod Answers
-pub mod Mapping
-pub mod Outcome
-pub mod Recording

@@ -1,1 +1,0 @@
-// Definitions only: cover records, the listing's text and the outcomes of map and mark, in specs/.

@@ -1,9 +1,0 @@
-pub mod Table
-pub mod TableLaws
-pub mod Contracts
-pub mod ContractsLaws
-pub mod Visits
-pub mod VisitsLaws
-pub mod Told
-pub mod Roots
-pub mod RootsLaws

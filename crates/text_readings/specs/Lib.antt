@@ -1,0 +1,2 @@
+pub mod ReadingText
+pub mod ReadingTextLaws

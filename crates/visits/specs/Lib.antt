@@ -1,4 +1,0 @@
-pub mod Visits
-pub mod BoundLaws
-pub mod ReadyLaws
-pub mod VisitLaws
