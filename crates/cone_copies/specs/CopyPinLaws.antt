@@ -6,7 +6,8 @@ use lib.ListN.{getD}
 use Rattle.net_model.specs.Net.{Net, Pin}
 use Rattle.net_model.specs.Arrays.{stride}
 use Rattle.net_model.specs.ArrayLaws.{pinAt}
-use Rattle.net_model.specs.Wired.{Wired, wired-gate, wired-pin, pin-wired}
+use Rattle.net_model.specs.Wired.{Wired}
+use Rattle.net_model.specs.WiredLaws.{wired-gate, wired-pin, pin-wired}
 use Rattle.net_model.specs.Copies.{Copy, copy, Feeds}
 use Rattle.net_model.specs.CopyLaws.{copy-path}
 use Rattle.cone_copies.specs.CopyLists.{sourceAt}

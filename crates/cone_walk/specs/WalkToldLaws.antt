@@ -8,7 +8,8 @@ use lib.ListN.{length, getD}
 use Rattle.limits.specs.Limits.{mostGates, mostPins}
 use Rattle.sequences.specs.Member.{_∈_, here, there, not-in-nil, in-equal}
 use Rattle.net_model.specs.Net.{Net}
-use Rattle.net_model.specs.Wired.{Wired, wired-gate}
+use Rattle.net_model.specs.Wired.{Wired}
+use Rattle.net_model.specs.WiredLaws.{wired-gate}
 use Rattle.net_model.specs.Copies.{Copy, copy, Feeds, IsCut, Rising}
 use Rattle.cone_theory.specs.Ranks.{Ranked}
 use Rattle.net_model.specs.Arrays.{copyAt, copiesFrom}

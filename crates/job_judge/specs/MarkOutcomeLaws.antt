@@ -8,7 +8,7 @@ use lib.ListN.{length, getD}
 use Rattle.net_model.specs.Net.{Net}
 use Rattle.net_model.specs.Arrays.{netIn}
 use Rattle.net_model.specs.ArrayLaws.{inputs-netIn, size-netIn, outputs-netIn}
-use Rattle.net_model.specs.Wired.{netIn-wired}
+use Rattle.net_model.specs.WiredLaws.{netIn-wired}
 use Rattle.net_model.specs.Checks.{Passed}
 use Rattle.net_model.specs.Copies.{copy}
 use Rattle.limits.specs.Limits.{mostPeriod}

@@ -9,7 +9,8 @@ use Rattle.integers.specs.Lag.{lag}
 use Rattle.sequences.specs.Member.{_∈_}
 use Rattle.net_model.specs.Net.{Net, IsGate}
 use Rattle.net_model.specs.Arrays.{stride, pinsIn, copiesFrom}
-use Rattle.net_model.specs.Wired.{Wired, wired-gate, gate-wired}
+use Rattle.net_model.specs.Wired.{Wired}
+use Rattle.net_model.specs.WiredLaws.{wired-gate, gate-wired}
 use Rattle.net_model.specs.Checks.{Passed}
 use Rattle.net_model.specs.Copies.{Copy, IsCut, Rising}
 use Rattle.net_model.specs.Tables.{tableOf}

@@ -11,7 +11,8 @@ use lib.Seq.{length-take-le, take-at, getD-take}
 use Rattle.net_model.specs.Net.{Net, Gate}
 use Rattle.net_model.specs.Arrays.{Arrays, stride, pinsIn, gatesIn, netIn}
 use Rattle.net_model.specs.ArrayLaws.{gate-netIn, gateAt, outputs-netIn}
-use Rattle.net_model.specs.Wired.{Wired, netIn-wired}
+use Rattle.net_model.specs.Wired.{Wired}
+use Rattle.net_model.specs.WiredLaws.{netIn-wired}
 use Rattle.net_model.specs.Checks.{Passed}
 use Rattle.limits.specs.Limits.{mostBeyond, mostCount, mostGates, mostNodes, mostPeriod, mostPins, mostPlaces, mostReach, mostTable}
 use Rattle.cone_theory.specs.Ranks.{ranked}

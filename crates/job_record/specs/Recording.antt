@@ -14,7 +14,8 @@ use Rattle.sequences.specs.Member.{_∈_, here, there, not-in-nil}
 use Rattle.net_model.specs.Net.{Net, Pin, IsGate, pins, size}
 use Rattle.net_model.specs.Arrays.{stride, netIn, copyAt}
 use Rattle.net_model.specs.ArrayLaws.{in-copiesFrom, pinAt}
-use Rattle.net_model.specs.Wired.{Wired, netIn-wired, wired-gate, gate-wired, pin-wired}
+use Rattle.net_model.specs.Wired.{Wired}
+use Rattle.net_model.specs.WiredLaws.{netIn-wired, wired-gate, gate-wired, pin-wired}
 use Rattle.net_model.specs.Checks.{Passed}
 use Rattle.limits.specs.Limits.{mostNodes, mostGates, mostPlaces, mostPeriod, coverArea}
 use Rattle.cover_theory.specs.Key.{Entry, entries}

@@ -10,7 +10,8 @@ use lib.Seq.{getD-set-same, getD-set-other}
 use Rattle.net_model.specs.Net.{Net}
 use Rattle.net_model.specs.Arrays.{netIn}
 use Rattle.net_model.specs.ArrayLaws.{outputs-netIn}
-use Rattle.net_model.specs.Wired.{Wired, netIn-wired}
+use Rattle.net_model.specs.Wired.{Wired}
+use Rattle.net_model.specs.WiredLaws.{netIn-wired}
 use Rattle.net_model.specs.Checks.{Passed}
 use Rattle.cover_records.specs.Kept.{Kept}
 use Rattle.net_reader.specs.ReadAnswer.{arraysOf}

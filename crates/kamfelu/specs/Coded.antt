@@ -1,5 +1,4 @@
 -- Definitions: an answer as one whole number: the record's length, the excess or the shift, or minus the refusal's number.
-use mathlib.Core.Path.{_≡_, sym, ap, _∙_}
 use Prim.Native.Nat.{ℕ}
 use lib.IntN.{ℤ, pos, _+ℤ_, _-ℤ_}
 use Rattle.cover_records.specs.Outcomes.{Answer, accepted, turnedBack}
@@ -15,7 +14,3 @@ abbrev pub codedShift : Aligned → ℤ
 codedShift (shifted s) = pos s
 codedShift none = pos noShift
 codedShift (refused n) = pos 0 -ℤ pos n
-
--- the code of an equal answer
-pub coded-as : {a b : Answer} {r : ℤ} → a ≡ b → r ≡ coded b → r ≡ coded a
-coded-as e c = c ∙ ap coded (sym e)

@@ -14,7 +14,8 @@ use Rattle.sequences.specs.Member.{_∈_}
 use Rattle.net_model.specs.Net.{Net, Pin, pins}
 use Rattle.net_model.specs.Arrays.{stride, pinsIn}
 use Rattle.net_model.specs.ArrayLaws.{pinAt, in-pinsIn, pinsIn-in}
-use Rattle.net_model.specs.Wired.{Wires, Wired, wired-gate, gate-wired, wired-pin, pin-wired}
+use Rattle.net_model.specs.Wired.{Wires, Wired}
+use Rattle.net_model.specs.WiredLaws.{wired-gate, gate-wired, wired-pin, pin-wired}
 use Rattle.net_model.specs.Checks.{Leading}
 use Rattle.label_theory.specs.Pins.{OutPath, last, then, out-path}
 use Rattle.sequences.specs.Tests.{Tells}

@@ -7,3 +7,4 @@ pub mod CopyLaws
 pub mod Arrays
 pub mod ArrayLaws
 pub mod Wired
+pub mod WiredLaws

@@ -1,13 +1,10 @@
 -- Definitions: a net whose wiring is kept in arrays, whatever its tables and outputs are kept in. Gate g, counted from 0, is node inputs + g.
-use mathlib.Core.Path.{_≡_, refl, sym, ap, subst, _∙_}
+use mathlib.Core.Path.{_≡_}
 use mathlib.Core.List.{List}
-use Prim.Native.Nat.{ℕ, _+_, _-_, _*_, _≤_, _<_}
-use native.Mathlib.Omega.{arith}
+use Prim.Native.Nat.{ℕ, _+_, _*_, _≤_, _<_}
 use lib.ListN.{length, getD}
-use Rattle.sequences.specs.Member.{_∈_}
-use Rattle.net_model.specs.Net.{Net, Pin, IsGate, IsInput, pins, size}
-use Rattle.net_model.specs.Arrays.{Arrays, netIn, pinsIn, stride}
-use Rattle.net_model.specs.ArrayLaws.{gates-netIn, inputs-netIn, pins-netIn, pinAt, pinsIn-in, in-pinsIn}
+use Rattle.net_model.specs.Net.{Net, pins}
+use Rattle.net_model.specs.Arrays.{pinsIn, stride}
 
 -- The wiring of G gates in arrays: at most `stride` pins a gate, and each source is a node.
 pub record Wires (I G : ℕ) (ps sources counts : List ℕ) : Type 0 where
@@ -22,26 +19,3 @@ pub record Wired (N : Net) (I G : ℕ) (counted sources counts : List ℕ) : Typ
   pub inputs : N .inputs ≡ I
   pub gates : length (N .gates) ≡ G
   pub wiring : (g : ℕ) → g < G → pins N (I + g) ≡ pinsIn sources counts (stride * g) (getD counted g 0)
-
-pub netIn-wired : (a : Arrays) → Wired (netIn a) (a .inputs) (a .gates) (a .pins) (a .sources) (a .counts)
-netIn-wired a = record { inputs = inputs-netIn a; gates = gates-netIn a; wiring = λ g h. pins-netIn a (a .inputs + g) g refl h }
-
-module _ {N : Net} {I G : ℕ} {counted sources counts : List ℕ} (w : Wired N I G counted sources counts) where
-  -- gates by their places
-  pub wired-gate : (g : ℕ) → g < G → IsGate N (I + g)
-  wired-gate g h = let a = w .inputs in let b = w .gates in record { low = omega arith; high = omega arith }
-
-  pub gate-wired : (v : ℕ) → IsGate N v → (g : ℕ) × (g < G) × (v ≡ I + g)
-  gate-wired v i =
-      let a = w .inputs in
-      let b = w .gates in
-      let l = i .low in
-      let h = i .high in
-      (v - I, omega arith, omega arith)
-
-  -- pins by their places
-  pub wired-pin : (g j : ℕ) → g < G → j < getD counted g 0 → pinAt sources counts (stride * g + j) ∈ pins N (I + g)
-  wired-pin g j h k = rw (w .wiring g h) (in-pinsIn sources counts (stride * g) (getD counted g 0) j k)
-
-  pub pin-wired : (g : ℕ) → g < G → (p : Pin) → p ∈ pins N (I + g) → (j : ℕ) × (j < getD counted g 0) × (p ≡ pinAt sources counts (stride * g + j))
-  pin-wired g h p m = pinsIn-in sources counts (stride * g) (getD counted g 0) p (subst (λ (l : List Pin). p ∈ l) (w .wiring g h) m)

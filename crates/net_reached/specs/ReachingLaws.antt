@@ -13,7 +13,8 @@ use Rattle.sequences.specs.Member.{_∈_}
 use Rattle.net_model.specs.Net.{Net, Pin, pins}
 use Rattle.net_model.specs.Arrays.{stride}
 use Rattle.net_model.specs.ArrayLaws.{pinAt}
-use Rattle.net_model.specs.Wired.{Wires, Wired, wired-gate, gate-wired, wired-pin, pin-wired}
+use Rattle.net_model.specs.Wired.{Wires, Wired}
+use Rattle.net_model.specs.WiredLaws.{wired-gate, gate-wired, wired-pin, pin-wired}
 use Rattle.net_model.specs.Checks.{Reached}
 use Rattle.sequences.specs.Tests.{Tells, First}
 use Rattle.net_marks.specs.Marks.{Marked, Known, Grown, unmarked}

@@ -9,7 +9,8 @@ use Rattle.signed.specs.RangeLaws.{back, fits-of, minus-mag}
 use Rattle.cover_records.specs.Outcomes.{MapOutcome}
 use Rattle.job_record.specs.MapAnswers.{answerOf, InRange}
 use Rattle.job_record.specs.declared.Answer.{Answer}
-use Rattle.kamfelu.specs.Coded.{coded, coded-as}
+use Rattle.kamfelu.specs.Coded.{coded}
+use Rattle.kamfelu.specs.CodedLaws.{coded-as}
 use borrow.Author.Needs.{needs}
 use Rattle.kamfelu.proofs.kamfelu_map.Statement.{statement}
 use Rattle.kamfelu.proofs.kamfelu_map.Tie as tie

@@ -9,7 +9,8 @@ use Rattle.signed.specs.RangeLaws.{back, fits-of, minus-mag}
 use Rattle.cover_records.specs.Outcomes.{MarkOutcome}
 use Rattle.job_judge.specs.MarkAnswers.{answerOf, InRange}
 use Rattle.job_judge.specs.declared.Grade.{Grade}
-use Rattle.kamfelu.specs.Coded.{coded, coded-as}
+use Rattle.kamfelu.specs.Coded.{coded}
+use Rattle.kamfelu.specs.CodedLaws.{coded-as}
 use borrow.Author.Needs.{needs}
 use Rattle.kamfelu.proofs.kamfelu_mark.Statement.{statement}
 use Rattle.kamfelu.proofs.kamfelu_mark.Tie as tie
