@@ -3,7 +3,7 @@ use mathlib.Core.Path.{_≡_, refl, sym, ap, subst, _∙_}
 use mathlib.Core.Bool.{cond}
 use mathlib.Core.List.{List, [], _∷_, _++_, append-assoc, append-nil}
 use mathlib.Core.Logic.{_⊎_, inl, inr}
-use Prim.Native.Nat.{ℕ, _+_, _≤_, _<_}
+use Prim.Native.Nat.{ℕ, max, _+_, _≤_, _<_}
 use native.Mathlib.Decide.{ℕ-discrete}
 use native.Mathlib.Numerals.{add-one}
 use native.Mathlib.Omega.{arith}
@@ -15,7 +15,7 @@ use Rattle.limits.specs.Limits.{mostNodes}
 use Rattle.integers.specs.Parts.{up}
 use Rattle.sequences.specs.Member.{_∈_, here, Within, in-append-left, in-append-right, in-append-cases}
 use Rattle.sequences.specs.Zeros.{zeros}
-use Rattle.cover_theory.specs.SharedRegisters.{Tap, tap, larger, longest, overNodes, sharedCount}
+use Rattle.cover_theory.specs.SharedRegisters.{Tap, tap, longest, overNodes, sharedCount}
 use Rattle.cover_theory.specs.SharedLaws.{larger-is, longest-own, longest-other, longest-bound, longest-least, longest-within, longest-same, over-same}
 use Rattle.cover_tally.specs.Tallies.{Tallied, Took}
 
@@ -84,8 +84,8 @@ module _ (u : ℕ) (xs : List Tap) (t : Tap) where
           let z = longest-nil u in
           less e f z g
         where
-          less : up (x .number) ≤ longest u (t ∷ []) → longest u (t ∷ []) ≡ larger (up (t .number)) (longest u []) → longest u [] ≡ 0
-              → (larger (up (t .number)) (longest u []) ≡ up (t .number)) ⊎ (larger (up (t .number)) (longest u []) ≡ longest u []) → up (x .number) ≤ c
+          less : up (x .number) ≤ longest u (t ∷ []) → longest u (t ∷ []) ≡ max (up (t .number)) (longest u []) → longest u [] ≡ 0
+              → (max (up (t .number)) (longest u []) ≡ up (t .number)) ⊎ (max (up (t .number)) (longest u []) ≡ longest u []) → up (x .number) ≤ c
           less e f z (inl g) = omega arith
           less e f z (inr g) = omega arith
 
@@ -130,7 +130,7 @@ module _ (places : List ℕ) (source number : ℕ) where
 same-up : (u source : ℕ) (z : ℤ) (xs : List Tap) → longest u (xs ++ (tap source (pos (up z)) ∷ [])) ≡ longest u (xs ++ (tap source z ∷ []))
 unfolding longest
 same-up u source z [] = refl
-same-up u source z (x ∷ xs) = ap (λ (n : ℕ). cond (eqb (x .source) u) (larger (up (x .number)) n) n) (same-up u source z xs)
+same-up u source z (x ∷ xs) = ap (λ (n : ℕ). cond (eqb (x .source) u) (max (up (x .number)) n) n) (same-up u source z xs)
 
 pub took-up : (source : ℕ) (z : ℤ) (number : ℕ) {a b : List ℕ} → number ≡ up z → Took (tap source (pos number) ∷ []) a b → Took (tap source z ∷ []) a b
 took-up source z number {a} {b} e t =

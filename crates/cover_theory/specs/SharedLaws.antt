@@ -3,16 +3,17 @@ use mathlib.Core.Path.{_≡_, refl, sym, ap, subst, _∙_}
 use mathlib.Core.Bool.{Bool, true, false, cond}
 use mathlib.Core.List.{List, [], _∷_}
 use mathlib.Core.Logic.{_⊎_, inl, inr}
-use Prim.Native.Nat.{ℕ, zero, suc, _+_, _-_, _≤_, _<_, zero-le}
-use native.Mathlib.Nat.{le-trans}
+use Prim.Native.Nat.{ℕ, zero, suc, max, _+_, _-_, _≤_, _<_, zero-le}
+use native.Mathlib.Decide.{decLe}
+use native.Mathlib.Nat.{le-trans, le-max-left, le-max-right, max-eq-left, max-eq-right}
 use native.Mathlib.Omega.{arith}
-use borrow.Author.Tests.{eqb-true, eqb-false, eq-eqb, ne-eqb, ltb-true, ltb-false}
-use lib.Dec.{eqb, ltb}
+use borrow.Author.Tests.{eqb-true, eqb-false, eq-eqb, ne-eqb}
+use lib.Dec.{eqb}
 use lib.IntN.{ℤ, pos, negsuc}
 use lib.Signed.{_≤ℤ_}
 use Rattle.integers.specs.Parts.{ints, up}
 use Rattle.sequences.specs.Member.{_∈_, here, there, Within}
-use Rattle.cover_theory.specs.SharedRegisters.{Tap, larger, longest, overNodes, sharedCount, Serves}
+use Rattle.cover_theory.specs.SharedRegisters.{Tap, longest, overNodes, sharedCount, Serves}
 
 -- ---- the larger of two numbers
 
@@ -21,13 +22,12 @@ pub record Larger (a b c : ℕ) : Type 0 where
   pub right : b ≤ c
   pub one : (c ≡ a) ⊎ (c ≡ b)
 
-pub larger-is : (a b : ℕ) → Larger a b (larger a b)
-unfolding larger
-larger-is a b = go (ltb a b) (ltb-true a b) (ltb-false a b)
+pub larger-is : (a b : ℕ) → Larger a b (max a b)
+larger-is a b = record { left = le-max-left a b; right = le-max-right a b; one = go (decLe a b) }
   where
-    go : (t : Bool) → (t ≡ true → a < b) → (t ≡ false → b ≤ a) → Larger a b (cond t b a)
-    go true f g = let h = f refl in record { left = omega arith; right = omega arith; one = inr refl }
-    go false f g = let h = g refl in record { left = omega arith; right = omega arith; one = inl refl }
+    go : Dec (a ≤ b) → (max a b ≡ a) ⊎ (max a b ≡ b)
+    go (yes h) = inr (max-eq-right h)
+    go (no h) = inl (max-eq-left (omega arith))
 
 -- ---- one node
 
@@ -36,7 +36,7 @@ pub longest-other : (u : ℕ) (t : Tap) (ts : List Tap) → ¬ (t .source ≡ u)
 unfolding longest
 longest-other u t ts n = rw (ne-eqb (t .source) u n)
 
-pub longest-own : (u : ℕ) (t : Tap) (ts : List Tap) → t .source ≡ u → longest u (t ∷ ts) ≡ larger (up (t .number)) (longest u ts)
+pub longest-own : (u : ℕ) (t : Tap) (ts : List Tap) → t .source ≡ u → longest u (t ∷ ts) ≡ max (up (t .number)) (longest u ts)
 unfolding longest
 longest-own u t ts e = rw (eq-eqb (t .source) u e)
 
@@ -68,7 +68,7 @@ longest-attained u (t ∷ ts) = go (eqb (t .source) u) refl (longest-attained u 
     later e (inl z) = inl (e ∙ z)
     later e (inr (x, m, s, q)) = inr (x, there m, s, e ∙ q)
 
-    own : t .source ≡ u → (larger (up (t .number)) (longest u ts) ≡ up (t .number)) ⊎ (larger (up (t .number)) (longest u ts) ≡ longest u ts) → Attained ts → Attained (t ∷ ts)
+    own : t .source ≡ u → (max (up (t .number)) (longest u ts) ≡ up (t .number)) ⊎ (max (up (t .number)) (longest u ts) ≡ longest u ts) → Attained ts → Attained (t ∷ ts)
     own s (inl e) h = inr (t, here refl, s, longest-own u t ts s ∙ e)
     own s (inr e) h = later (longest-own u t ts s ∙ e) h
 

@@ -3,8 +3,8 @@ use mathlib.Core.Path.{_≡_}
 use mathlib.Core.Bool.{cond}
 use mathlib.Core.List.{List, [], _∷_, _++_, map}
 use mathlib.Core.Logic.{_⊎_}
-use Prim.Native.Nat.{ℕ, zero, suc, _+_, _<_}
-use lib.Dec.{eqb, ltb}
+use Prim.Native.Nat.{ℕ, zero, suc, max, _+_, _<_}
+use lib.Dec.{eqb}
 use lib.IntN.{ℤ, pos}
 use lib.ListN.{length}
 use lib.Signed.{_≤ℤ_}
@@ -22,14 +22,10 @@ pub record Tap : Type 0 where
 abbrev pub tap : ℕ → ℤ → Tap
 tap u n = record { source = u; number = n }
 
-unfoldable pub larger : ℕ → ℕ → ℕ
-larger a b = cond (ltb a b) b a
-
 -- "for each node, the largest number on any connection or output it feeds": 0 where it feeds none. A cover has no number below 0; one would count as 0.
 unfoldable pub longest : ℕ → List Tap → ℕ
-unfolding larger
 longest u [] = 0
-longest u (t ∷ ts) = cond (eqb (t .source) u) (larger (up (t .number)) (longest u ts)) (longest u ts)
+longest u (t ∷ ts) = cond (eqb (t .source) u) (max (up (t .number)) (longest u ts)) (longest u ts)
 
 -- "added over all nodes": f added over the nodes below n
 unfoldable pub overNodes : (ℕ → ℕ) → ℕ → ℕ

@@ -9,7 +9,7 @@ use Rattle.net_model.specs.Net.{Net, gate}
 use Rattle.net_model.specs.Copies.{Copy, copy}
 use Rattle.net_model.specs.Tables.{tableOf, pack, valueIn, atLeaf}
 use Rattle.cover_theory.specs.Key.{Entry}
-use Rattle.cover_theory.specs.SharedRegisters.{larger, longest, overNodes, sharedCount}
+use Rattle.cover_theory.specs.SharedRegisters.{longest, overNodes, sharedCount}
 use Rattle.net_bytes.specs.Reading.{Result, got, refused, times}
 use Rattle.net_bytes.specs.Walk.{netReader, gateReader, outputReader, pinsFrom, fromBytes}
 use Rattle.cover_records.specs.CoverBytes.{Record, coverBytes, allLutBytes, lutBytes, depths, leafMap, toBytes, coverReader, lutsReader, lutReader, depthReader, leavesFrom, risingLeaves}
@@ -108,11 +108,11 @@ lags = (refl, refl, refl, refl)
 -- readers of one node share a chain, and inputs are nodes: gate 2 of C, with lag −1, is read through 1 and 2 registers, input 0 through none, 2 and 1
 shared-C : registerCount (record { inputs = 2; gates = netC .gates; outputs = pin 2 0 ∷ pin 2 1 ∷ pin 0 2 ∷ pin 0 1 ∷ [] })
     (record { root = 2; leaves = copy 0 1 ∷ copy 1 1 ∷ []; lag = negsuc 0; table = 8 } ∷ []) ≡ 4
-unfolding registerCount sharedCount overNodes longest larger entryTaps lutTaps leafTaps outputTaps lagIn
+unfolding registerCount sharedCount overNodes longest entryTaps lutTaps leafTaps outputTaps lagIn
 shared-C = refl
 
 -- A's listing, byte for byte
 listing-A : coverText netA 2 labelsA entriesA ≡
     112 ∷ 101 ∷ 114 ∷ 105 ∷ 111 ∷ 100 ∷ 32 ∷ 50 ∷ 32 ∷ 108 ∷ 117 ∷ 116 ∷ 115 ∷ 32 ∷ 50 ∷ 32 ∷ 114 ∷ 101 ∷ 103 ∷ 105 ∷ 115 ∷ 116 ∷ 101 ∷ 114 ∷ 115 ∷ 32 ∷ 49 ∷ 10 ∷ 108 ∷ 117 ∷ 116 ∷ 32 ∷ 50 ∷ 32 ∷ 108 ∷ 97 ∷ 98 ∷ 101 ∷ 108 ∷ 32 ∷ 49 ∷ 32 ∷ 108 ∷ 97 ∷ 103 ∷ 32 ∷ 48 ∷ 32 ∷ 116 ∷ 97 ∷ 98 ∷ 108 ∷ 101 ∷ 32 ∷ 56 ∷ 32 ∷ 108 ∷ 101 ∷ 97 ∷ 118 ∷ 101 ∷ 115 ∷ 32 ∷ 48 ∷ 58 ∷ 48 ∷ 32 ∷ 49 ∷ 58 ∷ 48 ∷ 10 ∷ 108 ∷ 117 ∷ 116 ∷ 32 ∷ 52 ∷ 32 ∷ 108 ∷ 97 ∷ 98 ∷ 101 ∷ 108 ∷ 32 ∷ 50 ∷ 32 ∷ 108 ∷ 97 ∷ 103 ∷ 32 ∷ 48 ∷ 32 ∷ 116 ∷ 97 ∷ 98 ∷ 108 ∷ 101 ∷ 32 ∷ 57 ∷ 32 ∷ 108 ∷ 101 ∷ 97 ∷ 118 ∷ 101 ∷ 115 ∷ 32 ∷ 50 ∷ 58 ∷ 48 ∷ 32 ∷ 52 ∷ 58 ∷ 49 ∷ 10 ∷ []
-unfolding coverText lutLines lutLine leafText tableText hexLow signed decimal digitText reversed digitsLow registerCount sharedCount overNodes longest larger entryTaps lutTaps leafTaps outputTaps lagIn
+unfolding coverText lutLines lutLine leafText tableText hexLow signed decimal digitText reversed digitsLow registerCount sharedCount overNodes longest entryTaps lutTaps leafTaps outputTaps lagIn
 listing-A = refl

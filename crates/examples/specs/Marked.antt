@@ -29,7 +29,7 @@ use Rattle.label_theory.specs.LabelDecision.{start, starting, start-bound}
 use Rattle.cover_theory.specs.Key.{Key, Entry, entries, placeOf, source}
 use Rattle.cover_theory.specs.KeyOf.{entryOf, in-entries}
 use Rattle.cover_theory.specs.Period.{leastPeriod}
-use Rattle.cover_theory.specs.SharedRegisters.{larger, longest, overNodes, sharedCount}
+use Rattle.cover_theory.specs.SharedRegisters.{longest, overNodes, sharedCount}
 use Rattle.limits.specs.Limits.{scratchArea}
 use Rattle.net_bytes.specs.Reading.{got, times}
 use Rattle.net_bytes.specs.Walk.{netReader, gateReader, outputReader, pinsFrom, fromBytes}
@@ -92,7 +92,7 @@ unfolding plan? planned passed? gate netReader gateReader outputReader pinsFrom 
 b-2 = maps bytesB netB 0 _ ((copy 3 0 ∷ []) ∷ (copy 4 0 ∷ []) ∷ []) _ 2 (boundB2 1) (λ R. tt, refl, (tt, refl, refl, refl))
 
 b-2-registers : (K : Key netB 2 1) → registerCount netB (entries K) ≡ 2
-unfolding registerCount sharedCount overNodes longest larger entryTaps lutTaps leafTaps outputTaps lagIn
+unfolding registerCount sharedCount overNodes longest entryTaps lutTaps leafTaps outputTaps lagIn
 b-2-registers K = ap (registerCount netB) (b-2 .cover K)
 
 -- ---- C
