@@ -11,24 +11,24 @@ ghost use Rattle.cone_copies.specs.CopyLists.{copiesIn, SmallWires, memb
 ghost use Rattle.cone_copies.specs.Ordering.{Arranged};
 
 // Whether the copy at place j is this one.
-fn is_copy(nodes: &[usize], backs: &[usize], j: usize, node: usize, back: usize) -> bool
-    requires { ⌜ (j < length (now nodes)) × (j < length (now backs)) ⌝ }
-    ensures { λ r. ⌜ Tells r (copyAt (now (nodes .entry)) (now (backs .entry)) j ≡ copy node back) ⌝ }
+fn is_copy(cone_nodes: &[usize], cone_backs: &[usize], j: usize, node: usize, back: usize) -> bool
+    requires { ⌜ (j < length (now «cone_nodes»)) × (j < length (now «cone_backs»)) ⌝ }
+    ensures { λ r. ⌜ Tells r (copyAt (now («cone_nodes» .entry)) (now («cone_backs» .entry)) j ≡ copy node back) ⌝ }
 {
-    if nodes[j] != node {
+    if cone_nodes[j] != node {
         return false;
     }
-    backs[j] == back
+    cone_backs[j] == back
 }
 
 // The first of n places with this copy, or n.
-pub fn find(nodes: &[usize], backs: &[usize], n: usize, node: usize, back: usize) -> usize
-    requires { ⌜ (n ≤ length (now nodes)) × (n ≤ length (now backs)) ⌝ }
-    ensures { λ r. ⌜ First (λ j. copyAt (now (nodes .entry)) (now (backs .entry)) j ≡ copy node back) n r ⌝ }
+pub fn find(cone_nodes: &[usize], cone_backs: &[usize], n: usize, node: usize, back: usize) -> usize
+    requires { ⌜ (n ≤ length (now «cone_nodes»)) × (n ≤ length (now «cone_backs»)) ⌝ }
+    ensures { λ r. ⌜ First (λ j. copyAt (now («cone_nodes» .entry)) (now («cone_backs» .entry)) j ≡ copy node back) n r ⌝ }
 {
     let mut j = 0;
     while j < n {
-        if is_copy(nodes, backs, j, node, back) {
+        if is_copy(cone_nodes, cone_backs, j, node, back) {
             return j;
         }
         j += 1;
@@ -37,44 +37,44 @@ pub fn find(nodes: &[usize], backs: &[usize], n: usize, node: usize, back: usize
 }
 
 // The copies at places i and j change places.
-fn swap(nodes: &mut [usize], backs: &mut [usize], i: usize, j: usize)
-    requires { ⌜ (i < length (now nodes)) × (j < length (now nodes)) × (i < length (now backs)) × (j < length (now backs)) ⌝ }
-    ensures { λ _. ⌜ Swapped (now (nodes .entry)) (now (backs .entry)) (now (nodes .exit)) (now (backs .exit)) i j ⌝ }
+fn swap(cone_nodes: &mut [usize], cone_backs: &mut [usize], i: usize, j: usize)
+    requires { ⌜ (i < length (now «cone_nodes»)) × (j < length (now «cone_nodes»)) × (i < length (now «cone_backs»)) × (j < length (now «cone_backs»)) ⌝ }
+    ensures { λ _. ⌜ Swapped (now («cone_nodes» .entry)) (now («cone_backs» .entry)) (now («cone_nodes» .exit)) (now («cone_backs» .exit)) i j ⌝ }
 {
-    let node = nodes[i];
-    let back = backs[i];
-    nodes[i] = nodes[j];
-    backs[i] = backs[j];
-    nodes[j] = node;
-    backs[j] = back;
+    let node = cone_nodes[i];
+    let back = cone_backs[i];
+    cone_nodes[i] = cone_nodes[j];
+    cone_backs[i] = cone_backs[j];
+    cone_nodes[j] = node;
+    cone_backs[j] = back;
 }
 
 // The list turned round: it grew from the root, so most sources then come first.
-fn reverse(nodes: &mut [usize], backs: &mut [usize], len: usize)
-    requires { ⌜ Room (now nodes) (now backs) len ⌝ }
-    ensures { λ _. ⌜ Mixed (copiesIn (now (nodes .entry)) (now (backs .entry)) len) (copiesIn (now (nodes .exit)) (now (backs .exit)) len) ⌝ }
+fn reverse(cone_nodes: &mut [usize], cone_backs: &mut [usize], len: usize)
+    requires { ⌜ Room (now «cone_nodes») (now «cone_backs») len ⌝ }
+    ensures { λ _. ⌜ Mixed (copiesIn (now («cone_nodes» .entry)) (now («cone_backs» .entry)) len) (copiesIn (now («cone_nodes» .exit)) (now («cone_backs» .exit)) len) ⌝ }
 {
     let half = len / 2;
     let mut i = 0;
     while i < half {
-        swap(nodes, backs, i, len - 1 - i);
+        swap(cone_nodes, cone_backs, i, len - 1 - i);
         i += 1;
     }
 }
 
 // Whether this copy, where it is listed, is one of the first m.
 fn is_early(
-    nodes: &[usize],
-    backs: &[usize],
+    cone_nodes: &[usize],
+    cone_backs: &[usize],
     len: usize,
     m: usize,
     node: usize,
     back: usize,
 ) -> bool
-    requires { ⌜ (len ≤ length (now nodes)) × (len ≤ length (now backs)) × (m ≤ len) ⌝ }
-    ensures { λ r. ⌜ Tells r (Early (now (nodes .entry)) (now (backs .entry)) len m (copy node back)) ⌝ }
+    requires { ⌜ (len ≤ length (now «cone_nodes»)) × (len ≤ length (now «cone_backs»)) × (m ≤ len) ⌝ }
+    ensures { λ r. ⌜ Tells r (Early (now («cone_nodes» .entry)) (now («cone_backs» .entry)) len m (copy node back)) ⌝ }
 {
-    let at = find(nodes, backs, len, node, back);
+    let at = find(cone_nodes, cone_backs, len, node, back);
     if at < m {
         return true;
     }
@@ -88,21 +88,28 @@ fn is_early(
 fn ready(
     sources: &[usize],
     counts: &[usize],
-    nodes: &[usize],
-    backs: &[usize],
+    cone_nodes: &[usize],
+    cone_backs: &[usize],
     len: usize,
     m: usize,
     g: usize,
     n: usize,
     base: usize,
 ) -> bool
-    requires { ⌜ ((len ≤ length (now nodes)) × (len ≤ length (now backs)) × (m ≤ len)) × ((j : ℕ) → j < n → Place (now sources) (now counts) g j) × (g ≤ members) × (base ≤ most * members) ⌝ }
-    ensures { λ r. ⌜ Tells r (Ready (now (sources .entry)) (now (counts .entry)) (now (nodes .entry)) (now (backs .entry)) len m g n base) ⌝ }
+    requires { ⌜ ((len ≤ length (now «cone_nodes»)) × (len ≤ length (now «cone_backs»)) × (m ≤ len)) × ((j : ℕ) → j < n → Place (now sources) (now counts) g j) × (g ≤ members) × (base ≤ most * members) ⌝ }
+    ensures { λ r. ⌜ Tells r (Ready (now (sources .entry)) (now (counts .entry)) (now («cone_nodes» .entry)) (now («cone_backs» .entry)) len m g n base) ⌝ }
 {
     let mut j = 0;
     while j < n {
         let at = PINS * g + j;
-        if !is_early(nodes, backs, len, m, sources[at], base + counts[at]) {
+        if !is_early(
+            cone_nodes,
+            cone_backs,
+            len,
+            m,
+            sources[at],
+            base + counts[at],
+        ) {
             return false;
         }
         j += 1;
@@ -117,18 +124,28 @@ fn next_ready(
     pins: &[usize],
     sources: &[usize],
     counts: &[usize],
-    nodes: &[usize],
-    backs: &[usize],
+    cone_nodes: &[usize],
+    cone_backs: &[usize],
     len: usize,
     m: usize,
 ) -> usize
-    requires { ⌜ SmallWires inputs gates (now pins) (now sources) (now counts) × Room (now nodes) (now backs) len × Bounded inputs gates (copiesIn (now nodes) (now backs) len) × (m ≤ len) ⌝ }
-    ensures { λ r. ⌜ First (λ q. (m ≤ q) × ReadyCopy inputs (now (pins .entry)) (now (sources .entry)) (now (counts .entry)) (now (nodes .entry)) (now (backs .entry)) len m (copyAt (now (nodes .entry)) (now (backs .entry)) q)) len r ⌝ }
+    requires { ⌜ SmallWires inputs gates (now pins) (now sources) (now counts) × Room (now «cone_nodes») (now «cone_backs») len × Bounded inputs gates (copiesIn (now «cone_nodes») (now «cone_backs») len) × (m ≤ len) ⌝ }
+    ensures { λ r. ⌜ First (λ q. (m ≤ q) × ReadyCopy inputs (now (pins .entry)) (now (sources .entry)) (now (counts .entry)) (now («cone_nodes» .entry)) (now («cone_backs» .entry)) len m (copyAt (now («cone_nodes» .entry)) (now («cone_backs» .entry)) q)) len r ⌝ }
 {
     let mut q = m;
     while q < len {
-        let g = nodes[q] - inputs;
-        if ready(sources, counts, nodes, backs, len, m, g, pins[g], backs[q]) {
+        let g = cone_nodes[q] - inputs;
+        if ready(
+            sources,
+            counts,
+            cone_nodes,
+            cone_backs,
+            len,
+            m,
+            g,
+            pins[g],
+            cone_backs[q],
+        ) {
             return q;
         }
         q += 1;
@@ -143,20 +160,30 @@ fn select(
     pins: &[usize],
     sources: &[usize],
     counts: &[usize],
-    nodes: &mut [usize],
-    backs: &mut [usize],
+    cone_nodes: &mut [usize],
+    cone_backs: &mut [usize],
     len: usize,
 )
-    requires { ⌜ SmallWires inputs gates (now pins) (now sources) (now counts) × Room (now nodes) (now backs) len × Bounded inputs gates (copiesIn (now nodes) (now backs) len) ⌝ }
-    ensures { λ _. ⌜ Arranged inputs gates (now (pins .entry)) (now (sources .entry)) (now (counts .entry)) (copiesIn (now (nodes .entry)) (now (backs .entry)) len) (copiesIn (now (nodes .exit)) (now (backs .exit)) len) ⌝ }
+    requires { ⌜ SmallWires inputs gates (now pins) (now sources) (now counts) × Room (now «cone_nodes») (now «cone_backs») len × Bounded inputs gates (copiesIn (now «cone_nodes») (now «cone_backs») len) ⌝ }
+    ensures { λ _. ⌜ Arranged inputs gates (now (pins .entry)) (now (sources .entry)) (now (counts .entry)) (copiesIn (now («cone_nodes» .entry)) (now («cone_backs» .entry)) len) (copiesIn (now («cone_nodes» .exit)) (now («cone_backs» .exit)) len) ⌝ }
 {
     let mut m = 0;
     while m < len {
-        let q = next_ready(inputs, gates, pins, sources, counts, nodes, backs, len, m);
+        let q = next_ready(
+            inputs,
+            gates,
+            pins,
+            sources,
+            counts,
+            cone_nodes,
+            cone_backs,
+            len,
+            m,
+        );
         if len <= q {
             return;
         }
-        swap(nodes, backs, m, q);
+        swap(cone_nodes, cone_backs, m, q);
         m += 1;
     }
 }
@@ -168,13 +195,22 @@ pub fn arrange(
     pins: &[usize],
     sources: &[usize],
     counts: &[usize],
-    nodes: &mut [usize],
-    backs: &mut [usize],
+    cone_nodes: &mut [usize],
+    cone_backs: &mut [usize],
     len: usize,
 )
-    requires { ⌜ SmallWires inputs gates (now pins) (now sources) (now counts) × Room (now nodes) (now backs) len × Bounded inputs gates (copiesIn (now nodes) (now backs) len) ⌝ }
-    ensures { λ _. ⌜ Arranged inputs gates (now (pins .entry)) (now (sources .entry)) (now (counts .entry)) (copiesIn (now (nodes .entry)) (now (backs .entry)) len) (copiesIn (now (nodes .exit)) (now (backs .exit)) len) ⌝ }
+    requires { ⌜ SmallWires inputs gates (now pins) (now sources) (now counts) × Room (now «cone_nodes») (now «cone_backs») len × Bounded inputs gates (copiesIn (now «cone_nodes») (now «cone_backs») len) ⌝ }
+    ensures { λ _. ⌜ Arranged inputs gates (now (pins .entry)) (now (sources .entry)) (now (counts .entry)) (copiesIn (now («cone_nodes» .entry)) (now («cone_backs» .entry)) len) (copiesIn (now («cone_nodes» .exit)) (now («cone_backs» .exit)) len) ⌝ }
 {
-    reverse(nodes, backs, len);
-    select(inputs, gates, pins, sources, counts, nodes, backs, len);
+    reverse(cone_nodes, cone_backs, len);
+    select(
+        inputs,
+        gates,
+        pins,
+        sources,
+        counts,
+        cone_nodes,
+        cone_backs,
+        len,
+    );
 }

@@ -16,33 +16,33 @@ enum Side {
 }
 
 // The leaf at place j, by node, then by d.
-fn compare(nodes: &[usize], backs: &[usize], j: usize, node: usize, back: usize) -> Side
-    requires { ⌜ (j < length (now nodes)) × (j < length (now backs)) ⌝ }
-    ensures { λ r. ⌜ Seen (copy node back) (copyAt (now (nodes .entry)) (now (backs .entry)) j) r ⌝ }
+fn compare(leaf_nodes: &[usize], leaf_backs: &[usize], j: usize, node: usize, back: usize) -> Side
+    requires { ⌜ (j < length (now «leaf_nodes»)) × (j < length (now «leaf_backs»)) ⌝ }
+    ensures { λ r. ⌜ Seen (copy node back) (copyAt (now («leaf_nodes» .entry)) (now («leaf_backs» .entry)) j) r ⌝ }
 {
-    if node < nodes[j] {
+    if node < leaf_nodes[j] {
         return Side::Beyond;
     }
-    if nodes[j] < node {
+    if leaf_nodes[j] < node {
         return Side::Before;
     }
-    if back < backs[j] {
+    if back < leaf_backs[j] {
         return Side::Beyond;
     }
-    if backs[j] == back {
+    if leaf_backs[j] == back {
         return Side::Same;
     }
     Side::Before
 }
 
 // The place of the copy among n leaves, or n. Of leaves that do not rise only those up to the first one beyond the copy count, and none behind it is read.
-pub fn seek(nodes: &[usize], backs: &[usize], n: usize, node: usize, back: usize) -> usize
-    requires { ⌜ Readable (now nodes) (now backs) n (copy node back) ⌝ }
-    ensures { λ r. ⌜ r ≡ seekOf (copiesIn (now (nodes .entry)) (now (backs .entry)) n) (copy node back) ⌝ }
+pub fn seek(leaf_nodes: &[usize], leaf_backs: &[usize], n: usize, node: usize, back: usize) -> usize
+    requires { ⌜ Readable (now «leaf_nodes») (now «leaf_backs») n (copy node back) ⌝ }
+    ensures { λ r. ⌜ r ≡ seekOf (copiesIn (now («leaf_nodes» .entry)) (now («leaf_backs» .entry)) n) (copy node back) ⌝ }
 {
     let mut j = 0;
     while j < n {
-        let s = compare(nodes, backs, j, node, back);
+        let s = compare(leaf_nodes, leaf_backs, j, node, back);
         match s {
             Side::Before => {}
             Side::Same => return j,

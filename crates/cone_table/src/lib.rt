@@ -17,21 +17,21 @@ fn source_word(
     leaf_nodes: &[usize],
     leaf_backs: &[usize],
     n: usize,
-    nodes: &[usize],
-    backs: &[usize],
+    cone_nodes: &[usize],
+    cone_backs: &[usize],
     len: usize,
     words: &[u64],
     node: usize,
     back: usize,
 ) -> u64
-    requires { ⌜ (n ≤ mostPins) × (n ≤ length (now «leaf_nodes»)) × (n ≤ length (now «leaf_backs»)) × (len ≤ length (now nodes)) × (len ≤ length (now backs)) × (len ≤ length (now words)) × Rising (copiesIn (now «leaf_nodes») (now «leaf_backs») n) ⌝ }
-    ensures { λ r. ⌜ Carries (copiesIn (now («leaf_nodes» .entry)) (now («leaf_backs» .entry)) n) (copiesIn (now (nodes .entry)) (now (backs .entry)) len) (now (words .entry)) (copy node back) r ⌝ }
+    requires { ⌜ (n ≤ mostPins) × (n ≤ length (now «leaf_nodes»)) × (n ≤ length (now «leaf_backs»)) × (len ≤ length (now «cone_nodes»)) × (len ≤ length (now «cone_backs»)) × (len ≤ length (now words)) × Rising (copiesIn (now «leaf_nodes») (now «leaf_backs») n) ⌝ }
+    ensures { λ r. ⌜ Carries (copiesIn (now («leaf_nodes» .entry)) (now («leaf_backs» .entry)) n) (copiesIn (now («cone_nodes» .entry)) (now («cone_backs» .entry)) len) (now (words .entry)) (copy node back) r ⌝ }
 {
     let leaf = seek(leaf_nodes, leaf_backs, n, node, back);
     if leaf < n {
         return cone_words::leaf_word(leaf);
     }
-    let at = find(nodes, backs, len, node, back);
+    let at = find(cone_nodes, cone_backs, len, node, back);
     if at < len { words[at] } else { 0 }
 }
 
@@ -42,16 +42,16 @@ fn gather(
     leaf_nodes: &[usize],
     leaf_backs: &[usize],
     n: usize,
-    nodes: &[usize],
-    backs: &[usize],
+    cone_nodes: &[usize],
+    cone_backs: &[usize],
     len: usize,
     words: &[u64],
     g: usize,
     m: usize,
     base: usize,
 ) -> [u64; PINS]
-    requires { ⌜ ((n ≤ mostPins) × (n ≤ length (now «leaf_nodes»)) × (n ≤ length (now «leaf_backs»)) × (len ≤ length (now nodes)) × (len ≤ length (now backs)) × (len ≤ length (now words)) × Rising (copiesIn (now «leaf_nodes») (now «leaf_backs») n)) × ((j : ℕ) → j < m → Place (now sources) (now counts) g j) × (g ≤ members) × (m ≤ mostPins) × (base ≤ most * members) ⌝ }
-    ensures { λ r. ⌜ (m ≤ length r) × ((j : ℕ) → j < m → Carries (copiesIn (now («leaf_nodes» .entry)) (now («leaf_backs» .entry)) n) (copiesIn (now (nodes .entry)) (now (backs .entry)) len) (now (words .entry)) (sourceAt (now (sources .entry)) (now (counts .entry)) g base j) (getD r j 0)) ⌝ }
+    requires { ⌜ ((n ≤ mostPins) × (n ≤ length (now «leaf_nodes»)) × (n ≤ length (now «leaf_backs»)) × (len ≤ length (now «cone_nodes»)) × (len ≤ length (now «cone_backs»)) × (len ≤ length (now words)) × Rising (copiesIn (now «leaf_nodes») (now «leaf_backs») n)) × ((j : ℕ) → j < m → Place (now sources) (now counts) g j) × (g ≤ members) × (m ≤ mostPins) × (base ≤ most * members) ⌝ }
+    ensures { λ r. ⌜ (m ≤ length r) × ((j : ℕ) → j < m → Carries (copiesIn (now («leaf_nodes» .entry)) (now («leaf_backs» .entry)) n) (copiesIn (now («cone_nodes» .entry)) (now («cone_backs» .entry)) len) (now (words .entry)) (sourceAt (now (sources .entry)) (now (counts .entry)) g base j) (getD r j 0)) ⌝ }
 {
     let mut fed = [0u64; PINS];
     let mut j = 0;
@@ -61,8 +61,8 @@ fn gather(
             leaf_nodes,
             leaf_backs,
             n,
-            nodes,
-            backs,
+            cone_nodes,
+            cone_backs,
             len,
             words,
             sources[at],
@@ -84,16 +84,16 @@ fn copy_word(
     leaf_nodes: &[usize],
     leaf_backs: &[usize],
     n: usize,
-    nodes: &[usize],
-    backs: &[usize],
+    cone_nodes: &[usize],
+    cone_backs: &[usize],
     len: usize,
     words: &[u64],
     p: usize,
 ) -> u64
-    requires { ⌜ Given inputs gates (now pins) (now sources) (now counts) (now tables) (now «leaf_nodes») (now «leaf_backs») n (now nodes) (now backs) len × (len ≤ length (now words)) × (p < len) ⌝ }
-    ensures { λ r. ⌜ WordAt inputs (now (pins .entry)) (now (sources .entry)) (now (counts .entry)) (now (tables .entry)) (copiesIn (now («leaf_nodes» .entry)) (now («leaf_backs» .entry)) n) (now (nodes .entry)) (now (backs .entry)) p (now (words .entry)) (2 ^ n) r ⌝ }
+    requires { ⌜ Given inputs gates (now pins) (now sources) (now counts) (now tables) (now «leaf_nodes») (now «leaf_backs») n (now «cone_nodes») (now «cone_backs») len × (len ≤ length (now words)) × (p < len) ⌝ }
+    ensures { λ r. ⌜ WordAt inputs (now (pins .entry)) (now (sources .entry)) (now (counts .entry)) (now (tables .entry)) (copiesIn (now («leaf_nodes» .entry)) (now («leaf_backs» .entry)) n) (now («cone_nodes» .entry)) (now («cone_backs» .entry)) p (now (words .entry)) (2 ^ n) r ⌝ }
 {
-    let g = nodes[p] - inputs;
+    let g = cone_nodes[p] - inputs;
     let m = pins[g];
     let fed = gather(
         sources,
@@ -101,13 +101,13 @@ fn copy_word(
         leaf_nodes,
         leaf_backs,
         n,
-        nodes,
-        backs,
+        cone_nodes,
+        cone_backs,
         p,
         words,
         g,
         m,
-        backs[p],
+        cone_backs[p],
     );
     cone_words::compose(tables[g], fed, m, 1 << n)
 }
@@ -123,12 +123,12 @@ fn fill_words(
     leaf_nodes: &[usize],
     leaf_backs: &[usize],
     n: usize,
-    nodes: &[usize],
-    backs: &[usize],
+    cone_nodes: &[usize],
+    cone_backs: &[usize],
     len: usize,
 ) -> [u64; COPIES]
-    requires { ⌜ Given inputs gates (now pins) (now sources) (now counts) (now tables) (now «leaf_nodes») (now «leaf_backs») n (now nodes) (now backs) len ⌝ }
-    ensures { λ r. ⌜ (length r ≡ members) × WordsSettled inputs gates (now (pins .entry)) (now (sources .entry)) (now (counts .entry)) (now (tables .entry)) (copiesIn (now («leaf_nodes» .entry)) (now («leaf_backs» .entry)) n) (now (nodes .entry)) (now (backs .entry)) len r (2 ^ n) len ⌝ }
+    requires { ⌜ Given inputs gates (now pins) (now sources) (now counts) (now tables) (now «leaf_nodes») (now «leaf_backs») n (now «cone_nodes») (now «cone_backs») len ⌝ }
+    ensures { λ r. ⌜ (length r ≡ members) × WordsSettled inputs gates (now (pins .entry)) (now (sources .entry)) (now (counts .entry)) (now (tables .entry)) (copiesIn (now («leaf_nodes» .entry)) (now («leaf_backs» .entry)) n) (now («cone_nodes» .entry)) (now («cone_backs» .entry)) len r (2 ^ n) len ⌝ }
 {
     let mut words = [0u64; COPIES];
     let mut p = 0;
@@ -143,8 +143,8 @@ fn fill_words(
             leaf_nodes,
             leaf_backs,
             n,
-            nodes,
-            backs,
+            cone_nodes,
+            cone_backs,
             len,
             &words,
             p,
@@ -172,8 +172,8 @@ pub fn table(
     requires { ⌜ Given inputs gates (now pins) (now sources) (now counts) (now tables) (now «leaf_nodes») (now «leaf_backs») n (cone .nodes) (cone .backs) (cone .len) × (g < gates) ⌝ }
     ensures { λ r. ⌜ TableOver inputs gates (now (pins .entry)) (now (sources .entry)) (now (counts .entry)) (now (tables .entry)) (copiesIn (now («leaf_nodes» .entry)) (now («leaf_backs» .entry)) n) (copiesIn (cone .nodes) (cone .backs) (cone .len)) (inputs + g) r ⌝ }
 {
-    let nodes = cone.nodes;
-    let backs = cone.backs;
+    let cone_nodes = cone.nodes;
+    let cone_backs = cone.backs;
     let len = cone.len;
     let words = fill_words(
         inputs,
@@ -185,10 +185,10 @@ pub fn table(
         leaf_nodes,
         leaf_backs,
         n,
-        &nodes,
-        &backs,
+        &cone_nodes,
+        &cone_backs,
         len,
     );
-    let at = find(&nodes, &backs, len, inputs + g, 0);
+    let at = find(&cone_nodes, &cone_backs, len, inputs + g, 0);
     if at < len { words[at] } else { 0 }
 }

@@ -38,14 +38,14 @@ fn visit(
     leaf_backs: &[usize],
     n: usize,
     limit: usize,
-    nodes: &mut [usize],
-    backs: &mut [usize],
+    cone_nodes: &mut [usize],
+    cone_backs: &mut [usize],
     len: usize,
     node: usize,
     back: usize,
 ) -> usize
-    requires { ⌜ (n ≤ length (now «leaf_nodes»)) × (n ≤ length (now «leaf_backs»)) × (limit ≤ members) × Room (now nodes) (now backs) len × Rising (copiesIn (now «leaf_nodes») (now «leaf_backs») n) ⌝ }
-    ensures { λ r. ⌜ Visit inputs limit (copiesIn (now («leaf_nodes» .entry)) (now («leaf_backs» .entry)) n) (copiesIn (now (nodes .entry)) (now (backs .entry)) len) (copy node back) r (copiesIn (now (nodes .exit)) (now (backs .exit)) r) ⌝ }
+    requires { ⌜ (n ≤ length (now «leaf_nodes»)) × (n ≤ length (now «leaf_backs»)) × (limit ≤ members) × Room (now «cone_nodes») (now «cone_backs») len × Rising (copiesIn (now «leaf_nodes») (now «leaf_backs») n) ⌝ }
+    ensures { λ r. ⌜ Visit inputs limit (copiesIn (now («leaf_nodes» .entry)) (now («leaf_backs» .entry)) n) (copiesIn (now («cone_nodes» .entry)) (now («cone_backs» .entry)) len) (copy node back) r (copiesIn (now («cone_nodes» .exit)) (now («cone_backs» .exit)) r) ⌝ }
 {
     let leaf = seek(leaf_nodes, leaf_backs, n, node, back);
     if leaf < n {
@@ -54,15 +54,15 @@ fn visit(
     if node < inputs {
         return 0;
     }
-    let at = find(nodes, backs, len, node, back);
+    let at = find(cone_nodes, cone_backs, len, node, back);
     if at < len {
         return len;
     }
     if limit <= len {
         return 0;
     }
-    nodes[len] = node;
-    backs[len] = back;
+    cone_nodes[len] = node;
+    cone_backs[len] = back;
     len + 1
 }
 
@@ -77,14 +77,14 @@ fn expand(
     leaf_backs: &[usize],
     n: usize,
     limit: usize,
-    nodes: &mut [usize],
-    backs: &mut [usize],
+    cone_nodes: &mut [usize],
+    cone_backs: &mut [usize],
     len: usize,
     g: usize,
     back: usize,
 ) -> usize
-    requires { ⌜ SmallWires inputs gates (now pins) (now sources) (now counts) × Leaves gates (now «leaf_nodes») (now «leaf_backs») n limit × Room (now nodes) (now backs) len × Bounded inputs gates (copiesIn (now nodes) (now backs) len) × (g < gates) × (back + most ≤ most * len) ⌝ }
-    ensures { λ r. ⌜ Expanded inputs gates (now (pins .entry)) (now (sources .entry)) (now (counts .entry)) (copiesIn (now («leaf_nodes» .entry)) (now («leaf_backs» .entry)) n) (copiesIn (now (nodes .entry)) (now (backs .entry)) len) g back r (copiesIn (now (nodes .exit)) (now (backs .exit)) r) ⌝ }
+    requires { ⌜ SmallWires inputs gates (now pins) (now sources) (now counts) × Leaves gates (now «leaf_nodes») (now «leaf_backs») n limit × Room (now «cone_nodes») (now «cone_backs») len × Bounded inputs gates (copiesIn (now «cone_nodes») (now «cone_backs») len) × (g < gates) × (back + most ≤ most * len) ⌝ }
+    ensures { λ r. ⌜ Expanded inputs gates (now (pins .entry)) (now (sources .entry)) (now (counts .entry)) (copiesIn (now («leaf_nodes» .entry)) (now («leaf_backs» .entry)) n) (copiesIn (now («cone_nodes» .entry)) (now («cone_backs» .entry)) len) g back r (copiesIn (now («cone_nodes» .exit)) (now («cone_backs» .exit)) r) ⌝ }
 {
     let m = pins[g];
     let mut size = len;
@@ -97,8 +97,8 @@ fn expand(
             leaf_backs,
             n,
             limit,
-            nodes,
-            backs,
+            cone_nodes,
+            cone_backs,
             size,
             sources[at],
             back + counts[at],
@@ -123,17 +123,17 @@ fn grow(
     leaf_backs: &[usize],
     n: usize,
     limit: usize,
-    nodes: &mut [usize],
-    backs: &mut [usize],
+    cone_nodes: &mut [usize],
+    cone_backs: &mut [usize],
 ) -> usize
-    requires { ⌜ SmallWires inputs gates (now pins) (now sources) (now counts) × Leaves gates (now «leaf_nodes») (now «leaf_backs») n limit × Room (now nodes) (now backs) 1 × Bounded inputs gates (copiesIn (now nodes) (now backs) 1) ⌝ }
-    ensures { λ r. ⌜ Grown inputs gates (now (pins .entry)) (now (sources .entry)) (now (counts .entry)) (copiesIn (now («leaf_nodes» .entry)) (now («leaf_backs» .entry)) n) (copiesIn (now (nodes .entry)) (now (backs .entry)) 1) r (copiesIn (now (nodes .exit)) (now (backs .exit)) r) ⌝ }
+    requires { ⌜ SmallWires inputs gates (now pins) (now sources) (now counts) × Leaves gates (now «leaf_nodes») (now «leaf_backs») n limit × Room (now «cone_nodes») (now «cone_backs») 1 × Bounded inputs gates (copiesIn (now «cone_nodes») (now «cone_backs») 1) ⌝ }
+    ensures { λ r. ⌜ Grown inputs gates (now (pins .entry)) (now (sources .entry)) (now (counts .entry)) (copiesIn (now («leaf_nodes» .entry)) (now («leaf_backs» .entry)) n) (copiesIn (now («cone_nodes» .entry)) (now («cone_backs» .entry)) 1) r (copiesIn (now («cone_nodes» .exit)) (now («cone_backs» .exit)) r) ⌝ }
 {
     let mut len = 1;
     let mut at = 0;
     while at < len {
-        let node = nodes[at];
-        let back = backs[at];
+        let node = cone_nodes[at];
+        let back = cone_backs[at];
         let r = expand(
             inputs,
             gates,
@@ -144,8 +144,8 @@ fn grow(
             leaf_backs,
             n,
             limit,
-            nodes,
-            backs,
+            cone_nodes,
+            cone_backs,
             len,
             node - inputs,
             back,
@@ -207,19 +207,19 @@ fn is_touched(
     pins: &[usize],
     sources: &[usize],
     counts: &[usize],
-    nodes: &[usize],
-    backs: &[usize],
+    cone_nodes: &[usize],
+    cone_backs: &[usize],
     len: usize,
     node: usize,
     back: usize,
 ) -> bool
-    requires { ⌜ SmallWires inputs gates (now pins) (now sources) (now counts) × Room (now nodes) (now backs) len × Bounded inputs gates (copiesIn (now nodes) (now backs) len) ⌝ }
-    ensures { λ r. ⌜ Tells r (Touched inputs (now (pins .entry)) (now (sources .entry)) (now (counts .entry)) (now (nodes .entry)) (now (backs .entry)) len (copy node back)) ⌝ }
+    requires { ⌜ SmallWires inputs gates (now pins) (now sources) (now counts) × Room (now «cone_nodes») (now «cone_backs») len × Bounded inputs gates (copiesIn (now «cone_nodes») (now «cone_backs») len) ⌝ }
+    ensures { λ r. ⌜ Tells r (Touched inputs (now (pins .entry)) (now (sources .entry)) (now (counts .entry)) (now («cone_nodes» .entry)) (now («cone_backs» .entry)) len (copy node back)) ⌝ }
 {
     let mut p = 0;
     while p < len {
-        let g = nodes[p] - inputs;
-        if is_fed(sources, counts, g, pins[g], backs[p], node, back) {
+        let g = cone_nodes[p] - inputs;
+        if is_fed(sources, counts, g, pins[g], cone_backs[p], node, back) {
             return true;
         }
         p += 1;
@@ -237,12 +237,12 @@ fn all_touched(
     leaf_nodes: &[usize],
     leaf_backs: &[usize],
     n: usize,
-    nodes: &[usize],
-    backs: &[usize],
+    cone_nodes: &[usize],
+    cone_backs: &[usize],
     len: usize,
 ) -> bool
-    requires { ⌜ SmallWires inputs gates (now pins) (now sources) (now counts) × (n ≤ length (now «leaf_nodes»)) × (n ≤ length (now «leaf_backs»)) × Room (now nodes) (now backs) len × Bounded inputs gates (copiesIn (now nodes) (now backs) len) ⌝ }
-    ensures { λ r. ⌜ Tells r ((i : ℕ) → i < n → Touched inputs (now (pins .entry)) (now (sources .entry)) (now (counts .entry)) (now (nodes .entry)) (now (backs .entry)) len (copyAt (now («leaf_nodes» .entry)) (now («leaf_backs» .entry)) i)) ⌝ }
+    requires { ⌜ SmallWires inputs gates (now pins) (now sources) (now counts) × (n ≤ length (now «leaf_nodes»)) × (n ≤ length (now «leaf_backs»)) × Room (now «cone_nodes») (now «cone_backs») len × Bounded inputs gates (copiesIn (now «cone_nodes») (now «cone_backs») len) ⌝ }
+    ensures { λ r. ⌜ Tells r ((i : ℕ) → i < n → Touched inputs (now (pins .entry)) (now (sources .entry)) (now (counts .entry)) (now («cone_nodes» .entry)) (now («cone_backs» .entry)) len (copyAt (now («leaf_nodes» .entry)) (now («leaf_backs» .entry)) i)) ⌝ }
 {
     let mut leaf = 0;
     while leaf < n {
@@ -252,8 +252,8 @@ fn all_touched(
             pins,
             sources,
             counts,
-            nodes,
-            backs,
+            cone_nodes,
+            cone_backs,
             len,
             leaf_nodes[leaf],
             leaf_backs[leaf],
@@ -280,19 +280,19 @@ pub fn walk(
     requires { ⌜ SmallWires inputs gates (now pins) (now sources) (now counts) × (n ≤ mostPins) × (n ≤ length (now «leaf_nodes»)) × (n ≤ length (now «leaf_backs»)) × (g < gates) × Rising (copiesIn (now «leaf_nodes») (now «leaf_backs») n) ⌝ }
     ensures { λ r. ⌜ Walk inputs gates (now (pins .entry)) (now (sources .entry)) (now (counts .entry)) (now («leaf_nodes» .entry)) (now («leaf_backs» .entry)) n g r ⌝ }
 {
-    let mut nodes = [0usize; COPIES];
-    let mut backs = [0usize; COPIES];
+    let mut cone_nodes = [0usize; COPIES];
+    let mut cone_backs = [0usize; COPIES];
     let root = inputs + g;
     let leaf = seek(leaf_nodes, leaf_backs, n, root, 0);
     if leaf < n {
         return Cone {
             verdict: Told::NoCut,
-            nodes: nodes,
-            backs: backs,
+            nodes: cone_nodes,
+            backs: cone_backs,
             len: 0,
         };
     }
-    nodes[0] = root;
+    cone_nodes[0] = root;
     let len = grow(
         inputs,
         gates,
@@ -303,14 +303,14 @@ pub fn walk(
         leaf_backs,
         n,
         n * gates,
-        &mut nodes,
-        &mut backs,
+        &mut cone_nodes,
+        &mut cone_backs,
     );
     if len == 0 {
         return Cone {
             verdict: Told::NoCut,
-            nodes: nodes,
-            backs: backs,
+            nodes: cone_nodes,
+            backs: cone_backs,
             len: 0,
         };
     }
@@ -323,8 +323,8 @@ pub fn walk(
         leaf_nodes,
         leaf_backs,
         n,
-        &nodes,
-        &backs,
+        &cone_nodes,
+        &cone_backs,
         len,
     ) {
         arrange(
@@ -333,21 +333,21 @@ pub fn walk(
             pins,
             sources,
             counts,
-            &mut nodes,
-            &mut backs,
+            &mut cone_nodes,
+            &mut cone_backs,
             len,
         );
         return Cone {
             verdict: Told::Cut,
-            nodes: nodes,
-            backs: backs,
+            nodes: cone_nodes,
+            backs: cone_backs,
             len: len,
         };
     }
     Cone {
         verdict: Told::NoCut,
-        nodes: nodes,
-        backs: backs,
+        nodes: cone_nodes,
+        backs: cone_backs,
         len: 0,
     }
 }

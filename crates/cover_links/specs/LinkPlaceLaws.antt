@@ -145,25 +145,25 @@ marks-one p = record { holds = λ n. p; fails = λ e. absurd (none e) }
 pub marks-zero : {P : Type 0} → ¬ P → Marks 0 P
 marks-zero n = record { holds = λ m. absurd (m refl); fails = λ e. n }
 
-module _ (I : ℕ) (roots nodes backs : List ℕ) (lags : List ℤ) (n i j : ℕ) (marks : List ℕ) where
-  pub long-input : leafIn nodes i j < I → Tells false (LeafLong (Marked marks) I roots nodes backs lags n i j)
+module _ (I : ℕ) (roots nodes backs : List ℕ) (lags : List ℤ) (n i j : ℕ) (ends : List ℕ) where
+  pub long-input : leafIn nodes i j < I → Tells false (LeafLong (Marked ends) I roots nodes backs lags n i j)
   long-input h = tells-no (λ l. let g = l .gate in absurd (omega (arith, h, g)))
 
-  pub long-unmarked : (k : ℕ) → k ≡ placeIn roots n (leafIn nodes i j) → getD marks k 0 ≡ 0 → Tells false (LeafLong (Marked marks) I roots nodes backs lags n i j)
-  long-unmarked k e z = tells-no (λ l. l .feeder (ap (λ (x : ℕ). getD marks x 0) (sym e) ∙ z))
+  pub long-unmarked : (k : ℕ) → k ≡ placeIn roots n (leafIn nodes i j) → getD ends k 0 ≡ 0 → Tells false (LeafLong (Marked ends) I roots nodes backs lags n i j)
+  long-unmarked k e z = tells-no (λ l. l .feeder (ap (λ (x : ℕ). getD ends x 0) (sym e) ∙ z))
 
-  pub long-marked : (k a b : ℕ) → I ≤ leafIn nodes i j → k ≡ placeIn roots n (leafIn nodes i j) → ¬ (getD marks k 0 ≡ 0) → a ≡ raisedAt lags k → b ≡ raisedAt lags i
-      → Tells (eqb a (leafIn backs i j + b)) (LeafLong (Marked marks) I roots nodes backs lags n i j)
+  pub long-marked : (k a b : ℕ) → I ≤ leafIn nodes i j → k ≡ placeIn roots n (leafIn nodes i j) → ¬ (getD ends k 0 ≡ 0) → a ≡ raisedAt lags k → b ≡ raisedAt lags i
+      → Tells (eqb a (leafIn backs i j + b)) (LeafLong (Marked ends) I roots nodes backs lags n i j)
   long-marked k a b g e m p q = go (eqb a (leafIn backs i j + b)) refl
     where
       same : a ≡ raisedAt lags (placeIn roots n (leafIn nodes i j))
       same = p ∙ ap (raisedAt lags) e
 
-      go : (t : Bool) → eqb a (leafIn backs i j + b) ≡ t → Tells t (LeafLong (Marked marks) I roots nodes backs lags n i j)
+      go : (t : Bool) → eqb a (leafIn backs i j + b) ≡ t → Tells t (LeafLong (Marked ends) I roots nodes backs lags n i j)
       go true z = tells-yes (record {
         gate = g;
         joined = sym same ∙ eqb-true a (leafIn backs i j + b) z ∙ ap (λ (x : ℕ). leafIn backs i j + x) q;
-        feeder = λ x. m (ap (λ (y : ℕ). getD marks y 0) e ∙ x);
+        feeder = λ x. m (ap (λ (y : ℕ). getD ends y 0) e ∙ x);
       })
       go false z = tells-no (λ l. eqb-false a (leafIn backs i j + b) z (same ∙ l .joined ∙ ap (λ (x : ℕ). leafIn backs i j + x) (sym q)))
 
@@ -183,38 +183,38 @@ module _ (I : ℕ) (roots sizes nodes backs : List ℕ) (lags : List ℤ) (n : �
 
   -- the marks tell which LUTs end a chain of m + 1 LUTs
   abbrev pub Told : List ℕ → ℕ → Type 0
-  Told marks m = (i : ℕ) → i < n → Marks (getD marks i 0) (LongAt I roots sizes nodes backs lags n m i)
+  Told ends m = (i : ℕ) → i < n → Marks (getD ends i 0) (LongAt I roots sizes nodes backs lags n m i)
 
   pub told-first : n ≤ most → Told (replicate most 1) 0
   unfolding LongAt
   told-first h i k = rw (getD-replicate {A = ℕ} most i 1 0 (omega arith)) (marks-one tt)
 
-  told-next : (marks next : List ℕ) (m : ℕ) → LutsFed I roots sizes nodes n → Told marks m
-      → ((i : ℕ) → i < n → Marks (getD next i 0) (LutLong (Marked marks) I roots sizes nodes backs lags n i)) → Told next (m + 1)
-  told-next marks next m fed t r i h = subst (λ (k : ℕ). Marks (getD next i 0) (LongAt I roots sizes nodes backs lags n k i)) one (step i h)
+  told-next : (ends next : List ℕ) (m : ℕ) → LutsFed I roots sizes nodes n → Told ends m
+      → ((i : ℕ) → i < n → Marks (getD next i 0) (LutLong (Marked ends) I roots sizes nodes backs lags n i)) → Told next (m + 1)
+  told-next ends next m fed t r i h = subst (λ (k : ℕ). Marks (getD next i 0) (LongAt I roots sizes nodes backs lags n k i)) one (step i h)
     where
       one : suc m ≡ m + 1
       one = omega arith
 
       step : (i : ℕ) → i < n → Marks (getD next i 0) (LongAt I roots sizes nodes backs lags n (suc m) i)
       step i h = unfold LongAt in (record {
-        holds = λ x. long-map (Marked marks) (LongAt I roots sizes nodes backs lags n m) (λ k l. t k l .holds) i (fed i h) (r i h .holds x);
-        fails = λ e c. r i h .fails e (long-map (LongAt I roots sizes nodes backs lags n m) (Marked marks) (λ k l p z. t k l .fails z p) i (fed i h) c);
+        holds = λ x. long-map (Marked ends) (LongAt I roots sizes nodes backs lags n m) (λ k l. t k l .holds) i (fed i h) (r i h .holds x);
+        fails = λ e c. r i h .fails e (long-map (LongAt I roots sizes nodes backs lags n m) (Marked ends) (λ k l p z. t k l .fails z p) i (fed i h) c);
       })
 
-  pub told-more : (marks next : List ℕ) (luts : ℕ) → 1 ≤ luts → LutsFed I roots sizes nodes n → Told marks (luts - 1)
-      → ((i : ℕ) → i < n → Marks (getD next i 0) (LutLong (Marked marks) I roots sizes nodes backs lags n i)) → Told next (luts + 1 - 1)
-  told-more marks next luts h fed t r = subst (Told next) (same h) (told-next marks next (luts - 1) fed t r)
+  pub told-more : (ends next : List ℕ) (luts : ℕ) → 1 ≤ luts → LutsFed I roots sizes nodes n → Told ends (luts - 1)
+      → ((i : ℕ) → i < n → Marks (getD next i 0) (LutLong (Marked ends) I roots sizes nodes backs lags n i)) → Told next (luts + 1 - 1)
+  told-more ends next luts h fed t r = subst (Told next) (same h) (told-next ends next (luts - 1) fed t r)
     where
       same : 1 ≤ luts → luts - 1 + 1 ≡ luts + 1 - 1
       same k = omega arith
 
-  pub told-none : (marks : List ℕ) (m : ℕ) (r : Bool) → Told marks m → Tells r ((i : ℕ) → i < n → getD marks i 0 ≡ 0) → Tells r (NoneLong I roots sizes nodes backs lags n m)
-  told-none marks m r t s = record {
+  pub told-none : (ends : List ℕ) (m : ℕ) (r : Bool) → Told ends m → Tells r ((i : ℕ) → i < n → getD ends i 0 ≡ 0) → Tells r (NoneLong I roots sizes nodes backs lags n m)
+  told-none ends m r t s = record {
     holds = λ e i h. t i h .fails (s .holds e i h);
-    fails = λ e f. s .fails e (λ i h. zero-or i (ℕ-discrete (getD marks i 0) 0) (λ x. f i h (t i h .holds x)));
+    fails = λ e f. s .fails e (λ i h. zero-or i (ℕ-discrete (getD ends i 0) 0) (λ x. f i h (t i h .holds x)));
   }
     where
-      zero-or : (i : ℕ) → Dec (getD marks i 0 ≡ 0) → ¬ ¬ (getD marks i 0 ≡ 0) → getD marks i 0 ≡ 0
+      zero-or : (i : ℕ) → Dec (getD ends i 0 ≡ 0) → ¬ ¬ (getD ends i 0 ≡ 0) → getD ends i 0 ≡ 0
       zero-or i (yes e) d = e
       zero-or i (no e) d = absurd (d e)

@@ -235,11 +235,11 @@ fn leaf_long(
     n: usize,
     i: usize,
     j: usize,
-    marks: &[usize],
+    ends: &[usize],
 ) -> bool
-    requires { ⌜ LagRoom (now roots) (now lags) n × (i < n) × (n ≤ most) × (j < stride) × (n ≤ length (now marks)) ⌝ }
+    requires { ⌜ LagRoom (now roots) (now lags) n × (i < n) × (n ≤ most) × (j < stride) × (n ≤ length (now ends)) ⌝ }
     requires { ⌜ LeafAsked inputs (now roots) (now nodes) (now backs) n i j ⌝ }
-    ensures { λ r. ⌜ Tells r (LeafLong (Marked (now (marks .entry))) inputs (now (roots .entry)) (now (nodes .entry)) (now (backs .entry)) (now (lags .entry)) n i j) ⌝ }
+    ensures { λ r. ⌜ Tells r (LeafLong (Marked (now (ends .entry))) inputs (now (roots .entry)) (now (nodes .entry)) (now (backs .entry)) (now (lags .entry)) n i j) ⌝ }
 {
     let at = PINS * i + j;
     let u = nodes[at];
@@ -247,7 +247,7 @@ fn leaf_long(
         return false;
     }
     let k = place_of(roots, n, u);
-    if marks[k] == 0 {
+    if ends[k] == 0 {
         return false;
     }
     raised(lags, k) == backs[at] + raised(lags, i)
@@ -264,16 +264,16 @@ fn lut_long(
     lags: &[i64],
     n: usize,
     i: usize,
-    marks: &[usize],
+    ends: &[usize],
 ) -> bool
-    requires { ⌜ LutsJoined inputs gates (now roots) (now sizes) (now nodes) (now backs) (now lags) n × (i < n) × (n ≤ length (now marks)) ⌝ }
+    requires { ⌜ LutsJoined inputs gates (now roots) (now sizes) (now nodes) (now backs) (now lags) n × (i < n) × (n ≤ length (now ends)) ⌝ }
     requires { ⌜ LutsFed inputs (now roots) (now sizes) (now nodes) n ⌝ }
-    ensures { λ r. ⌜ Tells r (LutLong (Marked (now (marks .entry))) inputs (now (roots .entry)) (now (sizes .entry)) (now (nodes .entry)) (now (backs .entry)) (now (lags .entry)) n i) ⌝ }
+    ensures { λ r. ⌜ Tells r (LutLong (Marked (now (ends .entry))) inputs (now (roots .entry)) (now (sizes .entry)) (now (nodes .entry)) (now (backs .entry)) (now (lags .entry)) n i) ⌝ }
 {
     let m = sizes[i];
     let mut j = 0;
     while j < m {
-        if leaf_long(inputs, roots, nodes, backs, lags, n, i, j, marks) {
+        if leaf_long(inputs, roots, nodes, backs, lags, n, i, j, ends) {
             return true;
         }
         j += 1;
@@ -292,13 +292,13 @@ fn lut_mark(
     lags: &[i64],
     n: usize,
     i: usize,
-    marks: &[usize],
+    ends: &[usize],
 ) -> usize
-    requires { ⌜ LutsJoined inputs gates (now roots) (now sizes) (now nodes) (now backs) (now lags) n × (i < n) × (n ≤ length (now marks)) ⌝ }
+    requires { ⌜ LutsJoined inputs gates (now roots) (now sizes) (now nodes) (now backs) (now lags) n × (i < n) × (n ≤ length (now ends)) ⌝ }
     requires { ⌜ LutsFed inputs (now roots) (now sizes) (now nodes) n ⌝ }
-    ensures { λ r. ⌜ Marks r (LutLong (Marked (now (marks .entry))) inputs (now (roots .entry)) (now (sizes .entry)) (now (nodes .entry)) (now (backs .entry)) (now (lags .entry)) n i) ⌝ }
+    ensures { λ r. ⌜ Marks r (LutLong (Marked (now (ends .entry))) inputs (now (roots .entry)) (now (sizes .entry)) (now (nodes .entry)) (now (backs .entry)) (now (lags .entry)) n i) ⌝ }
 {
-    if lut_long(inputs, gates, roots, sizes, nodes, backs, lags, n, i, marks) {
+    if lut_long(inputs, gates, roots, sizes, nodes, backs, lags, n, i, ends) {
         return 1;
     }
     0
@@ -314,16 +314,16 @@ fn round(
     backs: &[usize],
     lags: &[i64],
     n: usize,
-    marks: &[usize],
+    ends: &[usize],
 ) -> [usize; LUTS]
-    requires { ⌜ LutsJoined inputs gates (now roots) (now sizes) (now nodes) (now backs) (now lags) n × (n ≤ length (now marks)) ⌝ }
+    requires { ⌜ LutsJoined inputs gates (now roots) (now sizes) (now nodes) (now backs) (now lags) n × (n ≤ length (now ends)) ⌝ }
     requires { ⌜ LutsFed inputs (now roots) (now sizes) (now nodes) n ⌝ }
-    ensures { λ r. ⌜ (length r ≡ most) × ((i : ℕ) → i < n → Marks (getD r i 0) (LutLong (Marked (now (marks .entry))) inputs (now (roots .entry)) (now (sizes .entry)) (now (nodes .entry)) (now (backs .entry)) (now (lags .entry)) n i)) ⌝ }
+    ensures { λ r. ⌜ (length r ≡ most) × ((i : ℕ) → i < n → Marks (getD r i 0) (LutLong (Marked (now (ends .entry))) inputs (now (roots .entry)) (now (sizes .entry)) (now (nodes .entry)) (now (backs .entry)) (now (lags .entry)) n i)) ⌝ }
 {
     let mut next = [0usize; LUTS];
     let mut i = 0;
     while i < n {
-        next[i] = lut_mark(inputs, gates, roots, sizes, nodes, backs, lags, n, i, marks);
+        next[i] = lut_mark(inputs, gates, roots, sizes, nodes, backs, lags, n, i, ends);
         i += 1;
     }
     next
@@ -345,23 +345,23 @@ fn rounds(
     requires { ⌜ LutsFed inputs (now roots) (now sizes) (now nodes) n ⌝ }
     ensures { λ r. ⌜ (length r ≡ most) × ((i : ℕ) → i < n → Marks (getD r i 0) (LongAt inputs (now (roots .entry)) (now (sizes .entry)) (now (nodes .entry)) (now (backs .entry)) (now (lags .entry)) n period i)) ⌝ }
 {
-    let mut marks = [1usize; LUTS];
+    let mut ends = [1usize; LUTS];
     let mut luts = 1;
     while luts <= period {
-        marks = round(inputs, gates, roots, sizes, nodes, backs, lags, n, &marks);
+        ends = round(inputs, gates, roots, sizes, nodes, backs, lags, n, &ends);
         luts += 1;
     }
-    marks
+    ends
 }
 
 // Whether none of n marks is set.
-fn none_marked(marks: &[usize], n: usize) -> bool
-    requires { ⌜ n ≤ length (now marks) ⌝ }
-    ensures { λ r. ⌜ Tells r ((i : ℕ) → i < n → getD (now (marks .entry)) i 0 ≡ 0) ⌝ }
+fn none_marked(ends: &[usize], n: usize) -> bool
+    requires { ⌜ n ≤ length (now ends) ⌝ }
+    ensures { λ r. ⌜ Tells r ((i : ℕ) → i < n → getD (now (ends .entry)) i 0 ≡ 0) ⌝ }
 {
     let mut i = 0;
     while i < n {
-        if marks[i] != 0 {
+        if ends[i] != 0 {
             return false;
         }
         i += 1;
@@ -385,8 +385,8 @@ fn chains_short(
     requires { ⌜ LutsFed inputs (now roots) (now sizes) (now nodes) n ⌝ }
     ensures { λ r. ⌜ Tells r (NoneLong inputs (now (roots .entry)) (now (sizes .entry)) (now (nodes .entry)) (now (backs .entry)) (now (lags .entry)) n period) ⌝ }
 {
-    let marks = rounds(inputs, gates, roots, sizes, nodes, backs, lags, n, period);
-    none_marked(&marks, n)
+    let ends = rounds(inputs, gates, roots, sizes, nodes, backs, lags, n, period);
+    none_marked(&ends, n)
 }
 
 // The number of the first of checks 16, 17 and 18 that the LUTs break, or 0.

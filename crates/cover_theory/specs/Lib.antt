@@ -11,6 +11,7 @@ pub mod Satisfies
 pub mod KeyUnique
 pub mod Alone
 pub mod Routes
+pub mod RouteLaws
 pub mod SharedRegisters
 pub mod SharedLaws
 pub mod SharedCovers

@@ -26,10 +26,13 @@ use Rattle.job_sizes.specs.SizeLaws.{size-none, mark-sizes-are}
 use Rattle.demands.specs.TurnedBack.{IsNet, IsRecord, MapFails, First}
 use Rattle.demands.specs.Calls.{MapCall, MarkCall, mapDone, markDone, MapBad, MarkBad, MapNet, MarkNet, Asked}
 use Rattle.demands.specs.OrderLaws.{told-first, told-none, one-net, net-range}
-use Rattle.demands.specs.MapEnds as map
-use Rattle.demands.specs.MarkEnds as mark
-use Rattle.demands.specs.Demand2.{RightRecord, accepts, accepted-if, right-runs, right-excess, period-stated, target-accepted, least-accepted}
-use Rattle.demands.specs.Demand3.{Wrote, wrote-key, limits, map-fit, met-written, least-written}
+use Rattle.demands.specs.Endings as ends
+use Rattle.demands.specs.MapEndsLaws as map
+use Rattle.demands.specs.MarkEndsLaws as mark
+use Rattle.demands.specs.Right.{RightRecord}
+use Rattle.demands.specs.Demand2.{accepts, accepted-if, right-runs, right-excess, period-stated, target-accepted, least-accepted}
+use Rattle.demands.specs.Right.{Wrote}
+use Rattle.demands.specs.Demand3.{wrote-key, limits, map-fit, met-written, least-written}
 
 turned-not : {m n : ℕ} → turnedBack m ≡ accepted n → ⊥
 turned-not e = let z : _≡_ {A = ℕ} 0 1 = cc in omega arith
@@ -56,7 +59,7 @@ module _ (c : MapCall) where
   map-none = told-none ((mapDone c) .answer) (map.map-told (c .net) (c .k) (c .target) (c .area) (c .scratch))
 
   abbrev Ends : MapOutcome → Type 0
-  Ends o = map.MapEnds (c .net) (c .k) (c .target) (c .area) (c .scratch) o
+  Ends o = ends.MapEnds (c .net) (c .k) (c .target) (c .area) (c .scratch) o
 
   ended : Ends (mapDone c)
   ended = map.map-ends (c .net) (c .k) (c .target) (c .area) (c .scratch)
@@ -68,13 +71,13 @@ module _ (c : MapCall) where
     where
       go : {o : MapOutcome} → Ends o → o .answer ≡ turnedBack n
           → (o .area ≡ c .area) × (n ≤ 3 → o .scratch ≡ c .scratch) × (3 < n → o .scratch ≡ cleared scratchArea (c .scratch))
-      go (map.early m h f q) e =
+      go (ends.MapEnds.early m h f q) e =
           let same : m ≡ n = turned-same (sym (ap (λ (o : MapOutcome). o .answer) q) ∙ e) in
           (ap (λ (o : MapOutcome). o .area) q, λ l. ap (λ (o : MapOutcome). o .scratch) q, λ l. absurd (omega arith))
-      go (map.late m h f q) e =
+      go (ends.MapEnds.late m h f q) e =
           let same : m ≡ n = turned-same (sym (ap (λ (o : MapOutcome). o .answer) q) ∙ e) in
           (ap (λ (o : MapOutcome). o .area) q, λ l. absurd (omega arith), λ l. ap (λ (o : MapOutcome). o .scratch) q)
-      go (map.wrote N P φ K s p i none z t q) e = absurd (accepted-not (sym (ap (λ (o : MapOutcome). o .answer) q) ∙ e))
+      go (ends.MapEnds.wrote N P φ K s p i none z t q) e = absurd (accepted-not (sym (ap (λ (o : MapOutcome). o .answer) q) ∙ e))
 
   -- what an accepted call of map found and wrote
   record Made (n : ℕ) : Type 0 where
@@ -96,9 +99,9 @@ module _ (c : MapCall) where
   made n e = go ended refl
     where
       go : {o : MapOutcome} → Ends o → mapDone c ≡ o → Made n
-      go (map.early m h f q) w = absurd (turned-not (sym (ap (λ (o : MapOutcome). o .answer) (w ∙ q)) ∙ e))
-      go (map.late m h f q) w = absurd (turned-not (sym (ap (λ (o : MapOutcome). o .answer) (w ∙ q)) ∙ e))
-      go (map.wrote N P φ K s p i none z t q) w = record {
+      go (ends.MapEnds.early m h f q) w = absurd (turned-not (sym (ap (λ (o : MapOutcome). o .answer) (w ∙ q)) ∙ e))
+      go (ends.MapEnds.late m h f q) w = absurd (turned-not (sym (ap (λ (o : MapOutcome). o .answer) (w ∙ q)) ∙ e))
+      go (ends.MapEnds.wrote N P φ K s p i none z t q) w = record {
         net = N;
         passed = P;
         period = φ;
@@ -256,17 +259,17 @@ module _ (c : MarkCall) where
       × ((markDone c) .answer ≡ turnedBack n → (n ≤ 3 → (markDone c) .scratch ≡ c .scratch) × (3 < n → (markDone c) .scratch ≡ cleared scratchArea (c .scratch)))
   mark-left n = go (mark.mark-ends (c .net) (c .k) (c .bytes) (c .scratch))
     where
-      go : {o : MarkOutcome} → mark.MarkEnds (c .net) (c .k) (c .bytes) (c .scratch) o → (o .answer ≡ accepted n → o .scratch ≡ cleared scratchArea (c .scratch))
+      go : {o : MarkOutcome} → ends.MarkEnds (c .net) (c .k) (c .bytes) (c .scratch) o → (o .answer ≡ accepted n → o .scratch ≡ cleared scratchArea (c .scratch))
           × (o .answer ≡ turnedBack n → (n ≤ 3 → o .scratch ≡ c .scratch) × (3 < n → o .scratch ≡ cleared scratchArea (c .scratch)))
-      go (mark.early m h f q) = (
+      go (ends.MarkEnds.early m h f q) = (
         λ e. absurd (turned-not (sym (ap (λ (o : MarkOutcome). o .answer) q) ∙ e)),
         λ e. let same : m ≡ n = turned-same (sym (ap (λ (o : MarkOutcome). o .answer) q) ∙ e) in (λ l. ap (λ (o : MarkOutcome). o .scratch) q, λ l. absurd (omega arith)),
       )
-      go (mark.late m h f q) = (
+      go (ends.MarkEnds.late m h f q) = (
         λ e. absurd (turned-not (sym (ap (λ (o : MarkOutcome). o .answer) q) ∙ e)),
         λ e. let same : m ≡ n = turned-same (sym (ap (λ (o : MarkOutcome). o .answer) q) ∙ e) in (λ l. absurd (omega arith), λ l. ap (λ (o : MarkOutcome). o .scratch) q),
       )
-      go (mark.marked m s none q) = (λ e. ap (λ (o : MarkOutcome). o .scratch) q, λ e. absurd (accepted-not (sym (ap (λ (o : MarkOutcome). o .answer) q) ∙ e)))
+      go (ends.MarkEnds.marked m s none q) = (λ e. ap (λ (o : MarkOutcome). o .scratch) q, λ e. absurd (accepted-not (sym (ap (λ (o : MarkOutcome). o .answer) q) ∙ e)))
 
   pub marked : (N : Net) → MarkNet c N → (x : ℕ)
       → ((markDone c) .answer ≡ accepted x) ↔ ((r : Record) × IsRecord N (c .k) (c .bytes) r × RightRecord N (c .k) r × ((l : ℕ) × LeastPeriod N (c .k) l × (r .period ≡ x + l)))

@@ -26,12 +26,13 @@ use Rattle.cone_leaves.specs.Lookup.{seekOf, LeafLookup}
 use Rattle.cone_leaves.specs.LookupLaws.{leaf-lookup}
 use Rattle.demands.specs.TurnedBack.{IsNet, IsRecord, First, OfMap, OfMark}
 use Rattle.demands.specs.Calls.{MapCall, MarkCall, mapDone, markDone, MapBad, MarkBad, MapNet, MarkNet, Asked}
-use Rattle.demands.specs.MapEnds.{map-range}
-use Rattle.demands.specs.MarkEnds.{mark-range}
-use Rattle.demands.specs.Demand2.{RightRecord}
-use Rattle.demands.specs.Demand3.{Wrote}
+use Rattle.demands.specs.MapEndsLaws.{map-range}
+use Rattle.demands.specs.MarkEndsLaws.{mark-range}
+use Rattle.demands.specs.Right.{RightRecord}
+use Rattle.demands.specs.Right.{Wrote}
 use Rattle.demands.specs.CallLaws as law
-use Rattle.demands.specs.Registers.{SharedCount, shared-count}
+use Rattle.demands.specs.SharedCount.{SharedCount}
+use Rattle.demands.specs.SharedCountLaws.{shared-count}
 
 pub record Certificate : Type 0 where
   -- ---- Demand 1. "Every call ends": the prover shows it of every function. "Nothing is assumed of the caller": the fields speak of every call.

@@ -33,13 +33,8 @@ use Rattle.cover_records.specs.Marking.{CutsRight, TableRight, TablesRight, All
 use Rattle.cover_records.specs.Accepted.{Covering, covering-cover, excess-is, accepted-runs}
 use Rattle.cover_records.specs.Outcomes.{Answer, accepted, turnedBack, Checked, passes, checkNet, MarkOutcome, MapOutcome, mapSizes, written, forTarget, mapWritten, mapped, mapOutcome, markSizes, judged, markRead, markChecked, markSized, markOutcome}
 use Rattle.job_sizes.specs.SizeLaws.{fit, mark-sizes-are}
+use Rattle.demands.specs.Right.{RightRecord}
 use Rattle.demands.specs.Demand3.{outcome-is, limits, map-fit}
-
--- A record of a cover of N for k that meets its stated period, with right tables.
-pub record RightRecord (N : Net) (k : ℕ) (r : Record) : Type 0 where
-  pub tables : TablesRight N k (r .entries)
-  pub isCover : IsCover N k (asCover N (r .entries))
-  pub meets : Meets N (asCover N (r .entries)) (r .period)
 
 module _ (N : Net) (k : ℕ) (es : List Entry) where
   -- the root of a cut is a gate

@@ -26,6 +26,7 @@ use Rattle.cover_records.specs.Outcomes.{Answer, accepted, turnedBack, Checked,
 use Rattle.job_sizes.specs.Sizes.{Fit}
 use Rattle.job_sizes.specs.SizeLaws.{fit, map-sizes-are}
 use Rattle.demands.specs.OrderLaws.{passes-net}
+use Rattle.demands.specs.Right.{Wrote}
 
 -- ---- what map does with a net that passed
 
@@ -36,18 +37,6 @@ module _ (net area scratch : List ℕ) (k target : ℕ) (N : Net) (P : Passed N 
   outcome-is =
       ap (λ (n : ℕ). mapSized n k target net area scratch) sizes
       ∙ ap (λ (c : Checked k). mapChecked k target c area scratch) passed
-
--- what map wrote: a record in front of the area that reads back as a cover of N for k which meets φ
-pub record Wrote (N : Net) (k φ : ℕ) (area area′ : List ℕ) (length′ : ℕ) : Type 0 where
-  pub bytes : List ℕ
-  pub size : length′ ≡ length bytes
-  pub front : area′ ≡ bytes ++ drop (length bytes) area
-  pub period : ℕ
-  pub luts : List Entry
-  pub reads : coverReader N k bytes ≡ got (record { period = period; entries = luts }) []
-  pub stated : period ≡ φ
-  pub isCover : IsCover N k (asCover N luts)
-  pub meets : Meets N (asCover N luts) φ
 
 pub wrote-key : {N : Net} {k φ : ℕ} (P : Passed N k) → WithinLimits N k → 1 ≤ φ → φ ≤ mostPeriod → (K : Key N k φ) (area : List ℕ)
     → Wrote N k φ area (written (coverBytes φ (entries K)) area) (length (coverBytes φ (entries K)))

@@ -1,10 +1,13 @@
 pub mod TurnedBack
+pub mod Endings
 pub mod OrderLaws
-pub mod MapEnds
-pub mod MarkEnds
+pub mod MapEndsLaws
+pub mod MarkEndsLaws
+pub mod Right
 pub mod Demand3
 pub mod Demand2
-pub mod Registers
+pub mod SharedCount
+pub mod SharedCountLaws
 pub mod LongInputs
 pub mod Calls
 pub mod CallLaws

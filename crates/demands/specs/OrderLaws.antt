@@ -18,15 +18,9 @@ use Rattle.cover_records.specs.Outcomes.{Answer, accepted, turnedBack, Checked,
 use Rattle.job_sizes.specs.Sizes.{sizesOf, Fit}
 use Rattle.job_sizes.specs.SizeLaws.{size-low, size-high, size-target, size-area, size-scratch, size-none}
 use Rattle.demands.specs.TurnedBack.{IsNet, NetFails, Outside, First}
+use Rattle.demands.specs.Endings.{Said, fits, said1, said2, said3, Told, NetEnds, stops, goes}
 
 -- ---- checks 1 to 3
-
--- what the test of the sizes told
-pub data Said (k target area scratch n : ℕ) : Type 0 where
-  fits : n ≡ 0 → Fit k target area scratch → Said k target area scratch n
-  said1 : n ≡ 1 → Outside k → Said k target area scratch n
-  said2 : n ≡ 2 → leastK ≤ k → k ≤ mostK → mostPeriod < target → Said k target area scratch n
-  said3 : n ≡ 3 → leastK ≤ k → k ≤ mostK → target ≤ mostPeriod → (area < coverArea) ⊎ (scratch < scratchArea) → Said k target area scratch n
 
 pub sizes-said : (k target area scratch : ℕ) → Said k target area scratch (sizesOf k target area scratch)
 sizes-said k t a s = go (decLe leastK k) (decLe k mostK) (decLe t mostPeriod) (decLe coverArea a) (decLe scratchArea s)
@@ -59,15 +53,10 @@ module _ (k : ℕ) (net : List ℕ) where
   net-least n a b c d m (NetFails.unreached N i f q) = omega (arith, c N i f)
   net-least n a b c d m (NetFails.unled N i f q) = omega (arith, d N i f)
 
-  -- how checks 4 to 11 end
-  pub data NetEnds (c : Checked k) : Type 0 where
-    stops : (n : ℕ) → c ≡ fails n → NetFails k net n → ((m : ℕ) → NetFails k net m → n ≤ m) → NetEnds c
-    goes : (N : Net) (P : Passed N k) → c ≡ passes N P → IsNet k net N → ((m : ℕ) → ¬ NetFails k net m) → NetEnds c
-
-  pub net-ends : NetEnds (checkNet k net)
+  pub net-ends : NetEnds k net (checkNet k net)
   net-ends = go (netReader k net) refl
     where
-      graph : (N : Net) (rest : List ℕ) → netReader k net ≡ got N rest → Dec (Loopless N) → Dec (AllReached N) → Dec (AllLeading N) → NetEnds (checkNet k net)
+      graph : (N : Net) (rest : List ℕ) → netReader k net ≡ got N rest → Dec (Loopless N) → Dec (AllReached N) → Dec (AllLeading N) → NetEnds k net (checkNet k net)
       graph N rest e = ends
         where
           i : IsNet k net N
@@ -79,7 +68,7 @@ module _ (k : ℕ) (net : List ℕ) where
           same : (X : Net → Type 0) → X N → (M : Net) → IsNet k net M → X M
           same X x M j = subst X (one-net i j) x
 
-          ends : Dec (Loopless N) → Dec (AllReached N) → Dec (AllLeading N) → NetEnds (checkNet k net)
+          ends : Dec (Loopless N) → Dec (AllReached N) → Dec (AllLeading N) → NetEnds k net (checkNet k net)
           ends (no a) b c =
               stops 9 (check-loop k net N rest e a) (NetFails.loop N i a refl) (net-least 9 (read 9) (λ M j f. omega arith) (λ M j f. omega arith) (λ M j f. omega arith))
           ends (yes a) (no b) c =
@@ -93,7 +82,7 @@ module _ (k : ℕ) (net : List ℕ) where
               let least = net-least 12 (read 12) (λ M j f. absurd (f (same Loopless a M j))) (λ M j f. absurd (f (same AllReached b M j))) (λ M j f. absurd (f (same AllLeading c M j))) in
               goes N (p .0) (p .1) i (λ m f. let r = net-range m f in let l = least m f in omega arith)
 
-      go : (r : Result Net) → netReader k net ≡ r → NetEnds (checkNet k net)
+      go : (r : Result Net) → netReader k net ≡ r → NetEnds k net (checkNet k net)
       go (refused n) e =
           let r = only-net k net n e in
           stops n (check-refused k net n e) (NetFails.walk e)
@@ -115,7 +104,7 @@ module _ (k : ℕ) (net : List ℕ) where
       not-passed : (n : ℕ) → fails n ≡ passes N P → ⊥
       not-passed n q = let z : _≡_ {A = ℕ} 0 1 = cc in omega arith
 
-      go : NetEnds (checkNet k net) → IsNet k net N
+      go : NetEnds k net (checkNet k net) → IsNet k net N
       go (stops n q f l) = absurd (not-passed n (sym q ∙ e))
       go (goes M p q i none) = subst (IsNet k net) (ap (λ (c : Checked k). netOf c N) (sym q ∙ e)) i
 
@@ -142,11 +131,6 @@ first-one {Fails} {m} {n} a b = go (decLe m n) (decLe n m)
     go (no h) y = absurd (a .none n (omega arith) (b .fails))
     go (yes h) (no y) = absurd (b .none m (omega arith) (a .fails))
     go (yes h) (yes y) = omega arith
-
--- what an answer says of the checks
-abbrev pub Told : (ℕ → Type 0) → Answer → Type 0
-Told Fails (accepted n) = (m : ℕ) → ¬ Fails m
-Told Fails (turnedBack n) = First Fails n
 
 module _ {Fails : ℕ → Type 0} (a : Answer) (t : Told Fails a) where
   pub told-first : (n : ℕ) → (a ≡ turnedBack n) ↔ First Fails n

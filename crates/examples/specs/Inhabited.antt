@@ -14,7 +14,8 @@ use Rattle.cover_theory.specs.Covers.{Met, LeastPeriod}
 use Rattle.cover_theory.specs.Joined.{key-meets, key-reachable}
 use Rattle.cover_theory.specs.Key.{Key, entries}
 use Rattle.cover_records.specs.CoverBytes.{Record}
-use Rattle.demands.specs.Demand2.{RightRecord, key-right}
+use Rattle.demands.specs.Right.{RightRecord}
+use Rattle.demands.specs.Demand2.{key-right}
 use Rattle.examples.specs.Plan.{given}
 use Rattle.examples.specs.Nets.{netA, netC}
 use Rattle.examples.specs.Marked.{marked-examples}

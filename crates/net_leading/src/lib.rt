@@ -12,14 +12,14 @@ ghost use Rattle.net_marks.specs.Marks.{Marked, Low};
 ghost use Rattle.net_leading.specs.Heading.{Told, Heading, PushPins, PushOuts, HeadGate, PushSweep, Headed, Counted, HeadCheck};
 
 // Whether a node is an input or a gate with a mark of at most this value.
-fn settled(inputs: usize, marks: &[usize], node: usize, value: usize) -> bool
-    requires { ⌜ node < inputs + length (now marks) ⌝ }
-    ensures { λ r. ⌜ Tells r (Low inputs (now (marks .entry)) node value) ⌝ }
+fn settled(inputs: usize, seen: &[usize], node: usize, value: usize) -> bool
+    requires { ⌜ node < inputs + length (now seen) ⌝ }
+    ensures { λ r. ⌜ Tells r (Low inputs (now (seen .entry)) node value) ⌝ }
 {
     if node < inputs {
         return true;
     }
-    let mark = marks[node - inputs];
+    let mark = seen[node - inputs];
     if mark == 0 {
         return false;
     }
@@ -30,14 +30,14 @@ fn settled(inputs: usize, marks: &[usize], node: usize, value: usize) -> bool
 }
 
 // Puts a value at a gate without a mark or with a larger one: 1 if it did.
-fn push(inputs: usize, marks: &mut [usize], node: usize, value: usize) -> usize
-    requires { ⌜ node < inputs + length (now marks) ⌝ }
-    ensures { λ r. ⌜ Told inputs (now (marks .entry)) (now (marks .exit)) node value r ⌝ }
+fn push(inputs: usize, seen: &mut [usize], node: usize, value: usize) -> usize
+    requires { ⌜ node < inputs + length (now seen) ⌝ }
+    ensures { λ r. ⌜ Told inputs (now (seen .entry)) (now (seen .exit)) node value r ⌝ }
 {
-    if settled(inputs, marks, node, value) {
+    if settled(inputs, seen, node, value) {
         0
     } else {
-        marks[node - inputs] = value;
+        seen[node - inputs] = value;
         1
     }
 }
@@ -52,19 +52,19 @@ fn push_pins(
     counts: &[usize],
     outs: &[usize],
     delays: &[usize],
-    marks: &mut [usize],
+    seen: &mut [usize],
     g: usize,
 ) -> usize
-    requires { ⌜ Wires inputs gates (now pins) (now sources) (now counts) × Counted gates outputs (now pins) (now counts) (now outs) (now delays) inputs × (g < gates) × Marked (now marks) g × Heading inputs gates outputs (now pins) (now sources) (now counts) (now outs) (now delays) (now marks) ⌝ }
-    ensures { λ r. ⌜ PushPins inputs gates outputs (now (pins .entry)) (now (sources .entry)) (now (counts .entry)) (now (outs .entry)) (now (delays .entry)) (now (marks .entry)) (now (marks .exit)) g (getD (now (pins .entry)) g 0) r ⌝ }
+    requires { ⌜ Wires inputs gates (now pins) (now sources) (now counts) × Counted gates outputs (now pins) (now counts) (now outs) (now delays) inputs × (g < gates) × Marked (now seen) g × Heading inputs gates outputs (now pins) (now sources) (now counts) (now outs) (now delays) (now seen) ⌝ }
+    ensures { λ r. ⌜ PushPins inputs gates outputs (now (pins .entry)) (now (sources .entry)) (now (counts .entry)) (now (outs .entry)) (now (delays .entry)) (now (seen .entry)) (now (seen .exit)) g (getD (now (pins .entry)) g 0) r ⌝ }
 {
-    let base = marks[g];
+    let base = seen[g];
     let n = pins[g];
     let mut new = 0;
     let mut j = 0;
     while j < n {
         let value = base + counts[PINS * g + j];
-        new += push(inputs, marks, sources[PINS * g + j], value);
+        new += push(inputs, seen, sources[PINS * g + j], value);
         j += 1;
     }
     new
@@ -80,13 +80,13 @@ fn head_gate(
     counts: &[usize],
     outs: &[usize],
     delays: &[usize],
-    marks: &mut [usize],
+    seen: &mut [usize],
     g: usize,
 ) -> usize
-    requires { ⌜ Wires inputs gates (now pins) (now sources) (now counts) × Counted gates outputs (now pins) (now counts) (now outs) (now delays) inputs × (g < gates) × Heading inputs gates outputs (now pins) (now sources) (now counts) (now outs) (now delays) (now marks) ⌝ }
-    ensures { λ r. ⌜ HeadGate inputs gates outputs (now (pins .entry)) (now (sources .entry)) (now (counts .entry)) (now (outs .entry)) (now (delays .entry)) (now (marks .entry)) (now (marks .exit)) g r ⌝ }
+    requires { ⌜ Wires inputs gates (now pins) (now sources) (now counts) × Counted gates outputs (now pins) (now counts) (now outs) (now delays) inputs × (g < gates) × Heading inputs gates outputs (now pins) (now sources) (now counts) (now outs) (now delays) (now seen) ⌝ }
+    ensures { λ r. ⌜ HeadGate inputs gates outputs (now (pins .entry)) (now (sources .entry)) (now (counts .entry)) (now (outs .entry)) (now (delays .entry)) (now (seen .entry)) (now (seen .exit)) g r ⌝ }
 {
-    if marks[g] == 0 {
+    if seen[g] == 0 {
         0
     } else {
         push_pins(
@@ -98,7 +98,7 @@ fn head_gate(
             counts,
             outs,
             delays,
-            marks,
+            seen,
             g,
         )
     }
@@ -114,10 +114,10 @@ fn head_sweep(
     counts: &[usize],
     outs: &[usize],
     delays: &[usize],
-    marks: &mut [usize],
+    seen: &mut [usize],
 ) -> usize
-    requires { ⌜ Wires inputs gates (now pins) (now sources) (now counts) × Counted gates outputs (now pins) (now counts) (now outs) (now delays) inputs × Heading inputs gates outputs (now pins) (now sources) (now counts) (now outs) (now delays) (now marks) ⌝ }
-    ensures { λ r. ⌜ PushSweep inputs gates outputs (now (pins .entry)) (now (sources .entry)) (now (counts .entry)) (now (outs .entry)) (now (delays .entry)) (now (marks .entry)) (now (marks .exit)) gates r ⌝ }
+    requires { ⌜ Wires inputs gates (now pins) (now sources) (now counts) × Counted gates outputs (now pins) (now counts) (now outs) (now delays) inputs × Heading inputs gates outputs (now pins) (now sources) (now counts) (now outs) (now delays) (now seen) ⌝ }
+    ensures { λ r. ⌜ PushSweep inputs gates outputs (now (pins .entry)) (now (sources .entry)) (now (counts .entry)) (now (outs .entry)) (now (delays .entry)) (now (seen .entry)) (now (seen .exit)) gates r ⌝ }
 {
     let mut new = 0;
     let mut g = 0;
@@ -131,7 +131,7 @@ fn head_sweep(
             counts,
             outs,
             delays,
-            marks,
+            seen,
             g,
         );
         new += r;
@@ -150,10 +150,10 @@ fn head_all(
     counts: &[usize],
     outs: &[usize],
     delays: &[usize],
-    marks: &mut [usize],
+    seen: &mut [usize],
 )
-    requires { ⌜ Wires inputs gates (now pins) (now sources) (now counts) × Counted gates outputs (now pins) (now counts) (now outs) (now delays) inputs × Heading inputs gates outputs (now pins) (now sources) (now counts) (now outs) (now delays) (now marks) ⌝ }
-    ensures { λ _. ⌜ Headed inputs gates outputs (now (pins .entry)) (now (sources .entry)) (now (counts .entry)) (now (outs .entry)) (now (delays .entry)) (now (marks .entry)) (now (marks .exit)) ⌝ }
+    requires { ⌜ Wires inputs gates (now pins) (now sources) (now counts) × Counted gates outputs (now pins) (now counts) (now outs) (now delays) inputs × Heading inputs gates outputs (now pins) (now sources) (now counts) (now outs) (now delays) (now seen) ⌝ }
+    ensures { λ _. ⌜ Headed inputs gates outputs (now (pins .entry)) (now (sources .entry)) (now (counts .entry)) (now (outs .entry)) (now (delays .entry)) (now (seen .entry)) (now (seen .exit)) ⌝ }
 {
     let mut new = 1;
     while 0 < new {
@@ -166,7 +166,7 @@ fn head_all(
             counts,
             outs,
             delays,
-            marks,
+            seen,
         );
     }
 }
@@ -181,16 +181,16 @@ fn push_outputs(
     counts: &[usize],
     outs: &[usize],
     delays: &[usize],
-    marks: &mut [usize],
+    seen: &mut [usize],
 ) -> usize
-    requires { ⌜ Wires inputs gates (now pins) (now sources) (now counts) × Counted gates outputs (now pins) (now counts) (now outs) (now delays) inputs × Heading inputs gates outputs (now pins) (now sources) (now counts) (now outs) (now delays) (now marks) ⌝ }
-    ensures { λ r. ⌜ PushOuts inputs gates outputs (now (pins .entry)) (now (sources .entry)) (now (counts .entry)) (now (outs .entry)) (now (delays .entry)) (now (marks .entry)) (now (marks .exit)) outputs r ⌝ }
+    requires { ⌜ Wires inputs gates (now pins) (now sources) (now counts) × Counted gates outputs (now pins) (now counts) (now outs) (now delays) inputs × Heading inputs gates outputs (now pins) (now sources) (now counts) (now outs) (now delays) (now seen) ⌝ }
+    ensures { λ r. ⌜ PushOuts inputs gates outputs (now (pins .entry)) (now (sources .entry)) (now (counts .entry)) (now (outs .entry)) (now (delays .entry)) (now (seen .entry)) (now (seen .exit)) outputs r ⌝ }
 {
     let mut new = 0;
     let mut i = 0;
     while i < outputs {
         let value = delays[i] + 1;
-        new += push(inputs, marks, outs[i], value);
+        new += push(inputs, seen, outs[i], value);
         i += 1;
     }
     new
@@ -206,12 +206,12 @@ pub fn check_leading(
     counts: &[usize],
     outs: &[usize],
     delays: &[usize],
-    marks: &mut [usize],
+    seen: &mut [usize],
 ) -> bool
-    requires { ⌜ Wires inputs gates (now pins) (now sources) (now counts) × Counted gates outputs (now pins) (now counts) (now outs) (now delays) inputs × (length (now marks) ≡ gates) ⌝ }
-    ensures { λ r. ⌜ HeadCheck inputs gates outputs (now (pins .entry)) (now (sources .entry)) (now (counts .entry)) (now (outs .entry)) (now (delays .entry)) (now (marks .exit)) r ⌝ }
+    requires { ⌜ Wires inputs gates (now pins) (now sources) (now counts) × Counted gates outputs (now pins) (now counts) (now outs) (now delays) inputs × (length (now seen) ≡ gates) ⌝ }
+    ensures { λ r. ⌜ HeadCheck inputs gates outputs (now (pins .entry)) (now (sources .entry)) (now (counts .entry)) (now (outs .entry)) (now (delays .entry)) (now (seen .exit)) r ⌝ }
 {
-    zero(marks);
+    zero(seen);
     push_outputs(
         inputs,
         gates,
@@ -221,7 +221,7 @@ pub fn check_leading(
         counts,
         outs,
         delays,
-        marks,
+        seen,
     );
     head_all(
         inputs,
@@ -232,7 +232,7 @@ pub fn check_leading(
         counts,
         outs,
         delays,
-        marks,
+        seen,
     );
-    all_marked(marks, gates)
+    all_marked(seen, gates)
 }

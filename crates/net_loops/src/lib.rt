@@ -13,12 +13,12 @@ ghost use Rattle.net_marks.specs.Marks.{Known};
 ghost use Rattle.net_loops.specs.Placing.{Placing, PlaceGate, PlaceSweep, Placed, PlaceCheck};
 
 // Whether a pin has no register and a source that is not known.
-fn open_pin(inputs: usize, marks: &[usize], node: usize, count: usize) -> bool
-    requires { ⌜ node < inputs + length (now marks) ⌝ }
-    ensures { λ r. ⌜ Tells r ((count ≡ 0) × (¬ Known inputs (now (marks .entry)) node)) ⌝ }
+fn open_pin(inputs: usize, seen: &[usize], node: usize, count: usize) -> bool
+    requires { ⌜ node < inputs + length (now seen) ⌝ }
+    ensures { λ r. ⌜ Tells r ((count ≡ 0) × (¬ Known inputs (now (seen .entry)) node)) ⌝ }
 {
     if count == 0 {
-        !known(inputs, marks, node)
+        !known(inputs, seen, node)
     } else {
         false
     }
@@ -27,20 +27,20 @@ fn open_pin(inputs: usize, marks: &[usize], node: usize, count: usize) -> bool
 // The first open one of n pins from place `at` on, or n.
 fn first_open(
     inputs: usize,
-    marks: &[usize],
+    seen: &[usize],
     sources: &[usize],
     counts: &[usize],
     at: usize,
     n: usize,
 ) -> usize
-    requires { ⌜ (at + n ≤ length (now sources)) × (at + n ≤ length (now counts)) × ((j : ℕ) → j < n → getD (now sources) (at + j) 0 < inputs + length (now marks)) ⌝ }
-    ensures { λ r. ⌜ First (λ j. (getD (now (counts .entry)) (at + j) 0 ≡ 0) × (¬ Known inputs (now (marks .entry)) (getD (now (sources .entry)) (at + j) 0))) n r ⌝ }
+    requires { ⌜ (at + n ≤ length (now sources)) × (at + n ≤ length (now counts)) × ((j : ℕ) → j < n → getD (now sources) (at + j) 0 < inputs + length (now seen)) ⌝ }
+    ensures { λ r. ⌜ First (λ j. (getD (now (counts .entry)) (at + j) 0 ≡ 0) × (¬ Known inputs (now (seen .entry)) (getD (now (sources .entry)) (at + j) 0))) n r ⌝ }
 {
     let mut j = 0;
     while j < n {
         let node = sources[at + j];
         let count = counts[at + j];
-        if open_pin(inputs, marks, node, count) {
+        if open_pin(inputs, seen, node, count) {
             return j;
         }
         j += 1;
@@ -55,23 +55,23 @@ fn place_gate(
     pins: &[usize],
     sources: &[usize],
     counts: &[usize],
-    marks: &mut [usize],
+    seen: &mut [usize],
     order: &mut [usize],
     placed: usize,
     g: usize,
 ) -> usize
-    requires { ⌜ Wires inputs gates (now pins) (now sources) (now counts) × (g < gates) × Placing inputs gates (now pins) (now sources) (now counts) (now marks) (now order) placed ⌝ }
-    ensures { λ r. ⌜ PlaceGate inputs gates (now (pins .entry)) (now (sources .entry)) (now (counts .entry)) (now (marks .entry)) (now (order .entry)) (now (marks .exit)) (now (order .exit)) placed g r ⌝ }
+    requires { ⌜ Wires inputs gates (now pins) (now sources) (now counts) × (g < gates) × Placing inputs gates (now pins) (now sources) (now counts) (now seen) (now order) placed ⌝ }
+    ensures { λ r. ⌜ PlaceGate inputs gates (now (pins .entry)) (now (sources .entry)) (now (counts .entry)) (now (seen .entry)) (now (order .entry)) (now (seen .exit)) (now (order .exit)) placed g r ⌝ }
 {
-    if marks[g] != 0 {
+    if seen[g] != 0 {
         return 0;
     }
     let n = pins[g];
-    let j = first_open(inputs, marks, sources, counts, PINS * g, n);
+    let j = first_open(inputs, seen, sources, counts, PINS * g, n);
     if j < n {
         0
     } else {
-        marks[g] = placed + 1;
+        seen[g] = placed + 1;
         order[placed] = g;
         1
     }
@@ -84,12 +84,12 @@ fn place_sweep(
     pins: &[usize],
     sources: &[usize],
     counts: &[usize],
-    marks: &mut [usize],
+    seen: &mut [usize],
     order: &mut [usize],
     placed: usize,
 ) -> usize
-    requires { ⌜ Wires inputs gates (now pins) (now sources) (now counts) × Placing inputs gates (now pins) (now sources) (now counts) (now marks) (now order) placed ⌝ }
-    ensures { λ r. ⌜ PlaceSweep inputs gates (now (pins .entry)) (now (sources .entry)) (now (counts .entry)) (now (marks .entry)) (now (marks .exit)) (now (order .exit)) placed gates r ⌝ }
+    requires { ⌜ Wires inputs gates (now pins) (now sources) (now counts) × Placing inputs gates (now pins) (now sources) (now counts) (now seen) (now order) placed ⌝ }
+    ensures { λ r. ⌜ PlaceSweep inputs gates (now (pins .entry)) (now (sources .entry)) (now (counts .entry)) (now (seen .entry)) (now (seen .exit)) (now (order .exit)) placed gates r ⌝ }
 {
     let mut new = 0;
     let mut g = 0;
@@ -100,7 +100,7 @@ fn place_sweep(
             pins,
             sources,
             counts,
-            marks,
+            seen,
             order,
             placed + new,
             g,
@@ -118,16 +118,16 @@ fn place_all(
     pins: &[usize],
     sources: &[usize],
     counts: &[usize],
-    marks: &mut [usize],
+    seen: &mut [usize],
     order: &mut [usize],
 )
-    requires { ⌜ Wires inputs gates (now pins) (now sources) (now counts) × Placing inputs gates (now pins) (now sources) (now counts) (now marks) (now order) 0 ⌝ }
-    ensures { λ _. ⌜ Placed inputs gates (now (pins .entry)) (now (sources .entry)) (now (counts .entry)) (now (marks .exit)) (now (order .exit)) ⌝ }
+    requires { ⌜ Wires inputs gates (now pins) (now sources) (now counts) × Placing inputs gates (now pins) (now sources) (now counts) (now seen) (now order) 0 ⌝ }
+    ensures { λ _. ⌜ Placed inputs gates (now (pins .entry)) (now (sources .entry)) (now (counts .entry)) (now (seen .exit)) (now (order .exit)) ⌝ }
 {
-    let mut new = place_sweep(inputs, gates, pins, sources, counts, marks, order, 0);
+    let mut new = place_sweep(inputs, gates, pins, sources, counts, seen, order, 0);
     let mut placed = new;
     while 0 < new {
-        new = place_sweep(inputs, gates, pins, sources, counts, marks, order, placed);
+        new = place_sweep(inputs, gates, pins, sources, counts, seen, order, placed);
         placed += new;
     }
 }
@@ -139,13 +139,13 @@ pub fn check_loops(
     pins: &[usize],
     sources: &[usize],
     counts: &[usize],
-    marks: &mut [usize],
+    seen: &mut [usize],
     order: &mut [usize],
 ) -> bool
-    requires { ⌜ Wires inputs gates (now pins) (now sources) (now counts) × (length (now marks) ≡ gates) × (length (now order) ≡ gates) ⌝ }
-    ensures { λ r. ⌜ PlaceCheck inputs gates (now (pins .entry)) (now (sources .entry)) (now (counts .entry)) (now (marks .exit)) (now (order .exit)) r ⌝ }
+    requires { ⌜ Wires inputs gates (now pins) (now sources) (now counts) × (length (now seen) ≡ gates) × (length (now order) ≡ gates) ⌝ }
+    ensures { λ r. ⌜ PlaceCheck inputs gates (now (pins .entry)) (now (sources .entry)) (now (counts .entry)) (now (seen .exit)) (now (order .exit)) r ⌝ }
 {
-    zero(marks);
-    place_all(inputs, gates, pins, sources, counts, marks, order);
-    all_marked(marks, gates)
+    zero(seen);
+    place_all(inputs, gates, pins, sources, counts, seen, order);
+    all_marked(seen, gates)
 }

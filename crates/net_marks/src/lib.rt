@@ -7,25 +7,25 @@ ghost use Rattle.sequences.specs.Tests.{Tells};
 ghost use Rattle.net_marks.specs.Marks.{Marked, Known};
 
 // Whether a node is an input or a marked gate. A mark is a number other than 0.
-pub fn known(inputs: usize, marks: &[usize], node: usize) -> bool
-    requires { ⌜ node < inputs + length (now marks) ⌝ }
-    ensures { λ r. ⌜ Tells r (Known inputs (now (marks .entry)) node) ⌝ }
+pub fn known(inputs: usize, seen: &[usize], node: usize) -> bool
+    requires { ⌜ node < inputs + length (now seen) ⌝ }
+    ensures { λ r. ⌜ Tells r (Known inputs (now (seen .entry)) node) ⌝ }
 {
     if node < inputs {
         true
     } else {
-        marks[node - inputs] != 0
+        seen[node - inputs] != 0
     }
 }
 
 // Whether the first n gates are all marked.
-pub fn all_marked(marks: &[usize], n: usize) -> bool
-    requires { ⌜ n ≤ length (now marks) ⌝ }
-    ensures { λ r. ⌜ Tells r ((g : ℕ) → g < n → Marked (now (marks .entry)) g) ⌝ }
+pub fn all_marked(seen: &[usize], n: usize) -> bool
+    requires { ⌜ n ≤ length (now seen) ⌝ }
+    ensures { λ r. ⌜ Tells r ((g : ℕ) → g < n → Marked (now (seen .entry)) g) ⌝ }
 {
     let mut g = 0;
     while g < n {
-        if marks[g] == 0 {
+        if seen[g] == 0 {
             return false;
         }
         g += 1;
@@ -34,12 +34,12 @@ pub fn all_marked(marks: &[usize], n: usize) -> bool
 }
 
 // Sets all to 0.
-pub fn zero(marks: &mut [usize])
-    ensures { λ _. ⌜ (length (now (marks .exit)) ≡ length (now (marks .entry))) × ((g : ℕ) → g < length (now (marks .entry)) → getD (now (marks .exit)) g 0 ≡ 0) ⌝ }
+pub fn zero(seen: &mut [usize])
+    ensures { λ _. ⌜ (length (now (seen .exit)) ≡ length (now (seen .entry))) × ((g : ℕ) → g < length (now (seen .entry)) → getD (now (seen .exit)) g 0 ≡ 0) ⌝ }
 {
     let mut g = 0;
-    while g < marks.len() {
-        marks[g] = 0;
+    while g < seen.len() {
+        seen[g] = 0;
         g += 1;
     }
 }

@@ -12,14 +12,14 @@ ghost use Rattle.net_marks.specs.Marks.{Known};
 ghost use Rattle.net_reached.specs.Reaching.{Behind, Reaching, ReachGate, ReachSweep, Shut, ReachCheck};
 
 // The first of n pins from place `at` on whose source is known, or n.
-fn first_known(inputs: usize, marks: &[usize], sources: &[usize], at: usize, n: usize) -> usize
-    requires { ⌜ (at + n ≤ length (now sources)) × ((j : ℕ) → j < n → getD (now sources) (at + j) 0 < inputs + length (now marks)) ⌝ }
-    ensures { λ r. ⌜ First (λ j. Known inputs (now (marks .entry)) (getD (now (sources .entry)) (at + j) 0)) n r ⌝ }
+fn first_known(inputs: usize, seen: &[usize], sources: &[usize], at: usize, n: usize) -> usize
+    requires { ⌜ (at + n ≤ length (now sources)) × ((j : ℕ) → j < n → getD (now sources) (at + j) 0 < inputs + length (now seen)) ⌝ }
+    ensures { λ r. ⌜ First (λ j. Known inputs (now (seen .entry)) (getD (now (sources .entry)) (at + j) 0)) n r ⌝ }
 {
     let mut j = 0;
     while j < n {
         let node = sources[at + j];
-        if known(inputs, marks, node) {
+        if known(inputs, seen, node) {
             return j;
         }
         j += 1;
@@ -46,21 +46,21 @@ fn reach_gate(
     pins: &[usize],
     sources: &[usize],
     counts: &[usize],
-    marks: &mut [usize],
+    seen: &mut [usize],
     ranks: &mut [usize],
     g: usize,
 ) -> usize
-    requires { ⌜ Wires inputs gates (now pins) (now sources) (now counts) × (g < gates) × Reaching inputs gates (now pins) (now sources) (now counts) (now marks) (now ranks) ⌝ }
-    ensures { λ r. ⌜ ReachGate inputs gates (now (pins .entry)) (now (sources .entry)) (now (counts .entry)) (now (marks .entry)) (now (marks .exit)) (now (ranks .exit)) g r ⌝ }
+    requires { ⌜ Wires inputs gates (now pins) (now sources) (now counts) × (g < gates) × Reaching inputs gates (now pins) (now sources) (now counts) (now seen) (now ranks) ⌝ }
+    ensures { λ r. ⌜ ReachGate inputs gates (now (pins .entry)) (now (sources .entry)) (now (counts .entry)) (now (seen .entry)) (now (seen .exit)) (now (ranks .exit)) g r ⌝ }
 {
-    if marks[g] != 0 {
+    if seen[g] != 0 {
         return 0;
     }
     let n = pins[g];
-    let j = first_known(inputs, marks, sources, PINS * g, n);
+    let j = first_known(inputs, seen, sources, PINS * g, n);
     if j < n {
         ranks[g] = rank_behind(inputs, gates, ranks, sources[PINS * g + j]);
-        marks[g] = j + 1;
+        seen[g] = j + 1;
         1
     } else {
         0
@@ -74,16 +74,16 @@ fn reach_sweep(
     pins: &[usize],
     sources: &[usize],
     counts: &[usize],
-    marks: &mut [usize],
+    seen: &mut [usize],
     ranks: &mut [usize],
 ) -> usize
-    requires { ⌜ Wires inputs gates (now pins) (now sources) (now counts) × Reaching inputs gates (now pins) (now sources) (now counts) (now marks) (now ranks) ⌝ }
-    ensures { λ r. ⌜ ReachSweep inputs gates (now (pins .entry)) (now (sources .entry)) (now (counts .entry)) (now (marks .entry)) (now (marks .exit)) (now (ranks .exit)) gates r ⌝ }
+    requires { ⌜ Wires inputs gates (now pins) (now sources) (now counts) × Reaching inputs gates (now pins) (now sources) (now counts) (now seen) (now ranks) ⌝ }
+    ensures { λ r. ⌜ ReachSweep inputs gates (now (pins .entry)) (now (sources .entry)) (now (counts .entry)) (now (seen .entry)) (now (seen .exit)) (now (ranks .exit)) gates r ⌝ }
 {
     let mut new = 0;
     let mut g = 0;
     while g < gates {
-        let r = reach_gate(inputs, gates, pins, sources, counts, marks, ranks, g);
+        let r = reach_gate(inputs, gates, pins, sources, counts, seen, ranks, g);
         new += r;
         g += 1;
     }
@@ -97,15 +97,15 @@ fn reach_all(
     pins: &[usize],
     sources: &[usize],
     counts: &[usize],
-    marks: &mut [usize],
+    seen: &mut [usize],
     ranks: &mut [usize],
 )
-    requires { ⌜ Wires inputs gates (now pins) (now sources) (now counts) × Reaching inputs gates (now pins) (now sources) (now counts) (now marks) (now ranks) ⌝ }
-    ensures { λ _. ⌜ Reaching inputs gates (now (pins .entry)) (now (sources .entry)) (now (counts .entry)) (now (marks .exit)) (now (ranks .exit)) × ((g : ℕ) → g < gates → Shut inputs (now (pins .entry)) (now (sources .entry)) (now (marks .exit)) g) ⌝ }
+    requires { ⌜ Wires inputs gates (now pins) (now sources) (now counts) × Reaching inputs gates (now pins) (now sources) (now counts) (now seen) (now ranks) ⌝ }
+    ensures { λ _. ⌜ Reaching inputs gates (now (pins .entry)) (now (sources .entry)) (now (counts .entry)) (now (seen .exit)) (now (ranks .exit)) × ((g : ℕ) → g < gates → Shut inputs (now (pins .entry)) (now (sources .entry)) (now (seen .exit)) g) ⌝ }
 {
-    let mut new = reach_sweep(inputs, gates, pins, sources, counts, marks, ranks);
+    let mut new = reach_sweep(inputs, gates, pins, sources, counts, seen, ranks);
     while 0 < new {
-        new = reach_sweep(inputs, gates, pins, sources, counts, marks, ranks);
+        new = reach_sweep(inputs, gates, pins, sources, counts, seen, ranks);
     }
 }
 
@@ -116,13 +116,13 @@ pub fn check_reached(
     pins: &[usize],
     sources: &[usize],
     counts: &[usize],
-    marks: &mut [usize],
+    seen: &mut [usize],
     ranks: &mut [usize],
 ) -> bool
-    requires { ⌜ Wires inputs gates (now pins) (now sources) (now counts) × (length (now marks) ≡ gates) × (length (now ranks) ≡ gates) ⌝ }
-    ensures { λ r. ⌜ ReachCheck inputs gates (now (pins .entry)) (now (sources .entry)) (now (counts .entry)) (now (marks .exit)) (now (ranks .exit)) r ⌝ }
+    requires { ⌜ Wires inputs gates (now pins) (now sources) (now counts) × (length (now seen) ≡ gates) × (length (now ranks) ≡ gates) ⌝ }
+    ensures { λ r. ⌜ ReachCheck inputs gates (now (pins .entry)) (now (sources .entry)) (now (counts .entry)) (now (seen .exit)) (now (ranks .exit)) r ⌝ }
 {
-    zero(marks);
-    reach_all(inputs, gates, pins, sources, counts, marks, ranks);
-    all_marked(marks, gates)
+    zero(seen);
+    reach_all(inputs, gates, pins, sources, counts, seen, ranks);
+    all_marked(seen, gates)
 }

@@ -12,10 +12,10 @@ use Rattle.cone_copies.proofs.find.Statement.{statement}
 use Rattle.cone_copies.proofs.find.Tie as tie
 
 abbrev Inv-loop : tie.InvT-loop
-Inv-loop nodes backs n node back j₀ j = (j ≤ n) × ((i : ℕ) → i < j → ¬ (copyAt nodes backs i ≡ copy node back))
+Inv-loop cone-nodes cone-backs n node back j₀ j = (j ≤ n) × ((i : ℕ) → i < j → ¬ (copyAt cone-nodes cone-backs i ≡ copy node back))
 
 abbrev μ-loop : tie.MeasureT-loop
-μ-loop nodes backs n node back j₀ j = n - j
+μ-loop cone-nodes cone-backs n node back j₀ j = n - j
 
 loop-holds : tie.Need-loop-holds Inv-loop μ-loop
 loop-holds c = (omega arith, λ i h. absurd (none h))
@@ -30,7 +30,7 @@ returns : tie.Need-returns Inv-loop μ-loop
 returns c =
     let loop = c .before .before .before .loop in
     let a = c .before .before .before .before .before .before .args in
-    first-here (λ (j : ℕ). copyAt (now (a .nodes)) (now (a .backs)) j ≡ copy (a .node) (a .back)) (a .n) (loop .j) (omega arith) (c .before .is-copy .ensures .holds (c .if1 .taken)) (loop .inv .1)
+    first-here (λ (j : ℕ). copyAt (now (a .cone-nodes)) (now (a .cone-backs)) j ≡ copy (a .node) (a .back)) (a .n) (loop .j) (omega arith) (c .before .is-copy .ensures .holds (c .if1 .taken)) (loop .inv .1)
 
 add-j : tie.Need-add-j Inv-loop μ-loop
 add-j c = search needs
@@ -44,7 +44,7 @@ loop-again c = (search needs, below-more _ _ (c .before .before .before .loop .i
 returns-2 : tie.Need-returns-2 Inv-loop μ-loop
 returns-2 c =
     let a = c .before .before .before .before .args in
-    first-none (λ (j : ℕ). copyAt (now (a .nodes)) (now (a .backs)) j ≡ copy (a .node) (a .back)) (a .n) (λ j h. c .before .loop .inv .1 j (omega arith))
+    first-none (λ (j : ℕ). copyAt (now (a .cone-nodes)) (now (a .cone-backs)) j ≡ copy (a .node) (a .back)) (a .n) (λ j h. c .before .loop .inv .1 j (omega arith))
 
 pub find-spec : {M : Type 1} → statement M
 find-spec =

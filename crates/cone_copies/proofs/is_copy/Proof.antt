@@ -17,7 +17,7 @@ shared-slice-read-if1 c = search needs
 returns : tie.Need-returns
 returns c =
     let a = c .before .before .args in
-    tells-node (copyAt (now (a .nodes)) (now (a .backs)) (a .j)) (copy (a .node) (a .back)) (c .if1 .taken)
+    tells-node (copyAt (now (a .cone-nodes)) (now (a .cone-backs)) (a .j)) (copy (a .node) (a .back)) (c .if1 .taken)
 
 mul-result : tie.Need-mul-result
 mul-result c = search needs
@@ -28,7 +28,7 @@ shared-slice-read-result c = search needs
 returns-2 : tie.Need-returns-2
 returns-2 c =
     let a = c .before .before .before .args in
-    tells-back (copyAt (now (a .nodes)) (now (a .backs)) (a .j)) (copy (a .node) (a .back)) (omega arith)
+    tells-back (copyAt (now (a .cone-nodes)) (now (a .cone-backs)) (a .j)) (copy (a .node) (a .back)) (omega arith)
 
 pub is-copy-spec : {M : Type 1} → statement M
 is-copy-spec =

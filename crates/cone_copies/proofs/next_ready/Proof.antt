@@ -12,10 +12,10 @@ use Rattle.cone_copies.proofs.next_ready.Statement.{statement}
 use Rattle.cone_copies.proofs.next_ready.Tie as tie
 
 abbrev Inv-loop : tie.InvT-loop
-Inv-loop inputs gates pins sources counts nodes backs len m q₀ q = (m ≤ q) × (q ≤ len) × ((i : ℕ) → i < q → ¬ ((m ≤ i) × ReadyCopy inputs pins sources counts nodes backs len m (copyAt nodes backs i)))
+Inv-loop inputs gates pins sources counts cone-nodes cone-backs len m q₀ q = (m ≤ q) × (q ≤ len) × ((i : ℕ) → i < q → ¬ ((m ≤ i) × ReadyCopy inputs pins sources counts cone-nodes cone-backs len m (copyAt cone-nodes cone-backs i)))
 
 abbrev μ-loop : tie.MeasureT-loop
-μ-loop inputs gates pins sources counts nodes backs len m q₀ q = len - q
+μ-loop inputs gates pins sources counts cone-nodes cone-backs len m q₀ q = len - q
 
 loop-holds : tie.Need-loop-holds Inv-loop μ-loop
 loop-holds c =
@@ -38,13 +38,13 @@ shared-slice-read-g c =
 sub-g : tie.Need-sub-g Inv-loop μ-loop
 sub-g c =
     let s = c .before .before .before .before .before .before .before .before in
-    let m = member (now (s .args .nodes)) (now (s .args .backs)) (s .args .len) (c .before .before .loop .q) (s .pre .2) (omega arith) in
+    let m = member (now (s .args .cone-nodes)) (now (s .args .cone-backs)) (s .args .len) (c .before .before .loop .q) (s .pre .2) (omega arith) in
     m .low
 
 mul-ready : tie.Need-mul-ready Inv-loop μ-loop
 mul-ready c =
     let s = c .before .before .before .before .before .before .before .before in
-    let m = member (now (s .args .nodes)) (now (s .args .backs)) (s .args .len) (c .before .before .loop .q) (s .pre .2) (omega arith) in
+    let m = member (now (s .args .cone-nodes)) (now (s .args .cone-backs)) (s .args .len) (c .before .before .loop .q) (s .pre .2) (omega arith) in
     let d = s .pre .0 .gates in
     let g = m .gate in
     omega arith
@@ -52,7 +52,7 @@ mul-ready c =
 shared-slice-read-ready : tie.Need-shared-slice-read-ready Inv-loop μ-loop
 shared-slice-read-ready c =
     let s = c .before .before .before .before .before .before .before .before .before in
-    let m = member (now (s .args .nodes)) (now (s .args .backs)) (s .args .len) (c .before .before .before .loop .q) (s .pre .2) (omega arith) in
+    let m = member (now (s .args .cone-nodes)) (now (s .args .cone-backs)) (s .args .len) (c .before .before .before .loop .q) (s .pre .2) (omega arith) in
     let d = s .pre .0 .wires .sizes in
     let g = m .gate in
     omega arith
@@ -70,7 +70,7 @@ shared-slice-read-ready-2 c =
 ready-requires : tie.Need-ready-requires Inv-loop μ-loop
 ready-requires c κs =
     let s = c .before .before .before .before .before .before .before .before .before .before in
-    let m = member (now (s .args .nodes)) (now (s .args .backs)) (s .args .len) (c .before .before .before .before .loop .q) (s .pre .2) (omega arith) in
+    let m = member (now (s .args .cone-nodes)) (now (s .args .cone-backs)) (s .args .len) (c .before .before .before .before .loop .q) (s .pre .2) (omega arith) in
     let w = s .pre .0 in
     let r = s .pre .1 in
     let g = m .gate in
@@ -83,7 +83,7 @@ ready-requires c κs =
 returns : tie.Need-returns Inv-loop μ-loop
 returns c =
     let a = c .before .before .before .before .before .before .before .before .before .before .before .before .args in
-    first-here (λ (q : ℕ). (a .m ≤ q) × ReadyCopy (a .inputs) (now (a .pins)) (now (a .sources)) (now (a .counts)) (now (a .nodes)) (now (a .backs)) (a .len) (a .m) (copyAt (now (a .nodes)) (now (a .backs)) q)) (a .len) (c .before .before .before .before .before .before .loop .q) (omega arith) (c .before .before .before .before .before .before .loop .inv .0, c .before .ready .ensures .holds (c .if1 .taken)) (c .before .before .before .before .before .before .loop .inv .2)
+    first-here (λ (q : ℕ). (a .m ≤ q) × ReadyCopy (a .inputs) (now (a .pins)) (now (a .sources)) (now (a .counts)) (now (a .cone-nodes)) (now (a .cone-backs)) (a .len) (a .m) (copyAt (now (a .cone-nodes)) (now (a .cone-backs)) q)) (a .len) (c .before .before .before .before .before .before .loop .q) (omega arith) (c .before .before .before .before .before .before .loop .inv .0, c .before .ready .ensures .holds (c .if1 .taken)) (c .before .before .before .before .before .before .loop .inv .2)
 
 add-q : tie.Need-add-q Inv-loop μ-loop
 add-q c =
@@ -99,7 +99,7 @@ loop-again c = (omega arith, omega arith, below-more _ _ (c .before .before .bef
 returns-2 : tie.Need-returns-2 Inv-loop μ-loop
 returns-2 c =
     let a = c .before .before .before .before .before .before .before .args in
-    first-none (λ (q : ℕ). (a .m ≤ q) × ReadyCopy (a .inputs) (now (a .pins)) (now (a .sources)) (now (a .counts)) (now (a .nodes)) (now (a .backs)) (a .len) (a .m) (copyAt (now (a .nodes)) (now (a .backs)) q)) (a .len) (λ j h. c .before .loop .inv .2 j (omega arith))
+    first-none (λ (q : ℕ). (a .m ≤ q) × ReadyCopy (a .inputs) (now (a .pins)) (now (a .sources)) (now (a .counts)) (now (a .cone-nodes)) (now (a .cone-backs)) (a .len) (a .m) (copyAt (now (a .cone-nodes)) (now (a .cone-backs)) q)) (a .len) (λ j h. c .before .loop .inv .2 j (omega arith))
 
 pub next-ready-spec : {M : Type 1} → statement M
 next-ready-spec =

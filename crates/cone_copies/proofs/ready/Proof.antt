@@ -11,10 +11,10 @@ use Rattle.cone_copies.proofs.ready.Statement.{statement}
 use Rattle.cone_copies.proofs.ready.Tie as tie
 
 abbrev Inv-loop : tie.InvT-loop
-Inv-loop sources counts nodes backs len m g n base j₀ j = (j ≤ n) × ((i : ℕ) → i < j → Early nodes backs len m (sourceAt sources counts g base i))
+Inv-loop sources counts cone-nodes cone-backs len m g n base j₀ j = (j ≤ n) × ((i : ℕ) → i < j → Early cone-nodes cone-backs len m (sourceAt sources counts g base i))
 
 abbrev μ-loop : tie.MeasureT-loop
-μ-loop sources counts nodes backs len m g n base j₀ j = n - j
+μ-loop sources counts cone-nodes cone-backs len m g n base j₀ j = n - j
 
 loop-holds : tie.Need-loop-holds Inv-loop μ-loop
 loop-holds c = (omega arith, λ i h. absurd (none h))
@@ -63,7 +63,7 @@ is-early-requires c κs = c .before .before .before .before .before .before .bef
 returns : tie.Need-returns Inv-loop μ-loop
 returns c =
     let a = c .before .before .before .before .before .before .before .before .before .before .args in
-    tells-not (λ (j : ℕ). Early (now (a .nodes)) (now (a .backs)) (a .len) (a .m) (sourceAt (now (a .sources)) (now (a .counts)) (a .g) (a .base) j)) (a .n) (c .before .before .before .before .before .loop .j) (omega arith) (c .before .is-early .ensures .fails (not-true _ (c .if1 .taken)))
+    tells-not (λ (j : ℕ). Early (now (a .cone-nodes)) (now (a .cone-backs)) (a .len) (a .m) (sourceAt (now (a .sources)) (now (a .counts)) (a .g) (a .base) j)) (a .n) (c .before .before .before .before .before .loop .j) (omega arith) (c .before .is-early .ensures .fails (not-true _ (c .if1 .taken)))
 
 add-j : tie.Need-add-j Inv-loop μ-loop
 add-j c =
@@ -79,7 +79,7 @@ loop-again c = (search needs, below-more _ _ (c .before .before .before .before 
 returns-2 : tie.Need-returns-2 Inv-loop μ-loop
 returns-2 c =
     let a = c .before .before .before .before .before .before .args in
-    tells-all (λ (j : ℕ). Early (now (a .nodes)) (now (a .backs)) (a .len) (a .m) (sourceAt (now (a .sources)) (now (a .counts)) (a .g) (a .base) j)) (a .n) (c .before .loop .j) (omega arith) (c .before .loop .inv .1)
+    tells-all (λ (j : ℕ). Early (now (a .cone-nodes)) (now (a .cone-backs)) (a .len) (a .m) (sourceAt (now (a .sources)) (now (a .counts)) (a .g) (a .base) j)) (a .n) (c .before .loop .j) (omega arith) (c .before .loop .inv .1)
 
 pub ready-spec : {M : Type 1} → statement M
 ready-spec =

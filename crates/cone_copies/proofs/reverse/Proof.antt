@@ -11,15 +11,15 @@ use Rattle.cone_copies.proofs.reverse.Statement.{statement}
 use Rattle.cone_copies.proofs.reverse.Tie as tie
 
 abbrev Inv-loop : tie.InvT-loop
-Inv-loop nodes₀ backs₀ len half i₀ nodes backs i = (length nodes ≡ members) × (length backs ≡ members) × Mixed (copiesIn nodes₀ backs₀ len) (copiesIn nodes backs len)
+Inv-loop nodes₀ backs₀ len half i₀ cone-nodes cone-backs i = (length cone-nodes ≡ members) × (length cone-backs ≡ members) × Mixed (copiesIn nodes₀ backs₀ len) (copiesIn cone-nodes cone-backs len)
 
 abbrev μ-loop : tie.MeasureT-loop
-μ-loop nodes₀ backs₀ len half i₀ nodes backs i = half - i
+μ-loop nodes₀ backs₀ len half i₀ cone-nodes cone-backs i = half - i
 
 loop-holds : tie.Need-loop-holds Inv-loop μ-loop
 loop-holds c =
     let s = c .before .before in
-    (s .pre .nodes, s .pre .backs, mixed-refl (copiesIn (now (s .args .nodes)) (now (s .args .backs)) (s .args .len)))
+    (s .pre .nodes, s .pre .backs, mixed-refl (copiesIn (now (s .args .cone-nodes)) (now (s .args .cone-backs)) (s .args .len)))
 
 sub-swap : tie.Need-sub-swap Inv-loop μ-loop
 sub-swap c = search needs
@@ -43,7 +43,7 @@ loop-again : tie.Need-loop-again Inv-loop μ-loop
 loop-again c =
     let k = c .before .before .before .before .swap .kept in
     let v = c .before .before .before .before .before .before .before .before .loop .inv in
-    (k .0 ∙ v .0, k .1 .0 ∙ v .1, mixed-trans (v .2) (swapped-mixed (c .before .before .before .before .before .before .before .before .loop .nodes) (c .before .before .before .before .before .before .before .before .loop .backs) _ _ (c .before .before .before .before .before .before .before .before .loop .i) (c .before .before .before .before .before .before .before .before .before .before .before .args .len - 1 - c .before .before .before .before .before .before .before .before .loop .i) (c .before .before .before .before .before .before .before .before .before .before .before .args .len) (omega arith) (omega arith) (c .before .before .before .before .swap .ensures)))
+    (k .0 ∙ v .0, k .1 .0 ∙ v .1, mixed-trans (v .2) (swapped-mixed (c .before .before .before .before .before .before .before .before .loop .cone-nodes) (c .before .before .before .before .before .before .before .before .loop .cone-backs) _ _ (c .before .before .before .before .before .before .before .before .loop .i) (c .before .before .before .before .before .before .before .before .before .before .before .args .len - 1 - c .before .before .before .before .before .before .before .before .loop .i) (c .before .before .before .before .before .before .before .before .before .before .before .args .len) (omega arith) (omega arith) (c .before .before .before .before .swap .ensures)))
 
 same-length : tie.Need-same-length Inv-loop μ-loop
 same-length c = c .before .loop .inv .0 ∙ sym (c .before .before .before .before .pre .nodes)

@@ -17,10 +17,10 @@ use Rattle.cone_leaves.proofs.seek.Lts as lts
 use Rattle.cone_leaves.proofs.compare.Reads as compare-reads
 
 abbrev Inv-loop : tie.InvT-loop
-Inv-loop nodes backs n node back j₀ j = (j ≤ n) × ((i : ℕ) → i < j → Passed (copy node back) (copyAt nodes backs i))
+Inv-loop leaf-nodes leaf-backs n node back j₀ j = (j ≤ n) × ((i : ℕ) → i < j → Passed (copy node back) (copyAt leaf-nodes leaf-backs i))
 
 abbrev μ-loop : tie.MeasureT-loop
-μ-loop nodes backs n node back j₀ j = n - j
+μ-loop leaf-nodes leaf-backs n node back j₀ j = n - j
 
 loop-holds : tie.Need-loop-holds Inv-loop μ-loop
 loop-holds c = (omega arith, λ i h. absurd (not-suc-le-zero h))
@@ -41,8 +41,8 @@ returns c =
     let start = c .before .before .before .before .before .before .before in
     let a = start .args in
     let loop = c .before .before .before .before .loop in
-    let us = now (a .nodes) in
-    let ds = now (a .backs) in
+    let us = now (a .leaf-nodes) in
+    let ds = now (a .leaf-backs) in
     let y = copy (a .node) (a .back) in
     let seen = subst (Seen y (copyAt us ds (loop .j))) (c .enum-told2 .given .1) (c .before .before .compare .ensures) in
     array-here us ds (a .n) y (loop .j) (c .before .before .before .loop-test .taken) seen (loop .inv .1)
@@ -55,8 +55,8 @@ returns-2 c =
     let start = c .before .before .before .before .before .before .before in
     let a = start .args in
     let loop = c .before .before .before .before .loop in
-    let us = now (a .nodes) in
-    let ds = now (a .backs) in
+    let us = now (a .leaf-nodes) in
+    let ds = now (a .leaf-backs) in
     let y = copy (a .node) (a .back) in
     let seen = subst (Seen y (copyAt us ds (loop .j))) (c .enum-told3 .given .1) (c .before .before .compare .ensures) in
     array-stop us ds (a .n) y (loop .j) (c .before .before .before .loop-test .taken) seen (loop .inv .1)
@@ -72,8 +72,8 @@ loop-again c =
     let start = c .before .before .before .before .before .before .before in
     let a = start .args in
     let loop = c .before .before .before .before .loop in
-    let us = now (a .nodes) in
-    let ds = now (a .backs) in
+    let us = now (a .leaf-nodes) in
+    let ds = now (a .leaf-backs) in
     let y = copy (a .node) (a .back) in
     let seen = subst (Seen y (copyAt us ds (loop .j))) (c .enum-told .given .1) (c .before .before .compare .ensures) in
     let t = c .before .before .before .loop-test .taken in
@@ -82,7 +82,7 @@ loop-again c =
 returns-3 : tie.Need-returns-3 Inv-loop μ-loop
 returns-3 c =
     let a = c .before .before .before .before .args in
-    array-end (now (a .nodes)) (now (a .backs)) (a .n) (copy (a .node) (a .back)) (c .before .loop .j) (omega arith) (c .before .loop .inv .1)
+    array-end (now (a .leaf-nodes)) (now (a .leaf-backs)) (a .n) (copy (a .node) (a .back)) (c .before .loop .j) (omega arith) (c .before .loop .inv .1)
 
 pub seek-spec : {M : Type 1} → statement M
 seek-spec =

@@ -16,7 +16,7 @@ shared-slice-read-g c = search needs
 sub-g : tie.Need-sub-g
 sub-g c =
     let start = c .before .before .before .before .before .before .before .before .before .before in
-    let m = member (now (start .args .nodes)) (now (start .args .backs)) (start .args .len) (start .args .p) (start .pre .0 .bounded) (start .pre .2) in
+    let m = member (now (start .args .cone-nodes)) (now (start .args .cone-backs)) (start .args .len) (start .args .p) (start .pre .0 .bounded) (start .pre .2) in
     m .low
 
 mul-m : tie.Need-mul-m
@@ -24,7 +24,7 @@ mul-m c =
     let start = c .before .before .before .before .before .before .before .before .before .before in
     let w = start .pre .0 .wires in
     let r = start .pre .0 .room in
-    let m = member (now (start .args .nodes)) (now (start .args .backs)) (start .args .len) (start .args .p) (start .pre .0 .bounded) (start .pre .2) in
+    let m = member (now (start .args .cone-nodes)) (now (start .args .cone-backs)) (start .args .len) (start .args .p) (start .pre .0 .bounded) (start .pre .2) in
     let g = m .gate in
     let d = w .gates in
     omega arith
@@ -34,7 +34,7 @@ shared-slice-read-m c =
     let start = c .before .before .before .before .before .before .before .before .before .before .before in
     let w = start .pre .0 .wires in
     let r = start .pre .0 .room in
-    let m = member (now (start .args .nodes)) (now (start .args .backs)) (start .args .len) (start .args .p) (start .pre .0 .bounded) (start .pre .2) in
+    let m = member (now (start .args .cone-nodes)) (now (start .args .cone-backs)) (start .args .len) (start .args .p) (start .pre .0 .bounded) (start .pre .2) in
     let g = m .gate in
     let d = w .gates in
     let s = w .wires .sizes in
@@ -51,7 +51,7 @@ gather-requires c κs =
     let start = c .before .before .before .before .before .before .before .before .before .before .before .before in
     let w = start .pre .0 .wires in
     let r = start .pre .0 .room in
-    let m = member (now (start .args .nodes)) (now (start .args .backs)) (start .args .len) (start .args .p) (start .pre .0 .bounded) (start .pre .2) in
+    let m = member (now (start .args .cone-nodes)) (now (start .args .cone-backs)) (start .args .len) (start .args .p) (start .pre .0 .bounded) (start .pre .2) in
     let g = m .gate in
     let d = w .gates in
     let n = m .near in
@@ -77,7 +77,7 @@ mul-compose c =
     let start = c .before .before .before .before .before .before .before .before .before .before .before .before .before in
     let w = start .pre .0 .wires in
     let r = start .pre .0 .room in
-    let m = member (now (start .args .nodes)) (now (start .args .backs)) (start .args .len) (start .args .p) (start .pre .0 .bounded) (start .pre .2) in
+    let m = member (now (start .args .cone-nodes)) (now (start .args .cone-backs)) (start .args .len) (start .args .p) (start .pre .0 .bounded) (start .pre .2) in
     let g = m .gate in
     let d = w .gates in
     omega arith
@@ -87,7 +87,7 @@ shared-slice-read-compose c =
     let start = c .before .before .before .before .before .before .before .before .before .before .before .before .before .before in
     let w = start .pre .0 .wires in
     let r = start .pre .0 .room in
-    let m = member (now (start .args .nodes)) (now (start .args .backs)) (start .args .len) (start .args .p) (start .pre .0 .bounded) (start .pre .2) in
+    let m = member (now (start .args .cone-nodes)) (now (start .args .cone-backs)) (start .args .len) (start .args .p) (start .pre .0 .bounded) (start .pre .2) in
     let g = m .gate in
     let d = w .gates in
     let s = start .pre .0 .tables in
@@ -101,7 +101,7 @@ compose-requires c κs =
     let start = c .before .before .before .before .before .before .before .before .before .before .before .before .before .before in
     let w = start .pre .0 .wires in
     let r = start .pre .0 .room in
-    let m = member (now (start .args .nodes)) (now (start .args .backs)) (start .args .len) (start .args .p) (start .pre .0 .bounded) (start .pre .2) in
+    let m = member (now (start .args .cone-nodes)) (now (start .args .cone-backs)) (start .args .len) (start .args .p) (start .pre .0 .bounded) (start .pre .2) in
     let g = m .gate in
     let d = w .gates in
     (w .wires .pins _ g, let n = start .args .n in omega (arith, choices n (start .pre .0 .few), choices-low n (start .pre .0 .few)))

@@ -13,12 +13,12 @@ use Rattle.cone_table.proofs.gather.Statement.{statement}
 use Rattle.cone_table.proofs.gather.Tie as tie
 
 abbrev Inv-loop : tie.InvT-loop
-Inv-loop sources counts leaf-nodes leaf-backs n nodes backs len words g m base fed₀ j₀ fed j =
-    (j ≤ m) × (length fed ≡ mostPins) × ((i : ℕ) → i < j → Carries (copiesIn leaf-nodes leaf-backs n) (copiesIn nodes backs len) words (sourceAt sources counts g base i)
+Inv-loop sources counts leaf-nodes leaf-backs n cone-nodes cone-backs len words g m base fed₀ j₀ fed j =
+    (j ≤ m) × (length fed ≡ mostPins) × ((i : ℕ) → i < j → Carries (copiesIn leaf-nodes leaf-backs n) (copiesIn cone-nodes cone-backs len) words (sourceAt sources counts g base i)
     (getD fed i 0))
 
 abbrev μ-loop : tie.MeasureT-loop
-μ-loop sources counts leaf-nodes leaf-backs n nodes backs len words g m base fed₀ j₀ fed j = m - j
+μ-loop sources counts leaf-nodes leaf-backs n cone-nodes cone-backs len words g m base fed₀ j₀ fed j = m - j
 
 loop-holds : tie.Need-loop-holds Inv-loop μ-loop
 loop-holds c = (omega arith, refl, λ i h. absurd (none h))
@@ -86,7 +86,7 @@ loop-again c =
       omega arith,
       length-set (loop .fed) (loop .j) (c .source-word .result) ∙ e,
       each-set
-          (λ (i w : ℕ). Carries (copiesIn (now (a .leaf-nodes)) (now (a .leaf-backs)) (a .n)) (copiesIn (now (a .nodes)) (now (a .backs)) (a .len)) (now (a .words))
+          (λ (i w : ℕ). Carries (copiesIn (now (a .leaf-nodes)) (now (a .leaf-backs)) (a .n)) (copiesIn (now (a .cone-nodes)) (now (a .cone-backs)) (a .len)) (now (a .words))
           (sourceAt (now (a .sources)) (now (a .counts)) (a .g) (a .base) i) w) (loop .fed) (loop .j) (c .source-word .result) (omega arith) (loop .inv .2) (c .source-word .ensures),
     )
 

@@ -12,10 +12,10 @@ use Rattle.cone_walk.proofs.all_touched.Statement.{statement}
 use Rattle.cone_walk.proofs.all_touched.Tie as tie
 
 abbrev Inv-loop : tie.InvT-loop
-Inv-loop inputs gates pins sources counts leaf-nodes leaf-backs n nodes backs len leaf₀ leaf = (leaf ≤ n) × ((k : ℕ) → k < leaf → Touched inputs pins sources counts nodes backs len (copyAt leaf-nodes leaf-backs k))
+Inv-loop inputs gates pins sources counts leaf-nodes leaf-backs n cone-nodes cone-backs len leaf₀ leaf = (leaf ≤ n) × ((k : ℕ) → k < leaf → Touched inputs pins sources counts cone-nodes cone-backs len (copyAt leaf-nodes leaf-backs k))
 
 abbrev μ-loop : tie.MeasureT-loop
-μ-loop inputs gates pins sources counts leaf-nodes leaf-backs n nodes backs len leaf₀ leaf = n - leaf
+μ-loop inputs gates pins sources counts leaf-nodes leaf-backs n cone-nodes cone-backs len leaf₀ leaf = n - leaf
 
 loop-holds : tie.Need-loop-holds Inv-loop μ-loop
 loop-holds c = (omega arith, λ i h. absurd (none h))
@@ -43,7 +43,7 @@ is-touched-requires c κs =
 returns : tie.Need-returns Inv-loop μ-loop
 returns c =
     let a = c .before .before .before .before .before .before .before .before .before .before .before .before .before .args in
-    tells-not (λ (i : ℕ). Touched (a .inputs) (now (a .pins)) (now (a .sources)) (now (a .counts)) (now (a .nodes)) (now (a .backs)) (a .len) (copyAt (now (a .leaf-nodes)) (now (a .leaf-backs)) i)) (a .n) (c .before .before .before .before .before .loop .leaf) (omega arith) (c .before .is-touched .ensures .fails (not-true _ (c .if1 .taken)))
+    tells-not (λ (i : ℕ). Touched (a .inputs) (now (a .pins)) (now (a .sources)) (now (a .counts)) (now (a .cone-nodes)) (now (a .cone-backs)) (a .len) (copyAt (now (a .leaf-nodes)) (now (a .leaf-backs)) i)) (a .n) (c .before .before .before .before .before .loop .leaf) (omega arith) (c .before .is-touched .ensures .fails (not-true _ (c .if1 .taken)))
 
 add-leaf : tie.Need-add-leaf Inv-loop μ-loop
 add-leaf c = search needs
@@ -58,7 +58,7 @@ returns-2 : tie.Need-returns-2 Inv-loop μ-loop
 returns-2 c =
     let loop = c .before .loop in
     let a = c .before .before .before .before .before .before .before .before .before .args in
-    tells-all (λ (i : ℕ). Touched (a .inputs) (now (a .pins)) (now (a .sources)) (now (a .counts)) (now (a .nodes)) (now (a .backs)) (a .len) (copyAt (now (a .leaf-nodes)) (now (a .leaf-backs)) i)) (a .n) (loop .leaf) (omega arith) (loop .inv .1)
+    tells-all (λ (i : ℕ). Touched (a .inputs) (now (a .pins)) (now (a .sources)) (now (a .counts)) (now (a .cone-nodes)) (now (a .cone-backs)) (a .len) (copyAt (now (a .leaf-nodes)) (now (a .leaf-backs)) i)) (a .n) (loop .leaf) (omega arith) (loop .inv .1)
 
 pub all-touched-spec : {M : Type 1} → statement M
 all-touched-spec =

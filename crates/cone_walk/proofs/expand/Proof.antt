@@ -13,10 +13,10 @@ use Rattle.cone_walk.proofs.expand.Statement.{statement}
 use Rattle.cone_walk.proofs.expand.Tie as tie
 
 abbrev Inv-loop : tie.InvT-loop
-Inv-loop inputs gates pins sources counts leaf-nodes leaf-backs n limit nodes₀ backs₀ len g back m size₀ j₀ nodes backs size j = (j ≤ m) × Room nodes backs size × Growth inputs gates pins sources counts (copiesIn leaf-nodes leaf-backs n) (copiesIn nodes₀ backs₀ len) g back j (copiesIn nodes backs size)
+Inv-loop inputs gates pins sources counts leaf-nodes leaf-backs n limit nodes₀ backs₀ len g back m size₀ j₀ cone-nodes cone-backs size j = (j ≤ m) × Room cone-nodes cone-backs size × Growth inputs gates pins sources counts (copiesIn leaf-nodes leaf-backs n) (copiesIn nodes₀ backs₀ len) g back j (copiesIn cone-nodes cone-backs size)
 
 abbrev μ-loop : tie.MeasureT-loop
-μ-loop inputs gates pins sources counts leaf-nodes leaf-backs n limit nodes₀ backs₀ len g back m size₀ j₀ nodes backs size j = m - j
+μ-loop inputs gates pins sources counts leaf-nodes leaf-backs n limit nodes₀ backs₀ len g back m size₀ j₀ cone-nodes cone-backs size j = m - j
 
 mul-m : tie.Need-mul-m Inv-loop μ-loop
 mul-m c = search needs
@@ -89,7 +89,7 @@ returns c =
     let loop = c .before .before .before .before .before .before .before .before .before .before .before .loop in
     let a = start .pre in
     let s = loop .inv .1 .some in
-    let e = length-copiesIn (loop .nodes) (loop .backs) (loop .size) in
+    let e = length-copiesIn (loop .cone-nodes) (loop .cone-backs) (loop .size) in
     Expanded.refused refl (growth-stop (a .0) (a .4) (omega arith) (a .1 .product) (length-copiesIn (now (start .args .leaf-nodes)) (now (start .args .leaf-backs)) (start .args .n)) (loop .inv .2) (c .before .before .before .before .before .visit .ensures) (c .if1 .taken) (omega arith))
 
 add-j : tie.Need-add-j Inv-loop μ-loop
@@ -107,7 +107,7 @@ loop-again c =
     let loop = c .before .before .before .before .before .before .before .before .before .before .before .loop in
     let a = start .pre in
     let k = c .before .before .before .before .before .visit .kept in
-    let e = length-copiesIn (now (start .args .nodes)) (now (start .args .backs)) (start .args .len) in
+    let e = length-copiesIn (now (start .args .cone-nodes)) (now (start .args .cone-backs)) (start .args .len) in
     let f = a .5 in
     let p : 1 ≤ c .before .before .before .before .before .visit .result = omega (arith, c .if1 .left) in
     (omega arith, room-next (k .1 .1 .1 .1 .1 .0) (k .1 .1 .1 .1 .1 .1 .0) (a .1 .small) (loop .inv .1) (c .before .before .before .before .before .visit .ensures) p, growth-next (a .0) (a .4) (omega arith) (omega arith) (loop .inv .2) (c .before .before .before .before .before .visit .ensures) p)

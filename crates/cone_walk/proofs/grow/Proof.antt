@@ -11,15 +11,15 @@ use Rattle.cone_walk.proofs.grow.Statement.{statement}
 use Rattle.cone_walk.proofs.grow.Tie as tie
 
 abbrev Inv-loop : tie.InvT-loop
-Inv-loop inputs gates pins sources counts leaf-nodes leaf-backs n limit nodes₀ backs₀ len₀ at₀ nodes backs len at = Turn inputs gates pins sources counts (copiesIn leaf-nodes leaf-backs n) (copiesIn nodes₀ backs₀ 1) nodes backs len at
+Inv-loop inputs gates pins sources counts leaf-nodes leaf-backs n limit nodes₀ backs₀ len₀ at₀ cone-nodes cone-backs len at = Turn inputs gates pins sources counts (copiesIn leaf-nodes leaf-backs n) (copiesIn nodes₀ backs₀ 1) cone-nodes cone-backs len at
 
 abbrev μ-loop : tie.MeasureT-loop
-μ-loop inputs gates pins sources counts leaf-nodes leaf-backs n limit nodes₀ backs₀ len₀ at₀ nodes backs len at = members - at
+μ-loop inputs gates pins sources counts leaf-nodes leaf-backs n limit nodes₀ backs₀ len₀ at₀ cone-nodes cone-backs len at = members - at
 
 loop-holds : tie.Need-loop-holds Inv-loop μ-loop
 loop-holds c =
     let start = c .before .before .before .before .before .before .before in
-    turn-first (now (start .args .nodes)) (now (start .args .backs)) (start .pre .2) (start .pre .3)
+    turn-first (now (start .args .cone-nodes)) (now (start .args .cone-backs)) (start .pre .2) (start .pre .3)
 
 mul-node : tie.Need-mul-node Inv-loop μ-loop
 mul-node c =
@@ -45,7 +45,7 @@ sub-expand : tie.Need-sub-expand Inv-loop μ-loop
 sub-expand c =
     let loop = c .before .before .before .before .before .loop in
     let t = loop .inv in
-    let m = member (loop .nodes) (loop .backs) (loop .len) (loop .at) (t .sweep .bounded) (omega arith) in
+    let m = member (loop .cone-nodes) (loop .cone-backs) (loop .len) (loop .at) (t .sweep .bounded) (omega arith) in
     m .low
 
 expand-requires : tie.Need-expand-requires Inv-loop μ-loop
@@ -53,7 +53,7 @@ expand-requires c κs =
     let start = c .before .before .before .before .before .before .before .before .before .before .before .before .before in
     let loop = c .before .before .before .before .before .loop in
     let t = loop .inv in
-    let m = member (loop .nodes) (loop .backs) (loop .len) (loop .at) (t .sweep .bounded) (omega arith) in
+    let m = member (loop .cone-nodes) (loop .cone-backs) (loop .len) (loop .at) (t .sweep .bounded) (omega arith) in
     (start .pre .0, start .pre .1, t .room, t .sweep .bounded, m .gate, m .near)
 
 same-length : tie.Need-same-length Inv-loop μ-loop

@@ -13,10 +13,10 @@ use Rattle.cone_walk.proofs.is_touched.Statement.{statement}
 use Rattle.cone_walk.proofs.is_touched.Tie as tie
 
 abbrev Inv-loop : tie.InvT-loop
-Inv-loop inputs gates pins sources counts nodes backs len node back p₀ p = (p ≤ len) × ((i : ℕ) → i < p → ¬ Fed sources counts (getD nodes i 0 - inputs) (getD pins (getD nodes i 0 - inputs) 0) (getD backs i 0) (copy node back))
+Inv-loop inputs gates pins sources counts cone-nodes cone-backs len node back p₀ p = (p ≤ len) × ((i : ℕ) → i < p → ¬ Fed sources counts (getD cone-nodes i 0 - inputs) (getD pins (getD cone-nodes i 0 - inputs) 0) (getD cone-backs i 0) (copy node back))
 
 abbrev μ-loop : tie.MeasureT-loop
-μ-loop inputs gates pins sources counts nodes backs len node back p₀ p = len - p
+μ-loop inputs gates pins sources counts cone-nodes cone-backs len node back p₀ p = len - p
 
 loop-holds : tie.Need-loop-holds Inv-loop μ-loop
 loop-holds c = (omega arith, λ i h. absurd (none h))
@@ -29,7 +29,7 @@ mul-g c =
     let start = c .before .before .before .before .before .before .before in
     let r = start .pre .1 in
     let w = start .pre .0 in
-    let m = member (now (start .args .nodes)) (now (start .args .backs)) (start .args .len) (c .before .loop .p) (start .pre .2) (omega arith) in
+    let m = member (now (start .args .cone-nodes)) (now (start .args .cone-backs)) (start .args .len) (c .before .loop .p) (start .pre .2) (omega arith) in
     omega arith
 
 shared-slice-read-g : tie.Need-shared-slice-read-g Inv-loop μ-loop
@@ -37,13 +37,13 @@ shared-slice-read-g c =
     let start = c .before .before .before .before .before .before .before .before in
     let r = start .pre .1 in
     let w = start .pre .0 in
-    let m = member (now (start .args .nodes)) (now (start .args .backs)) (start .args .len) (c .before .before .loop .p) (start .pre .2) (omega arith) in
+    let m = member (now (start .args .cone-nodes)) (now (start .args .cone-backs)) (start .args .len) (c .before .before .loop .p) (start .pre .2) (omega arith) in
     omega arith
 
 sub-g : tie.Need-sub-g Inv-loop μ-loop
 sub-g c =
     let start = c .before .before .before .before .before .before .before .before in
-    let m = member (now (start .args .nodes)) (now (start .args .backs)) (start .args .len) (c .before .before .loop .p) (start .pre .2) (omega arith) in
+    let m = member (now (start .args .cone-nodes)) (now (start .args .cone-backs)) (start .args .len) (c .before .before .loop .p) (start .pre .2) (omega arith) in
     m .low
 
 mul-is-fed : tie.Need-mul-is-fed Inv-loop μ-loop
@@ -51,7 +51,7 @@ mul-is-fed c =
     let start = c .before .before .before .before .before .before .before .before in
     let r = start .pre .1 in
     let w = start .pre .0 in
-    let m = member (now (start .args .nodes)) (now (start .args .backs)) (start .args .len) (c .before .before .loop .p) (start .pre .2) (omega arith) in
+    let m = member (now (start .args .cone-nodes)) (now (start .args .cone-backs)) (start .args .len) (c .before .before .loop .p) (start .pre .2) (omega arith) in
     let s = w .gates in
     let g = m .gate in
     omega arith
@@ -61,7 +61,7 @@ shared-slice-read-is-fed c =
     let start = c .before .before .before .before .before .before .before .before .before in
     let r = start .pre .1 in
     let w = start .pre .0 in
-    let m = member (now (start .args .nodes)) (now (start .args .backs)) (start .args .len) (c .before .before .before .loop .p) (start .pre .2) (omega arith) in
+    let m = member (now (start .args .cone-nodes)) (now (start .args .cone-backs)) (start .args .len) (c .before .before .before .loop .p) (start .pre .2) (omega arith) in
     let s = w .wires .sizes in
     let g = m .gate in
     omega arith
@@ -71,7 +71,7 @@ mul-is-fed-2 c =
     let start = c .before .before .before .before .before .before .before .before .before in
     let r = start .pre .1 in
     let w = start .pre .0 in
-    let m = member (now (start .args .nodes)) (now (start .args .backs)) (start .args .len) (c .before .before .before .loop .p) (start .pre .2) (omega arith) in
+    let m = member (now (start .args .cone-nodes)) (now (start .args .cone-backs)) (start .args .len) (c .before .before .before .loop .p) (start .pre .2) (omega arith) in
     omega arith
 
 shared-slice-read-is-fed-2 : tie.Need-shared-slice-read-is-fed-2 Inv-loop μ-loop
@@ -79,7 +79,7 @@ shared-slice-read-is-fed-2 c =
     let start = c .before .before .before .before .before .before .before .before .before .before in
     let r = start .pre .1 in
     let w = start .pre .0 in
-    let m = member (now (start .args .nodes)) (now (start .args .backs)) (start .args .len) (c .before .before .before .before .loop .p) (start .pre .2) (omega arith) in
+    let m = member (now (start .args .cone-nodes)) (now (start .args .cone-backs)) (start .args .len) (c .before .before .before .before .loop .p) (start .pre .2) (omega arith) in
     omega arith
 
 is-fed-requires : tie.Need-is-fed-requires Inv-loop μ-loop
@@ -87,7 +87,7 @@ is-fed-requires c κs =
     let start = c .before .before .before .before .before .before .before .before .before .before in
     let r = start .pre .1 in
     let w = start .pre .0 in
-    let m = member (now (start .args .nodes)) (now (start .args .backs)) (start .args .len) (c .before .before .before .before .loop .p) (start .pre .2) (omega arith) in
+    let m = member (now (start .args .cone-nodes)) (now (start .args .cone-backs)) (start .args .len) (c .before .before .before .before .loop .p) (start .pre .2) (omega arith) in
     let s = w .gates in
     let g = m .gate in
     let n = m .near in
@@ -97,7 +97,7 @@ is-fed-requires c κs =
 returns : tie.Need-returns Inv-loop μ-loop
 returns c =
     let a = c .before .before .before .before .before .before .before .before .before .before .before .before .args in
-    tells-some (λ (p : ℕ). Fed (now (a .sources)) (now (a .counts)) (getD (now (a .nodes)) p 0 - a .inputs) (getD (now (a .pins)) (getD (now (a .nodes)) p 0 - a .inputs) 0) (getD (now (a .backs)) p 0) (copy (a .node) (a .back))) (a .len) (c .before .before .before .before .before .before .loop .p) (omega arith) (c .before .is-fed .ensures .holds (c .if1 .taken))
+    tells-some (λ (p : ℕ). Fed (now (a .sources)) (now (a .counts)) (getD (now (a .cone-nodes)) p 0 - a .inputs) (getD (now (a .pins)) (getD (now (a .cone-nodes)) p 0 - a .inputs) 0) (getD (now (a .cone-backs)) p 0) (copy (a .node) (a .back))) (a .len) (c .before .before .before .before .before .before .loop .p) (omega arith) (c .before .is-fed .ensures .holds (c .if1 .taken))
 
 add-p : tie.Need-add-p Inv-loop μ-loop
 add-p c = search needs
@@ -112,7 +112,7 @@ returns-2 : tie.Need-returns-2 Inv-loop μ-loop
 returns-2 c =
     let loop = c .before .loop in
     let a = c .before .before .before .before .before .before .before .args in
-    tells-none (λ (p : ℕ). Fed (now (a .sources)) (now (a .counts)) (getD (now (a .nodes)) p 0 - a .inputs) (getD (now (a .pins)) (getD (now (a .nodes)) p 0 - a .inputs) 0) (getD (now (a .backs)) p 0) (copy (a .node) (a .back))) (a .len) (loop .p) (omega arith) (loop .inv .1)
+    tells-none (λ (p : ℕ). Fed (now (a .sources)) (now (a .counts)) (getD (now (a .cone-nodes)) p 0 - a .inputs) (getD (now (a .pins)) (getD (now (a .cone-nodes)) p 0 - a .inputs) 0) (getD (now (a .cone-backs)) p 0) (copy (a .node) (a .back))) (a .len) (loop .p) (omega arith) (loop .inv .1)
 
 pub is-touched-spec : {M : Type 1} → statement M
 is-touched-spec =

@@ -18,8 +18,8 @@ returns c =
     let y = copy (a .node) (a .back) in
     let ln = now (a .leaf-nodes) in
     let lb = now (a .leaf-backs) in
-    let us = now (a .nodes) in
-    let ds = now (a .backs) in
+    let us = now (a .cone-nodes) in
+    let ds = now (a .cone-backs) in
     let found = c .before .seek in
     let first = array-first ln lb (a .n) y (start .pre .4) (found .ensures) in
     visit-leaf (a .inputs) (a .limit) ln lb (a .n) us ds (a .len) y (found .result) first (omega arith)
@@ -31,8 +31,8 @@ returns-2 c =
     let y = copy (a .node) (a .back) in
     let ln = now (a .leaf-nodes) in
     let lb = now (a .leaf-backs) in
-    let us = now (a .nodes) in
-    let ds = now (a .backs) in
+    let us = now (a .cone-nodes) in
+    let ds = now (a .cone-backs) in
     let found = c .before .before .seek in
     let first = array-first ln lb (a .n) y (start .pre .4) (found .ensures) in
     visit-input (a .inputs) (a .limit) ln lb (a .n) us ds (a .len) y (found .result) _ first (omega arith) (omega arith)
@@ -53,8 +53,8 @@ returns-3 c =
     let y = copy (a .node) (a .back) in
     let ln = now (a .leaf-nodes) in
     let lb = now (a .leaf-backs) in
-    let us = now (a .nodes) in
-    let ds = now (a .backs) in
+    let us = now (a .cone-nodes) in
+    let ds = now (a .cone-backs) in
     let listed = c .before .find in
     visit-listed (a .inputs) (a .limit) ln lb (a .n) us ds (a .len) y (listed .result) (listed .ensures) (omega arith)
 
@@ -71,24 +71,24 @@ returns-4 c =
     let y = copy (a .node) (a .back) in
     let ln = now (a .leaf-nodes) in
     let lb = now (a .leaf-backs) in
-    let us = now (a .nodes) in
-    let ds = now (a .backs) in
+    let us = now (a .cone-nodes) in
+    let ds = now (a .cone-backs) in
     let found = c .before .before .before .before .before .before .before .seek in
     let first = array-first ln lb (a .n) y (start .pre .4) (found .ensures) in
     let listed = c .before .before .find in
     visit-full (a .inputs) (a .limit) ln lb (a .n) us ds (a .len) y (found .result) (listed .result) _ first (omega arith) (omega arith) (listed .ensures) (omega arith) (omega arith)
 
-mul-nodes : tie.Need-mul-nodes
-mul-nodes c = search needs
+mul-cone-nodes : tie.Need-mul-cone-nodes
+mul-cone-nodes c = search needs
 
-slice-write-nodes : tie.Need-slice-write-nodes
-slice-write-nodes c = search needs
+slice-write-cone-nodes : tie.Need-slice-write-cone-nodes
+slice-write-cone-nodes c = search needs
 
-mul-backs : tie.Need-mul-backs
-mul-backs c = search needs
+mul-cone-backs : tie.Need-mul-cone-backs
+mul-cone-backs c = search needs
 
-slice-write-backs : tie.Need-slice-write-backs
-slice-write-backs c = search needs
+slice-write-cone-backs : tie.Need-slice-write-cone-backs
+slice-write-cone-backs c = search needs
 
 add-result : tie.Need-add-result
 add-result c = search needs
@@ -106,8 +106,8 @@ returns-5 c =
     let y = copy (a .node) (a .back) in
     let ln = now (a .leaf-nodes) in
     let lb = now (a .leaf-backs) in
-    let us = now (a .nodes) in
-    let ds = now (a .backs) in
+    let us = now (a .cone-nodes) in
+    let ds = now (a .cone-backs) in
     let found = c .before .before .before .before .before .before .before .seek in
     let first = array-first ln lb (a .n) y (start .pre .4) (found .ensures) in
     let listed = c .before .before .find in
@@ -127,10 +127,10 @@ visit-spec =
     same-length-3
     same-length-4
     returns-4
-    mul-nodes
-    slice-write-nodes
-    mul-backs
-    slice-write-backs
+    mul-cone-nodes
+    slice-write-cone-nodes
+    mul-cone-backs
+    slice-write-cone-backs
     add-result
     same-length-5
     same-length-6

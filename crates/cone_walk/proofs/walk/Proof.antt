@@ -25,8 +25,8 @@ returns c =
     let first = array-first (now (a .leaf-nodes)) (now (a .leaf-backs)) (a .n) (copy (a .inputs + a .g) 0) (start .pre .5) (found .ensures) in
     told-root _ (found .result) refl first (omega arith)
 
-array-write-nodes : tie.Need-array-write-nodes
-array-write-nodes c = search needs
+array-write-cone-nodes : tie.Need-array-write-cone-nodes
+array-write-cone-nodes c = search needs
 
 mul-grow : tie.Need-mul-grow
 mul-grow c =
@@ -108,7 +108,7 @@ walk-spec =
     add-root
     seek-requires
     returns
-    array-write-nodes
+    array-write-cone-nodes
     mul-grow
     slice-aggregate-grow
     slice-aggregate-grow-2

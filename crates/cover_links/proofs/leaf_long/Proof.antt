@@ -23,7 +23,7 @@ shared-slice-read-u c = search needs
 returns : tie.Need-returns
 returns c =
     let a = c .before .before .before .before .before .before .args in
-    long-input (a .inputs) (now (a .roots)) (now (a .nodes)) (now (a .backs)) (now (a .lags)) (a .n) (a .i) (a .j) (now (a .marks)) (omega arith)
+    long-input (a .inputs) (now (a .roots)) (now (a .nodes)) (now (a .backs)) (now (a .lags)) (a .n) (a .i) (a .j) (now (a .ends)) (omega arith)
 
 place-of-requires : tie.Need-place-of-requires
 place-of-requires c κs = search needs
@@ -47,7 +47,7 @@ shared-slice-read-if2 c =
 returns-2 : tie.Need-returns-2
 returns-2 c =
     let a = c .before .before .before .before .before .before .before .before .before .args in
-    long-unmarked (a .inputs) (now (a .roots)) (now (a .nodes)) (now (a .backs)) (now (a .lags)) (a .n) (a .i) (a .j) (now (a .marks)) (c .before .before .place-of .result)
+    long-unmarked (a .inputs) (now (a .roots)) (now (a .nodes)) (now (a .backs)) (now (a .lags)) (a .n) (a .i) (a .j) (now (a .ends)) (c .before .before .place-of .result)
     (c .before .before .place-of .ensures) (c .if2 .taken)
 
 raised-requires : tie.Need-raised-requires
@@ -84,7 +84,7 @@ returns-3 : tie.Need-returns-3
 returns-3 c =
     let place-of = c .before .before .before .before .before .place-of in
     let a = c .before .before .before .before .before .before .before .before .before .before .before .before .args in
-    long-marked (a .inputs) (now (a .roots)) (now (a .nodes)) (now (a .backs)) (now (a .lags)) (a .n) (a .i) (a .j) (now (a .marks)) (place-of .result)
+    long-marked (a .inputs) (now (a .roots)) (now (a .nodes)) (now (a .backs)) (now (a .lags)) (a .n) (a .i) (a .j) (now (a .ends)) (place-of .result)
     (c .before .before .raised .result) (c .raised2 .result) (omega arith) (place-of .ensures) (c .before .before .before .if2 .left) (c .before .before .raised .ensures)
     (c .raised2 .ensures)
 

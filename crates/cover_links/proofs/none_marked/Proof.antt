@@ -11,10 +11,10 @@ use Rattle.cover_links.proofs.none_marked.Statement.{statement}
 use Rattle.cover_links.proofs.none_marked.Tie as tie
 
 abbrev Inv-loop : tie.InvT-loop
-Inv-loop marks n i₀ i = (i ≤ n) × ((k : ℕ) → k < i → getD marks k 0 ≡ 0)
+Inv-loop ends n i₀ i = (i ≤ n) × ((k : ℕ) → k < i → getD ends k 0 ≡ 0)
 
 abbrev μ-loop : tie.MeasureT-loop
-μ-loop marks n i₀ i = n - i
+μ-loop ends n i₀ i = n - i
 
 loop-holds : tie.Need-loop-holds Inv-loop μ-loop
 loop-holds c = (omega arith, λ i h. absurd (none h))
@@ -31,7 +31,7 @@ shared-slice-read-if1 c = search needs
 returns : tie.Need-returns Inv-loop μ-loop
 returns c =
     let a = c .before .before .before .before .args in
-    tells-not (λ (i : ℕ). getD (now (a .marks)) i 0 ≡ 0) (a .n) (c .before .before .before .loop .i) (omega arith) (c .if1 .taken)
+    tells-not (λ (i : ℕ). getD (now (a .ends)) i 0 ≡ 0) (a .n) (c .before .before .before .loop .i) (omega arith) (c .if1 .taken)
 
 add-i : tie.Need-add-i Inv-loop μ-loop
 add-i c = search needs
@@ -45,7 +45,7 @@ loop-again c = (omega arith, below-more _ _ (c .before .before .before .loop .in
 returns-2 : tie.Need-returns-2 Inv-loop μ-loop
 returns-2 c =
     let a = c .before .before .args in
-    tells-all (λ (i : ℕ). getD (now (a .marks)) i 0 ≡ 0) (a .n) (c .before .loop .i) (omega arith) (c .before .loop .inv .1)
+    tells-all (λ (i : ℕ). getD (now (a .ends)) i 0 ≡ 0) (a .n) (c .before .loop .i) (omega arith) (c .before .loop .inv .1)
 
 pub none-marked-spec : {M : Type 1} → statement M
 none-marked-spec =

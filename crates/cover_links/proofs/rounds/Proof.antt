@@ -11,11 +11,11 @@ use Rattle.cover_links.proofs.rounds.Statement.{statement}
 use Rattle.cover_links.proofs.rounds.Tie as tie
 
 abbrev Inv-loop : tie.InvT-loop
-Inv-loop inputs gates roots sizes nodes backs lags n period marks₀ luts₀ marks luts =
-    ((1 ≤ luts) × (luts ≤ period + 1)) × (length marks ≡ most) × Told inputs roots sizes nodes backs lags n marks (luts - 1)
+Inv-loop inputs gates roots sizes nodes backs lags n period marks₀ luts₀ ends luts =
+    ((1 ≤ luts) × (luts ≤ period + 1)) × (length ends ≡ most) × Told inputs roots sizes nodes backs lags n ends (luts - 1)
 
 abbrev μ-loop : tie.MeasureT-loop
-μ-loop inputs gates roots sizes nodes backs lags n period marks₀ luts₀ marks luts = (period + 1) - luts
+μ-loop inputs gates roots sizes nodes backs lags n period marks₀ luts₀ ends luts = (period + 1) - luts
 
 loop-holds : tie.Need-loop-holds Inv-loop μ-loop
 loop-holds c =
@@ -50,7 +50,7 @@ loop-again c =
       (omega arith, omega arith),
       c .round .ensures .0,
       told-more (a .inputs) (now (a .roots)) (now (a .sizes)) (now (a .nodes)) (now (a .backs)) (now (a .lags)) (a .n)
-          (loop .marks) (c .round .result) (loop .luts) some (start .pre .1) (loop .inv .2) (c .round .ensures .1),
+          (loop .ends) (c .round .result) (loop .luts) some (start .pre .1) (loop .inv .2) (c .round .ensures .1),
     )
 
 returns : tie.Need-returns Inv-loop μ-loop
@@ -58,7 +58,7 @@ returns c =
     let a = c .before .before .before .before .before .before .args in
     let b = c .before .loop .inv .0 in
     let e : c .before .loop .luts - 1 ≡ a .period = omega (arith, b .0, b .1) in
-    (c .before .loop .inv .1, subst (Told (a .inputs) (now (a .roots)) (now (a .sizes)) (now (a .nodes)) (now (a .backs)) (now (a .lags)) (a .n) (c .before .loop .marks)) e (c .before .loop .inv .2))
+    (c .before .loop .inv .1, subst (Told (a .inputs) (now (a .roots)) (now (a .sizes)) (now (a .nodes)) (now (a .backs)) (now (a .lags)) (a .n) (c .before .loop .ends)) e (c .before .loop .inv .2))
 
 pub rounds-spec : {M : Type 1} → statement M
 rounds-spec =

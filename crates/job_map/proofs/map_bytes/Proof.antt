@@ -18,12 +18,13 @@ read-net-requires c κs = search needs
 enum-known-v : tie.Need-enum-known-v
 enum-known-v c = search needs
 
--- src/lib.rt:107:9
+-- the walk refused: the area as it was
 returns : tie.Need-returns
 returns c =
-    walk-refused (c .before .before .before .before .before .before .before .args .k) (c .before .before .before .before .before .before .before .args .target)
-    (now (c .before .before .before .before .before .before .before .args .net)) (c .before .before .before .read-net .result) (c .before .before .before .read-net .ensures)
-    (now (c .before .before .before .before .before .before .before .args .area)) (search needs) (c .before .v .given .1)
+    let start = c .before .before .before .before .before .before .before in
+    let read-net = c .before .before .before .read-net in
+    let area = now (start .args .area) in
+    walk-refused (start .args .k) (start .args .target) (now (start .args .net)) (read-net .result) (read-net .ensures) area (search needs) (c .before .v .given .1)
 
 enum-told : tie.Need-enum-told
 enum-told c = search needs

@@ -12,12 +12,12 @@ use Rattle.net_leading.proofs.head_all.Tie as tie
 use lib.ListN.{getD}
 
 abbrev Inv-loop : tie.InvT-loop
-Inv-loop inputs gates outputs pins sources counts outs delays marks₀ new₀ marks new =
-    Heading inputs gates outputs pins sources counts outs delays marks × ((u v : ℕ) → Low inputs marks₀ u v → Low inputs marks u v)
-    × (new ≡ 0 → (g : ℕ) → g < gates → Marked marks g → Pushed inputs sources counts marks g (getD pins g 0) (getD marks g 0))
+Inv-loop inputs gates outputs pins sources counts outs delays marks₀ new₀ seen new =
+    Heading inputs gates outputs pins sources counts outs delays seen × ((u v : ℕ) → Low inputs marks₀ u v → Low inputs seen u v)
+    × (new ≡ 0 → (g : ℕ) → g < gates → Marked seen g → Pushed inputs sources counts seen g (getD pins g 0) (getD seen g 0))
 
 abbrev μ-loop : tie.MeasureT-loop
-μ-loop inputs gates outputs pins sources counts outs delays marks₀ new₀ marks new = left (topOf gates) marks + min new 1
+μ-loop inputs gates outputs pins sources counts outs delays marks₀ new₀ seen new = left (topOf gates) seen + min new 1
 
 loop-holds : tie.Need-loop-holds Inv-loop μ-loop
 loop-holds c = (c .before .before .before .before .before .before .pre .2, λ u v k. k, λ e. absurd (one e))

@@ -9,11 +9,11 @@ use Rattle.net_leading.proofs.head_sweep.Statement.{statement}
 use Rattle.net_leading.proofs.head_sweep.Tie as tie
 
 abbrev Inv-loop : tie.InvT-loop
-Inv-loop inputs gates outputs pins sources counts outs delays marks₀ new₀ g₀ marks new g =
-    (g ≤ gates) × PushSweep inputs gates outputs pins sources counts outs delays marks₀ marks g new
+Inv-loop inputs gates outputs pins sources counts outs delays marks₀ new₀ g₀ seen new g =
+    (g ≤ gates) × PushSweep inputs gates outputs pins sources counts outs delays marks₀ seen g new
 
 abbrev μ-loop : tie.MeasureT-loop
-μ-loop inputs gates outputs pins sources counts outs delays marks₀ new₀ g₀ marks new g = gates - g
+μ-loop inputs gates outputs pins sources counts outs delays marks₀ new₀ g₀ seen new g = gates - g
 
 loop-holds : tie.Need-loop-holds Inv-loop μ-loop
 loop-holds c = (omega arith, heads-none (c .before .before .before .before .before .before .pre .2))

@@ -14,18 +14,18 @@ use Rattle.net_leading.proofs.settled.Reads as settled-reads
 settled-requires : tie.Need-settled-requires
 settled-requires c κs = search needs
 
-sub-marks : tie.Need-sub-marks
-sub-marks c =
+sub-seen : tie.Need-sub-seen
+sub-seen c =
     let start = c .before .before .before .before in
-    not-low (start .args .inputs) (now (start .args .marks)) (start .args .node) (start .args .value) (c .before .settled .ensures .fails (c .if1 .left)) .0
+    not-low (start .args .inputs) (now (start .args .seen)) (start .args .node) (start .args .value) (c .before .settled .ensures .fails (c .if1 .left)) .0
 
-mul-marks : tie.Need-mul-marks
-mul-marks c = search needs
+mul-seen : tie.Need-mul-seen
+mul-seen c = search needs
 
-slice-write-marks : tie.Need-slice-write-marks
-slice-write-marks c =
+slice-write-seen : tie.Need-slice-write-seen
+slice-write-seen c =
     let start = c .before .before .before .before in
-    let l = not-low (start .args .inputs) (now (start .args .marks)) (start .args .node) (start .args .value) (c .before .settled .ensures .fails (c .if1 .left)) .0 in
+    let l = not-low (start .args .inputs) (now (start .args .seen)) (start .args .node) (start .args .value) (c .before .settled .ensures .fails (c .if1 .left)) .0 in
     let p = start .pre in omega arith
 
 same-length : tie.Need-same-length
@@ -40,16 +40,16 @@ same-length-2 c = search needs
 returns-2 : tie.Need-returns-2
 returns-2 c =
     let start = c .before .before .before .before in
-    let u = not-low (start .args .inputs) (now (start .args .marks)) (start .args .node) (start .args .value) (c .before .settled .ensures .fails (c .if1 .left)) in put refl refl (u .0) (u .1)
+    let u = not-low (start .args .inputs) (now (start .args .seen)) (start .args .node) (start .args .value) (c .before .settled .ensures .fails (c .if1 .left)) in put refl refl (u .0) (u .1)
 
 pub push-spec : {M : Type 1} → statement M
 push-spec =
     tie.close
     (tie.spec
     settled-requires
-    sub-marks
-    mul-marks
-    slice-write-marks
+    sub-seen
+    mul-seen
+    slice-write-seen
     same-length
     returns
     same-length-2

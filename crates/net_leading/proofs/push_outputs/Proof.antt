@@ -9,11 +9,11 @@ use Rattle.net_leading.proofs.push_outputs.Statement.{statement}
 use Rattle.net_leading.proofs.push_outputs.Tie as tie
 
 abbrev Inv-loop : tie.InvT-loop
-Inv-loop inputs gates outputs pins sources counts outs delays marks₀ new₀ i₀ marks new i =
-    (i ≤ outputs) × PushOuts inputs gates outputs pins sources counts outs delays marks₀ marks i new
+Inv-loop inputs gates outputs pins sources counts outs delays marks₀ new₀ i₀ seen new i =
+    (i ≤ outputs) × PushOuts inputs gates outputs pins sources counts outs delays marks₀ seen i new
 
 abbrev μ-loop : tie.MeasureT-loop
-μ-loop inputs gates outputs pins sources counts outs delays marks₀ new₀ i₀ marks new i = outputs - i
+μ-loop inputs gates outputs pins sources counts outs delays marks₀ new₀ i₀ seen new i = outputs - i
 
 loop-holds : tie.Need-loop-holds Inv-loop μ-loop
 loop-holds c = (omega arith, outs-none (c .before .before .before .before .before .before .pre .2))

@@ -10,11 +10,11 @@ use Rattle.net_leading.proofs.push_pins.Statement.{statement}
 use Rattle.net_leading.proofs.push_pins.Tie as tie
 
 abbrev Inv-loop : tie.InvT-loop
-Inv-loop inputs gates outputs pins sources counts outs delays marks₀ g base n new₀ j₀ marks new j =
-    (j ≤ n) × PushPins inputs gates outputs pins sources counts outs delays marks₀ marks g j new
+Inv-loop inputs gates outputs pins sources counts outs delays marks₀ g base n new₀ j₀ seen new j =
+    (j ≤ n) × PushPins inputs gates outputs pins sources counts outs delays marks₀ seen g j new
 
 abbrev μ-loop : tie.MeasureT-loop
-μ-loop inputs gates outputs pins sources counts outs delays marks₀ g base n new₀ j₀ marks new j = n - j
+μ-loop inputs gates outputs pins sources counts outs delays marks₀ g base n new₀ j₀ seen new j = n - j
 
 mul-base : tie.Need-mul-base Inv-loop μ-loop
 mul-base c = let s = c .before .before .before .before .before .before .pre .4 .size in omega arith

@@ -22,17 +22,17 @@ shared-slice-read-mark c = search needs
 returns-2 : tie.Need-returns-2
 returns-2 c =
     let start = c .before .before .before in
-    tells-no (low-unmarked (start .args .inputs) (now (start .args .marks)) (start .args .node) (start .args .value) (omega arith) (c .if2 .taken))
+    tells-no (low-unmarked (start .args .inputs) (now (start .args .seen)) (start .args .node) (start .args .value) (omega arith) (c .if2 .taken))
 
 returns-3 : tie.Need-returns-3
 returns-3 c =
     let start = c .before .before .before .before in
-    tells-no (low-above (start .args .inputs) (now (start .args .marks)) (start .args .node) (start .args .value) (omega arith) (c .if3 .taken))
+    tells-no (low-above (start .args .inputs) (now (start .args .seen)) (start .args .node) (start .args .value) (omega arith) (c .if3 .taken))
 
 returns-4 : tie.Need-returns-4
 returns-4 c =
     let start = c .before .before .before .before in
-    tells-yes (low-gate (start .args .inputs) (now (start .args .marks)) (start .args .node) (start .args .value) (omega arith) (c .before .if2 .left) (c .if3 .left))
+    tells-yes (low-gate (start .args .inputs) (now (start .args .seen)) (start .args .node) (start .args .value) (omega arith) (c .before .if2 .left) (c .if3 .left))
 
 pub settled-spec : {M : Type 1} → statement M
 settled-spec =

@@ -12,10 +12,10 @@ use Rattle.net_loops.proofs.first_open.Statement.{statement}
 use Rattle.net_loops.proofs.first_open.Tie as tie
 
 abbrev Inv-loop : tie.InvT-loop
-Inv-loop inputs marks sources counts at n j₀ j = (j ≤ n) × ((i : ℕ) → i < j → ¬ ((getD counts (at + i) 0 ≡ 0) × (¬ Known inputs marks (getD sources (at + i) 0))))
+Inv-loop inputs seen sources counts at n j₀ j = (j ≤ n) × ((i : ℕ) → i < j → ¬ ((getD counts (at + i) 0 ≡ 0) × (¬ Known inputs seen (getD sources (at + i) 0))))
 
 abbrev μ-loop : tie.MeasureT-loop
-μ-loop inputs marks sources counts at n j₀ j = n - j
+μ-loop inputs seen sources counts at n j₀ j = n - j
 
 loop-holds : tie.Need-loop-holds Inv-loop μ-loop
 loop-holds c = (omega arith, λ i h. absurd (none h))
@@ -49,7 +49,7 @@ returns c =
     let loop = c .before .before .before .before .before .loop in
     let start = c .before .before .before .before .before .before .before .before .before in
     first-here (λ (j : ℕ). (getD (now (start .args .counts)) (start .args .at + j) 0 ≡ 0) ×
-    (¬ Known (start .args .inputs) (now (start .args .marks)) (getD (now (start .args .sources)) (start .args .at + j) 0)))
+    (¬ Known (start .args .inputs) (now (start .args .seen)) (getD (now (start .args .sources)) (start .args .at + j) 0)))
     (start .args .n) (loop .j) (omega arith) (c .before .open-pin .ensures .holds (c .if1 .taken)) (loop .inv .1)
 
 add-j : tie.Need-add-j Inv-loop μ-loop
@@ -65,7 +65,7 @@ returns-2 : tie.Need-returns-2 Inv-loop μ-loop
 returns-2 c =
     let start = c .before .before .before .before .before in
     first-none (λ (j : ℕ). (getD (now (start .args .counts)) (start .args .at + j) 0 ≡ 0) ×
-    (¬ Known (start .args .inputs) (now (start .args .marks)) (getD (now (start .args .sources)) (start .args .at + j) 0)))
+    (¬ Known (start .args .inputs) (now (start .args .seen)) (getD (now (start .args .sources)) (start .args .at + j) 0)))
     (start .args .n) (λ j h. c .before .loop .inv .1 j (omega arith))
 
 pub first-open-spec : {M : Type 1} → statement M

@@ -12,11 +12,11 @@ use Rattle.net_loops.proofs.place_all.Statement.{statement}
 use Rattle.net_loops.proofs.place_all.Tie as tie
 
 abbrev Inv-loop : tie.InvT-loop
-Inv-loop inputs gates pins sources counts marks₀ order₀ new₀ placed₀ marks order new placed =
-    Placing inputs gates pins sources counts marks order placed × (new ≡ 0 → (g : ℕ) → g < gates → Stuck inputs pins sources counts marks g)
+Inv-loop inputs gates pins sources counts marks₀ order₀ new₀ placed₀ seen order new placed =
+    Placing inputs gates pins sources counts seen order placed × (new ≡ 0 → (g : ℕ) → g < gates → Stuck inputs pins sources counts seen g)
 
 abbrev μ-loop : tie.MeasureT-loop
-μ-loop inputs gates pins sources counts marks₀ order₀ new₀ placed₀ marks order new placed = unmarked marks + min new 1
+μ-loop inputs gates pins sources counts marks₀ order₀ new₀ placed₀ seen order new placed = unmarked seen + min new 1
 
 place-sweep-requires : tie.Need-place-sweep-requires Inv-loop μ-loop
 place-sweep-requires c κs = c .before .before .before .before .before .before .before .pre

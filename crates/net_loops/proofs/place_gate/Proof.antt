@@ -38,14 +38,14 @@ first-open-requires c κs =
     let q′ = w .room′ in
     (omega arith, omega arith, λ j k. let n = w .node (a .g) j h k in let s = r .size in omega arith)
 
-add-marks : tie.Need-add-marks
-add-marks c = search needs
+add-seen : tie.Need-add-seen
+add-seen c = search needs
 
-mul-marks : tie.Need-mul-marks
-mul-marks c = search needs
+mul-seen : tie.Need-mul-seen
+mul-seen c = search needs
 
-slice-write-marks : tie.Need-slice-write-marks
-slice-write-marks c = search needs
+slice-write-seen : tie.Need-slice-write-seen
+slice-write-seen c = search needs
 
 mul-order : tie.Need-mul-order
 mul-order c = search needs
@@ -87,9 +87,9 @@ place-gate-spec =
     shared-slice-read-n
     mul-first-open
     first-open-requires
-    add-marks
-    mul-marks
-    slice-write-marks
+    add-seen
+    mul-seen
+    slice-write-seen
     mul-order
     slice-write-order
     same-length

@@ -11,10 +11,10 @@ use Rattle.net_loops.proofs.place_sweep.Statement.{statement}
 use Rattle.net_loops.proofs.place_sweep.Tie as tie
 
 abbrev Inv-loop : tie.InvT-loop
-Inv-loop inputs gates pins sources counts marks₀ order₀ placed new₀ g₀ marks order new g = (g ≤ gates) × PlaceSweep inputs gates pins sources counts marks₀ marks order placed g new
+Inv-loop inputs gates pins sources counts marks₀ order₀ placed new₀ g₀ seen order new g = (g ≤ gates) × PlaceSweep inputs gates pins sources counts marks₀ seen order placed g new
 
 abbrev μ-loop : tie.MeasureT-loop
-μ-loop inputs gates pins sources counts marks₀ order₀ placed new₀ g₀ marks order new g = gates - g
+μ-loop inputs gates pins sources counts marks₀ order₀ placed new₀ g₀ seen order new g = gates - g
 
 loop-holds : tie.Need-loop-holds Inv-loop μ-loop
 loop-holds c = (omega arith, place-sweep-none (c .before .before .before .before .before .pre .1))
@@ -29,7 +29,7 @@ add-new : tie.Need-add-new Inv-loop μ-loop
 add-new c =
     let s = place-sweep-next (c .before .before .before .before .before .before .before .before .loop .inv .1) (c .before .before .before .before .place-gate .ensures) in
     let n = s .grown .new in
-    let b = unmarked-bound (now (c .before .before .before .before .before .before .before .before .before .before .before .before .before .before .args .marks)) in
+    let b = unmarked-bound (now (c .before .before .before .before .before .before .before .before .before .before .before .before .before .before .args .seen)) in
     omega arith
 
 add-g : tie.Need-add-g Inv-loop μ-loop

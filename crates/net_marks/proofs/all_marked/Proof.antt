@@ -12,10 +12,10 @@ use Rattle.net_marks.proofs.all_marked.Statement.{statement}
 use Rattle.net_marks.proofs.all_marked.Tie as tie
 
 abbrev Inv-loop : tie.InvT-loop
-Inv-loop marks n g₀ g = (g ≤ n) × ((i : ℕ) → i < g → Marked marks i)
+Inv-loop seen n g₀ g = (g ≤ n) × ((i : ℕ) → i < g → Marked seen i)
 
 abbrev μ-loop : tie.MeasureT-loop
-μ-loop marks n g₀ g = n - g
+μ-loop seen n g₀ g = n - g
 
 loop-holds : tie.Need-loop-holds Inv-loop μ-loop
 loop-holds c = (omega arith, λ i h. absurd (none h))

@@ -13,10 +13,10 @@ shared-slice-read-result : tie.Need-shared-slice-read-result
 shared-slice-read-result c = search needs
 
 returns : tie.Need-returns
-returns c = known-input (c .before .args .inputs) (now (c .before .args .marks)) (c .before .args .node) (omega arith)
+returns c = known-input (c .before .args .inputs) (now (c .before .args .seen)) (c .before .args .node) (omega arith)
 
 returns-2 : tie.Need-returns-2
-returns-2 c = known-gate (c .before .before .args .inputs) (now (c .before .before .args .marks)) (c .before .before .args .node) (omega arith)
+returns-2 c = known-gate (c .before .before .args .inputs) (now (c .before .before .args .seen)) (c .before .before .args .node) (omega arith)
 
 pub known-spec : {M : Type 1} → statement M
 known-spec = tie.close (tie.spec mul-result shared-slice-read-result returns returns-2)

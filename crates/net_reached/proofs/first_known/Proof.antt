@@ -11,10 +11,10 @@ use Rattle.net_reached.proofs.first_known.Statement.{statement}
 use Rattle.net_reached.proofs.first_known.Tie as tie
 
 abbrev Inv-loop : tie.InvT-loop
-Inv-loop inputs marks sources at n j₀ j = (j ≤ n) × ((i : ℕ) → i < j → ¬ Known inputs marks (getD sources (at + i) 0))
+Inv-loop inputs seen sources at n j₀ j = (j ≤ n) × ((i : ℕ) → i < j → ¬ Known inputs seen (getD sources (at + i) 0))
 
 abbrev μ-loop : tie.MeasureT-loop
-μ-loop inputs marks sources at n j₀ j = n - j
+μ-loop inputs seen sources at n j₀ j = n - j
 
 loop-holds : tie.Need-loop-holds Inv-loop μ-loop
 loop-holds c = (omega arith, λ i h. absurd (none h))
@@ -38,7 +38,7 @@ returns : tie.Need-returns Inv-loop μ-loop
 returns c =
     let loop = c .before .before .before .before .loop in
     let start = c .before .before .before .before .before .before .before in
-    first-here (λ (j : ℕ). Known (start .args .inputs) (now (start .args .marks)) (getD (now (start .args .sources)) (start .args .at + j) 0)) (start .args .n) (loop .j)
+    first-here (λ (j : ℕ). Known (start .args .inputs) (now (start .args .seen)) (getD (now (start .args .sources)) (start .args .at + j) 0)) (start .args .n) (loop .j)
     (omega arith) (c .before .known .ensures .holds (c .if1 .taken)) (loop .inv .1)
 
 add-j : tie.Need-add-j Inv-loop μ-loop
@@ -53,7 +53,7 @@ loop-again c = (search needs, below-more _ _ (c .before .before .before .before 
 returns-2 : tie.Need-returns-2 Inv-loop μ-loop
 returns-2 c =
     let start = c .before .before .before .before in
-    first-none (λ (j : ℕ). Known (start .args .inputs) (now (start .args .marks)) (getD (now (start .args .sources)) (start .args .at + j) 0)) (start .args .n)
+    first-none (λ (j : ℕ). Known (start .args .inputs) (now (start .args .seen)) (getD (now (start .args .sources)) (start .args .at + j) 0)) (start .args .n)
     (λ j h. c .before .loop .inv .1 j (omega arith))
 
 pub first-known-spec : {M : Type 1} → statement M

@@ -11,11 +11,11 @@ use Rattle.net_reached.proofs.reach_all.Statement.{statement}
 use Rattle.net_reached.proofs.reach_all.Tie as tie
 
 abbrev Inv-loop : tie.InvT-loop
-Inv-loop inputs gates pins sources counts marks₀ ranks₀ new₀ marks ranks new =
-    Reaching inputs gates pins sources counts marks ranks × (new ≡ 0 → (g : ℕ) → g < gates → Shut inputs pins sources marks g)
+Inv-loop inputs gates pins sources counts marks₀ ranks₀ new₀ seen ranks new =
+    Reaching inputs gates pins sources counts seen ranks × (new ≡ 0 → (g : ℕ) → g < gates → Shut inputs pins sources seen g)
 
 abbrev μ-loop : tie.MeasureT-loop
-μ-loop inputs gates pins sources counts marks₀ ranks₀ new₀ marks ranks new = unmarked marks + min new 1
+μ-loop inputs gates pins sources counts marks₀ ranks₀ new₀ seen ranks new = unmarked seen + min new 1
 
 reach-sweep-requires : tie.Need-reach-sweep-requires Inv-loop μ-loop
 reach-sweep-requires c κs = c .before .before .before .before .before .before .before .pre

@@ -80,18 +80,18 @@ mul-ranks c = search needs
 slice-write-ranks : tie.Need-slice-write-ranks
 slice-write-ranks c = search needs
 
-add-marks : tie.Need-add-marks
-add-marks c =
+add-seen : tie.Need-add-seen
+add-seen c =
     let start = c .before .before .before .before .before .before .before .before .before .before .before .before .before .before in
     let a = start .args in
     let p = start .pre .0 .pins (a .g) (start .pre .1) in
     omega arith
 
-mul-marks : tie.Need-mul-marks
-mul-marks c = search needs
+mul-seen : tie.Need-mul-seen
+mul-seen c = search needs
 
-slice-write-marks : tie.Need-slice-write-marks
-slice-write-marks c = search needs
+slice-write-seen : tie.Need-slice-write-seen
+slice-write-seen c = search needs
 
 same-length : tie.Need-same-length
 same-length c = search needs
@@ -135,9 +135,9 @@ reach-gate-spec =
     rank-behind-requires
     mul-ranks
     slice-write-ranks
-    add-marks
-    mul-marks
-    slice-write-marks
+    add-seen
+    mul-seen
+    slice-write-seen
     same-length
     same-length-2
     returns-2

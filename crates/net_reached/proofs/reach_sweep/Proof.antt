@@ -11,10 +11,10 @@ use Rattle.net_reached.proofs.reach_sweep.Statement.{statement}
 use Rattle.net_reached.proofs.reach_sweep.Tie as tie
 
 abbrev Inv-loop : tie.InvT-loop
-Inv-loop inputs gates pins sources counts marks₀ ranks₀ new₀ g₀ marks ranks new g = (g ≤ gates) × ReachSweep inputs gates pins sources counts marks₀ marks ranks g new
+Inv-loop inputs gates pins sources counts marks₀ ranks₀ new₀ g₀ seen ranks new g = (g ≤ gates) × ReachSweep inputs gates pins sources counts marks₀ seen ranks g new
 
 abbrev μ-loop : tie.MeasureT-loop
-μ-loop inputs gates pins sources counts marks₀ ranks₀ new₀ g₀ marks ranks new g = gates - g
+μ-loop inputs gates pins sources counts marks₀ ranks₀ new₀ g₀ seen ranks new g = gates - g
 
 loop-holds : tie.Need-loop-holds Inv-loop μ-loop
 loop-holds c = (omega arith, sweep-none (c .before .before .before .before .before .pre .1))
@@ -26,7 +26,7 @@ add-new : tie.Need-add-new Inv-loop μ-loop
 add-new c =
     let s = sweep-next (c .before .before .before .before .before .before .before .before .loop .inv .1) (c .before .before .before .before .reach-gate .ensures) in
     let n = s .grown .new in
-    let b = unmarked-bound (now (c .before .before .before .before .before .before .before .before .before .before .before .before .before .before .args .marks)) in
+    let b = unmarked-bound (now (c .before .before .before .before .before .before .before .before .before .before .before .before .before .before .args .seen)) in
     omega arith
 
 add-g : tie.Need-add-g Inv-loop μ-loop

@@ -1,4 +1,4 @@
--- How a call of map ends, for every input.
+-- Laws: how a call of map ends, for every input.
 use mathlib.Core.Path.{_≡_, refl, sym, subst, ap, _∙_}
 use mathlib.Core.List.{List}
 use mathlib.Core.Logic.{_⊎_, inl, inr}
@@ -17,7 +17,8 @@ use Rattle.cover_records.specs.Outcomes.{turnedBack, Checked, passes, fails, ch
 use Rattle.job_sizes.specs.Sizes.{sizesOf, Fit}
 use Rattle.job_sizes.specs.SizeLaws.{map-sizes-are}
 use Rattle.demands.specs.TurnedBack.{IsNet, NetFails, MapFails, Outside, First, OfMap}
-use Rattle.demands.specs.OrderLaws.{Said, fits, said1, said2, said3, sizes-said, one-net, net-range, NetEnds, stops, goes, net-ends, net-passes, first-of, Told}
+use Rattle.demands.specs.OrderLaws.{sizes-said, one-net, net-range, net-ends, net-passes, first-of}
+use Rattle.demands.specs.Endings.{Said, fits, said1, said2, said3, Told, NetEnds, stops, goes, MapEnds}
 
 module _ (net : List ℕ) (k target : ℕ) (area scratch : List ℕ) where
   abbrev MapBad : ℕ → Type 0
@@ -40,13 +41,6 @@ module _ (net : List ℕ) (k target : ℕ) (area scratch : List ℕ) where
   map-least n a b c d e m (MapFails.ofNet f) = d m f
   map-least n a b c d e m (MapFails.unreachable N i t f q) = omega (arith, e N i t f)
 
-  -- how a call of map ends
-  pub data MapEnds (o : MapOutcome) : Type 0 where
-    early : (n : ℕ) → n ≤ 3 → First MapBad n → o ≡ record { answer = turnedBack n; area = area; scratch = scratch } → MapEnds o
-    late : (n : ℕ) → 3 < n → First MapBad n → o ≡ record { answer = turnedBack n; area = area; scratch = cleared scratchArea scratch } → MapEnds o
-    wrote : (N : Net) (P : Passed N k) (φ : ℕ) (K : Key N k φ) → mapSizes k target area scratch ≡ 0 → checkNet k net ≡ passes N P → IsNet k net N
-        → ((m : ℕ) → ¬ MapBad m) → (target ≡ 0 → φ ≡ leastPeriod P) → (¬ (target ≡ 0) → φ ≡ target) → o ≡ mapWritten (covered φ K) area scratch → MapEnds o
-
   map-none : ((m : ℕ) → MapBad m → 13 ≤ m) → (m : ℕ) → ¬ MapBad m
   map-none l m f = let a = l m f in let b = map-range m f in omega (arith, b .1)
 
@@ -62,10 +56,10 @@ module _ (net : List ℕ) (k target : ℕ) (area scratch : List ℕ) where
     wide n (inr f) = absurd (let a = fit .space in omega arith)
 
     map-passed : (N : Net) (P : Passed N k) → checkNet k net ≡ passes N P → IsNet k net N → ((m : ℕ) → ¬ NetFails k net m)
-        → (t : ℕ) → target ≡ t → MapEnds (mapWritten (mapped N k t P) area scratch)
+        → (t : ℕ) → target ≡ t → MapEnds net k target area scratch (mapWritten (mapped N k t P) area scratch)
     unfolding mapped forTarget mapWritten
     map-passed N P p i none zero e =
-        wrote N P (leastPeriod P) (leastKey P) sizes p i
+        MapEnds.wrote N P (leastPeriod P) (leastKey P) sizes p i
         (map-none (map-least 13 (inside 13) (near 13) (wide 13) (λ m f. absurd (none m f)) (λ M j t f. absurd (t e)))) (λ q. refl) (λ q. absurd (q e)) refl
     map-passed N P p i none (suc t) e = go (key? P (suc-le-suc zero-le))
       where
@@ -75,29 +69,29 @@ module _ (net : List ℕ) (k target : ℕ) (area scratch : List ℕ) where
         reach : (M : Net) → IsNet k net M → Reachable N k (suc t) → Reachable M k target
         reach M j r = subst (λ (x : Net). Reachable x k target) (one-net k net i j) (subst (Reachable N k) (sym e) r)
 
-        go : (d : Dec (Key N k (suc t))) → MapEnds (mapWritten (forTarget N k (suc t) d) area scratch)
+        go : (d : Dec (Key N k (suc t))) → MapEnds net k target area scratch (mapWritten (forTarget N k (suc t) d) area scratch)
         go (yes K) =
-            wrote N P (suc t) K sizes p i
+            MapEnds.wrote N P (suc t) K sizes p i
             (map-none (map-least 13 (inside 13) (near 13) (wide 13) (λ m f. absurd (none m f)) (λ M j q f. absurd (f (reach M j (key-reachable P (suc-le-suc zero-le) K)))))) (λ q. absurd (not-zero q))
             (λ q. sym e) refl
         go (no n) =
-            late 12 (omega arith)
+            MapEnds.late 12 (omega arith)
             (first-of (MapFails.unreachable N i not-zero (λ r. n (keyOf P (subst (Reachable N k) e r))) refl)
             (map-least 12 (inside 12) (near 12) (wide 12) (λ m f. absurd (none m f)) (λ M j q f. omega arith))) refl
 
-    map-netted : NetEnds k net (checkNet k net) → MapEnds (mapChecked k target (checkNet k net) area scratch)
+    map-netted : NetEnds k net (checkNet k net) → MapEnds net k target area scratch (mapChecked k target (checkNet k net) area scratch)
     unfolding mapChecked
     map-netted (stops n e f least) =
         let r = net-range k net n f in
-        late n (omega arith) (first-of (MapFails.ofNet f) (map-least n (inside n) (near n) (wide n) least (λ M j q g. omega arith)))
+        MapEnds.late n (omega arith) (first-of (MapFails.ofNet f) (map-least n (inside n) (near n) (wide n) least (λ M j q g. omega arith)))
         (ap (λ (c : Checked k). mapChecked k target c area scratch) e)
     map-netted (goes N P e i none) =
-        subst (λ (c : Checked k). MapEnds (mapChecked k target c area scratch)) (sym e) (map-passed N P e i none target refl)
+        subst (λ (c : Checked k). MapEnds net k target area scratch (mapChecked k target c area scratch)) (sym e) (map-passed N P e i none target refl)
 
   map-small : (m : ℕ) → NetFails k net m → 3 ≤ m
   map-small m f = let r = net-range k net m f in omega arith
 
-  pub map-ends : MapEnds (mapOutcome net k target area scratch)
+  pub map-ends : MapEnds net k target area scratch (mapOutcome net k target area scratch)
   unfolding mapOutcome mapSized
   map-ends = go (sizes-said k target (length area) (length scratch))
     where
@@ -107,27 +101,27 @@ module _ (net : List ℕ) (k target : ℕ) (area scratch : List ℕ) where
       back : {n : ℕ} → mapSizes k target area scratch ≡ suc n → mapSized (mapSizes k target area scratch) k target net area scratch ≡ record { answer = turnedBack (suc n); area = area; scratch = scratch }
       back e = ap (λ (n : ℕ). mapSized n k target net area scratch) e
 
-      go : Said k target (length area) (length scratch) (sizesOf k target (length area) (length scratch)) → MapEnds (mapSized (mapSizes k target area scratch) k target net area scratch)
-      go (said1 e f) = early 1 (omega arith) (first-of (MapFails.outside f refl) (λ m g. let r = map-range m g in r .0)) (back (sizes e))
+      go : Said k target (length area) (length scratch) (sizesOf k target (length area) (length scratch)) → MapEnds net k target area scratch (mapSized (mapSizes k target area scratch) k target net area scratch)
+      go (said1 e f) = MapEnds.early 1 (omega arith) (first-of (MapFails.outside f refl) (λ m g. let r = map-range m g in r .0)) (back (sizes e))
       go (said2 e l h f) =
-          early 2 (omega arith) (first-of (MapFails.above f refl) (map-least 2 (λ g. absurd (g (l, h))) (λ g. omega arith) (λ g. omega arith) (λ m g. let r = map-small m g in omega arith) (λ M j q g. omega arith))) (back (sizes e))
+          MapEnds.early 2 (omega arith) (first-of (MapFails.above f refl) (map-least 2 (λ g. absurd (g (l, h))) (λ g. omega arith) (λ g. omega arith) (λ m g. let r = map-small m g in omega arith) (λ M j q g. omega arith))) (back (sizes e))
       go (said3 e l h t f) =
-          early 3 (omega arith)
+          MapEnds.early 3 (omega arith)
           (first-of (small f) (map-least 3 (λ g. absurd (g (l, h))) (λ g. absurd (omega arith)) (λ g. omega arith) map-small (λ M j q g. omega arith))) (back (sizes e))
         where
           small : (length area < coverArea) ⊎ (length scratch < scratchArea) → MapBad 3
           small (inl g) = MapFails.room g refl
           small (inr g) = MapFails.space g refl
-      go (fits e f) = subst (λ (n : ℕ). MapEnds (mapSized n k target net area scratch)) (sym (sizes e)) (map-netted (sizes e) f (net-ends k net))
+      go (fits e f) = subst (λ (n : ℕ). MapEnds net k target area scratch (mapSized n k target net area scratch)) (sym (sizes e)) (map-netted (sizes e) f (net-ends k net))
 
   pub map-told : Told MapBad ((mapOutcome net k target area scratch) .answer)
   unfolding mapWritten
   map-told = go map-ends
     where
-      go : {o : MapOutcome} → MapEnds o → Told MapBad (o .answer)
-      go (early n h f e) = subst (λ (o : MapOutcome). Told MapBad (o .answer)) (sym e) f
-      go (late n h f e) = subst (λ (o : MapOutcome). Told MapBad (o .answer)) (sym e) f
-      go (wrote N P φ K s p i none z t e) = subst (λ (o : MapOutcome). Told MapBad (o .answer)) (sym e) none
+      go : {o : MapOutcome} → MapEnds net k target area scratch o → Told MapBad (o .answer)
+      go (MapEnds.early n h f e) = subst (λ (o : MapOutcome). Told MapBad (o .answer)) (sym e) f
+      go (MapEnds.late n h f e) = subst (λ (o : MapOutcome). Told MapBad (o .answer)) (sym e) f
+      go (MapEnds.wrote N P φ K s p i none z t e) = subst (λ (o : MapOutcome). Told MapBad (o .answer)) (sym e) none
 
   -- where no check of the sizes fails, the test of the sizes passes
   pub map-sized : ((m : ℕ) → m < 4 → ¬ MapBad m) → mapSizes k target area scratch ≡ 0

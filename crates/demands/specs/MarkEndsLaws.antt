@@ -1,4 +1,4 @@
--- How a call of mark ends, for every input.
+-- Laws: how a call of mark ends, for every input.
 use mathlib.Core.Path.{_≡_, refl, sym, subst, ap, _∙_}
 use mathlib.Core.List.{List}
 use mathlib.Core.Logic.{_⊎_, inl, inr}
@@ -20,7 +20,8 @@ use Rattle.cover_records.specs.Outcomes.{Answer, accepted, turnedBack, Checked,
 use Rattle.job_sizes.specs.Sizes.{sizesOf, Fit}
 use Rattle.job_sizes.specs.SizeLaws.{mark-sizes-are}
 use Rattle.demands.specs.TurnedBack.{IsNet, IsRecord, NetFails, MarkFails, Outside, First, OfMark}
-use Rattle.demands.specs.OrderLaws.{Said, fits, said1, said2, said3, sizes-said, one-net, net-range, NetEnds, stops, goes, net-ends, net-passes, first-of, Told}
+use Rattle.demands.specs.OrderLaws.{sizes-said, one-net, net-range, net-ends, net-passes, first-of}
+use Rattle.demands.specs.Endings.{Said, fits, said1, said2, said3, Told, NetEnds, stops, goes, MarkEnds}
 
 module _ (net : List ℕ) (k : ℕ) (bytes scratch : List ℕ) where
   abbrev MarkBad : ℕ → Type 0
@@ -68,12 +69,6 @@ module _ (net : List ℕ) (k : ℕ) (bytes scratch : List ℕ) where
   mark-least n a c d s m (MarkFails.enough N r i j f q) = omega (arith, s .enough N r i j f)
   mark-least n a c d s m (MarkFails.chains N r i j f q) = omega (arith, s .chains N r i j f)
 
-  -- how a call of mark ends
-  pub data MarkEnds (o : MarkOutcome) : Type 0 where
-    early : (n : ℕ) → n ≤ 3 → First MarkBad n → o ≡ record { answer = turnedBack n; scratch = scratch } → MarkEnds o
-    late : (n : ℕ) → 3 < n → First MarkBad n → o ≡ record { answer = turnedBack n; scratch = cleared scratchArea scratch } → MarkEnds o
-    marked : (n : ℕ) → markSizes k scratch ≡ 0 → ((m : ℕ) → ¬ MarkBad m) → o ≡ record { answer = accepted n; scratch = cleared scratchArea scratch } → MarkEnds o
-
   module _ (sizes : markSizes k scratch ≡ 0) (fit : Fit k 0 coverArea (length scratch)) where
     inside : (n : ℕ) → Outside k → n ≤ 1
     inside n f = absurd (f (fit .low, fit .high))
@@ -82,12 +77,12 @@ module _ (net : List ℕ) (k : ℕ) (bytes scratch : List ℕ) where
     wide n f = absurd (let a = fit .space in omega arith)
 
     abbrev Done : Answer → Type 0
-    Done a = MarkEnds (record { answer = a; scratch = cleared scratchArea scratch })
+    Done a = MarkEnds net k bytes scratch (record { answer = a; scratch = cleared scratchArea scratch })
 
     module _ (N : Net) (i : IsNet k net N) (none : (m : ℕ) → ¬ NetFails k net m) where
       -- a check of the record is the first to fail
       record-fails : (n : ℕ) → 13 ≤ n → MarkBad n → NoSooner n → Done (turnedBack n)
-      record-fails n h f s = late n (omega arith) (first-of f (mark-least n (inside n) (wide n) (λ m g. absurd (none m g)) s)) refl
+      record-fails n h f s = MarkEnds.late n (omega arith) (first-of f (mark-least n (inside n) (wide n) (λ m g. absurd (none m g)) s)) refl
 
       module _ (r : Record) (j : IsRecord N k bytes r) where
         -- what holds of this record and net holds of every reading
@@ -130,7 +125,7 @@ module _ (net : List ℕ) (k : ℕ) (bytes scratch : List ℕ) where
             record-fails 17 (omega arith) (MarkFails.enough N r i j d refl) (passing 17 (λ h. a) (λ h. b) (λ h. c) (λ h. absurd (omega arith)) (λ h. absurd (omega arith)))
         judged-ends (yes a) (yes b) (yes c) (yes d) (no e) x =
             record-fails 18 (omega arith) (MarkFails.chains N r i j e refl) (passing 18 (λ h. a) (λ h. b) (λ h. c) (λ h. d) (λ h. absurd (omega arith)))
-        judged-ends (yes a) (yes b) (yes c) (yes d) (yes e) x = marked x sizes nothing refl
+        judged-ends (yes a) (yes b) (yes c) (yes d) (yes e) x = MarkEnds.marked x sizes nothing refl
           where
             nothing : (m : ℕ) → ¬ MarkBad m
             nothing m f =
@@ -149,11 +144,11 @@ module _ (net : List ℕ) (k : ℕ) (bytes scratch : List ℕ) where
     unfolding markChecked
     netted (stops n e f least) =
         let r = net-range k net n f in
-        late n (omega arith) (first-of (MarkFails.ofNet f) (mark-least n (inside n) (wide n) least (no-sooner n (omega arith))))
+        MarkEnds.late n (omega arith) (first-of (MarkFails.ofNet f) (mark-least n (inside n) (wide n) least (no-sooner n (omega arith))))
         (ap (λ (c : Checked k). record { answer = markChecked k c bytes; scratch = cleared scratchArea scratch }) e)
     netted (goes N P e i none) = subst (λ (c : Checked k). Done (markChecked k c bytes)) (sym e) (read-ends N i none P (coverReader N k bytes) refl)
 
-  pub mark-ends : MarkEnds (markOutcome net k bytes scratch)
+  pub mark-ends : MarkEnds net k bytes scratch (markOutcome net k bytes scratch)
   unfolding markOutcome markSized
   mark-ends = go (sizes-said k 0 coverArea (length scratch))
     where
@@ -163,25 +158,25 @@ module _ (net : List ℕ) (k : ℕ) (bytes scratch : List ℕ) where
       back : {n : ℕ} → markSizes k scratch ≡ suc n → markSized (markSizes k scratch) k net bytes scratch ≡ record { answer = turnedBack (suc n); scratch = scratch }
       back e = ap (λ (n : ℕ). markSized n k net bytes scratch) e
 
-      go : Said k 0 coverArea (length scratch) (sizesOf k 0 coverArea (length scratch)) → MarkEnds (markSized (markSizes k scratch) k net bytes scratch)
-      go (said1 e f) = early 1 (omega arith) (first-of (MarkFails.outside f refl) (λ m g. let r = mark-range m g in r .0)) (back (sizes e))
+      go : Said k 0 coverArea (length scratch) (sizesOf k 0 coverArea (length scratch)) → MarkEnds net k bytes scratch (markSized (markSizes k scratch) k net bytes scratch)
+      go (said1 e f) = MarkEnds.early 1 (omega arith) (first-of (MarkFails.outside f refl) (λ m g. let r = mark-range m g in r .0)) (back (sizes e))
       go (said2 e l h f) = absurd (omega arith)
       go (said3 e l h t f) =
-          early 3 (omega arith)
+          MarkEnds.early 3 (omega arith)
           (first-of (small f) (mark-least 3 (λ g. absurd (g (l, h))) (λ g. omega arith) (λ m g. let r = net-range k net m g in omega arith) (no-sooner 3 (omega arith)))) (back (sizes e))
         where
           small : (coverArea < coverArea) ⊎ (length scratch < scratchArea) → MarkBad 3
           small (inl g) = absurd (omega arith)
           small (inr g) = MarkFails.space g refl
-      go (fits e f) = subst (λ (n : ℕ). MarkEnds (markSized n k net bytes scratch)) (sym (sizes e)) (netted (sizes e) f (net-ends k net))
+      go (fits e f) = subst (λ (n : ℕ). MarkEnds net k bytes scratch (markSized n k net bytes scratch)) (sym (sizes e)) (netted (sizes e) f (net-ends k net))
 
   pub mark-told : Told MarkBad ((markOutcome net k bytes scratch) .answer)
   mark-told = go mark-ends
     where
-      go : {o : MarkOutcome} → MarkEnds o → Told MarkBad (o .answer)
-      go (early n h f e) = subst (λ (o : MarkOutcome). Told MarkBad (o .answer)) (sym e) f
-      go (late n h f e) = subst (λ (o : MarkOutcome). Told MarkBad (o .answer)) (sym e) f
-      go (marked n s none e) = subst (λ (o : MarkOutcome). Told MarkBad (o .answer)) (sym e) none
+      go : {o : MarkOutcome} → MarkEnds net k bytes scratch o → Told MarkBad (o .answer)
+      go (MarkEnds.early n h f e) = subst (λ (o : MarkOutcome). Told MarkBad (o .answer)) (sym e) f
+      go (MarkEnds.late n h f e) = subst (λ (o : MarkOutcome). Told MarkBad (o .answer)) (sym e) f
+      go (MarkEnds.marked n s none e) = subst (λ (o : MarkOutcome). Told MarkBad (o .answer)) (sym e) none
 
   -- where no check of the sizes fails, the test of the sizes passes
   pub mark-sized : ((m : ℕ) → m < 4 → ¬ MarkBad m) → markSizes k scratch ≡ 0

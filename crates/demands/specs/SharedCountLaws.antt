@@ -1,4 +1,4 @@
--- Document 02, E2: the count that the listing prints is that of the cover which the record describes, and it is the right number of registers where readers share a chain.
+-- Laws of document 02, E2: the count that the listing prints is that of the cover which the record describes, and it is the right number of registers where readers share a chain.
 use mathlib.Core.Path.{_≡_, refl, sym, ap, ap₂, _∙_}
 use mathlib.Core.Bool.{Bool, true, false, cond}
 use mathlib.Core.List.{List, [], _∷_, _++_}
@@ -19,6 +19,7 @@ use Rattle.cover_theory.specs.SharedRegisters.{Tap, tap, longest, overNodes, sh
 use Rattle.cover_theory.specs.SharedLaws.{longest-serves, shorter-fails, count-least}
 use Rattle.cover_theory.specs.SharedCovers.{reader-tap, tap-reader, cover-largest}
 use Rattle.cover_theory.specs.Written.{noEntry, lut-asCover, luts-asCover}
+use Rattle.demands.specs.SharedCount.{SharedCount}
 use Rattle.cover_records.specs.Listing.{lagIn, leafTaps, lutTaps, outputTaps, entryTaps, registerCount}
 
 -- the lag written for a root is that of the entry at its place
@@ -86,19 +87,6 @@ module _ (N : Net) (es : List Entry) (gates : (e : Entry) → e ∈ es → N .in
   pub registers-counted : registerCount N es ≡ coverRegisters N (asCover N es)
   unfolding registerCount coverRegisters
   registers-counted = ap (sharedCount (size N)) taps-are
-
--- **E2**: one field for each of its sentences.
-pub record SharedCount : Type 0 where
-  -- "The count becomes, for each node, the largest number on any connection or output it feeds, added over all nodes.": for every cover, nodes being inputs and gates
-  pub count : (N : Net) (K : Cover) → coverRegisters N K ≡ overNodes (λ u. longest u (coverTaps N K)) (size N)
-  pub largest : (N : Net) (k : ℕ) (K : Cover) → IsCover N k K → (u : ℕ) → Largest N K u (longest u (coverTaps N K))
-  -- what the listing prints for a written cover is that count
-  pub listed : (N : Net) (k φ : ℕ) (K : Key N k φ) → registerCount N (entries K) ≡ coverRegisters N (asCover N (entries K))
-  -- "Our chips tap one chain of registers for all readers of a signal.": one chain of that length behind each node, tapped, serves every reader; where a chain is shorter
-  -- some reader is not served; and no chains that serve all have fewer registers together
-  pub served : (N : Net) (K : Cover) → Serves (λ u. longest u (coverTaps N K)) (Reader N K)
-  pub none-shorter : (N : Net) (K : Cover) (chain : ℕ → ℕ) (u : ℕ) → chain u < longest u (coverTaps N K) → ¬ Serves chain (Reader N K)
-  pub fewest : (N : Net) (K : Cover) (chain : ℕ → ℕ) → Serves chain (Reader N K) → coverRegisters N K ≤ overNodes chain (size N)
 
 -- **All of it is proved.**
 pub shared-count : SharedCount
