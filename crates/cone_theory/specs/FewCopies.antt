@@ -8,7 +8,7 @@ use native.Mathlib.Omega.{arith}
 use native.Mathlib.Decide.{ℕ-discrete}
 use lib.ListN.{length, length-map}
 use Rattle.sequences.specs.Member.{_∈_, in-equal, Within, map-in}
-use Rattle.sequences.specs.Decide.{count-from, in-count-from, count-from-in}
+use Rattle.sequences.specs.Decide.{count-from, in-count-from, count-from-in, length-count-from}
 use Rattle.sequences.specs.Keep.{keep, in-keep}
 use Rattle.sequences.specs.Distinct.{Distinct, inject, distinct-keep, distinct-map-on, distinct-count-from, count-by}
 use Rattle.net_model.specs.Net.{Net, IsGate}
@@ -32,11 +32,6 @@ gateNumbers-in {N} {v} h = let r = count-from-in (N .inputs) (length (N .gates))
 pub distinct-gateNumbers : (N : Net) → Distinct (gateNumbers N)
 unfolding gateNumbers
 distinct-gateNumbers N = distinct-count-from (N .inputs) (length (N .gates))
-
-length-count-from : (b n : ℕ) → length (count-from b n) ≡ n
-unfolding count-from
-length-count-from b zero = refl
-length-count-from b (suc n) = ap suc (length-count-from (suc b) n)
 
 pub length-gateNumbers : (N : Net) → length (gateNumbers N) ≡ length (N .gates)
 unfolding gateNumbers

@@ -7,10 +7,11 @@ use Prim.Native.Nat.{ℕ, zero, suc, _+_, _≤_, _<_}
 use native.Mathlib.Omega.{arith}
 use lib.ListN.{length}
 use Rattle.sequences.specs.Member.{_∈_}
-use Rattle.sequences.specs.Distinct.{Distinct, inject}
+use Rattle.sequences.specs.Distinct.{Distinct}
 use Rattle.cut_flow.specs.Graph.{Graph, Feeding, Lawful, Order, Separation, Leaf, Lists, Leads}
-use Rattle.cut_flow.specs.State.{Next, State, next-one, next-feeds, next-carried, entry-last, fed-at}
+use Rattle.cut_flow.specs.State.{Next, State, next-one, next-feeds, next-carried, entry-last}
 use Rattle.cut_flow.specs.Course.{Rooted, Course, start, down, meet, lands, leaf-hit}
+use Rattle.cut_flow.specs.Half.{Half, rises, few-out}
 use Rattle.cut_flow.specs.Search.{View, Side, Reached, inward, outward, from-forced, from-in, from-self, to-self, to-next, Ready, PinPassed, PassedIn, PassedOut, Lost, positive-or-zero, reached-inner}
 
 -- Each mark, and the forced set, is passed on.
@@ -24,19 +25,11 @@ pub record Closed (G : Graph) (v : View) : Type 0 where
 abbrev pub Found : Graph → View → ℕ → Type 0
 Found G v x = (0 < G .forced x) ⊎ (0 < v .inn x)
 
+pub closed-half : {G : Graph} {v : View} → Closed G v → Half G v
+closed-half c = record { ready = c .ready; self = λ z h. c .ins z h .self; outs = c .outs }
+
 pub closed : {G : Graph} {v v′ : View} → ((z : ℕ) → v .inn z ≡ 0) → ((z : ℕ) → v .out z ≡ 0) → Lost G v v′ → ((x j : ℕ) → 0 < G .forced x → j < G .pins x → PinPassed G v′ x j) → Closed G v′
 closed i o l f = record { ready = l .ready; ins = λ z h. l .ins z h (i z); outs = λ z h. l .outs z h (o z); roots = f }
-
--- From e by inflow pins to l, where all before l are marked in.
-data Inner (G : Graph) (v : View) (l : ℕ) : ℕ → Type 0 where
-  stop : {e : ℕ} → e ≡ l → Inner G v l e
-  over : {e : ℕ} (y : ℕ) → 0 < v .inn e → Next G (v .flow) y e → Inner G v l y → Inner G v l e
-
-inner-one : {G : Graph} {v : View} {l m e : ℕ} → v .inn l ≡ 0 → v .inn m ≡ 0 → Inner G v l e → Inner G v m e → l ≡ m
-inner-one i j (stop p) (stop q) = sym p ∙ q
-inner-one {v} i j (stop p) (over y h n w) = absurd (omega (arith, i, h, ap (v .inn) p))
-inner-one {v} i j (over y h n w) (stop p) = absurd (omega (arith, j, h, ap (v .inn) p))
-inner-one {G} {v} {m} i j (over y h n w) (over z k o u) = inner-one i j w (subst (Inner G v m) (sym (o .source) ∙ (fed-at refl (o .fed) (n .fed) ∙ n .source)) u)
 
 module _ {G : Graph} {v : View} (law : Lawful G) (c : Closed G v) where
   unforced : {x : ℕ} → G .forced x ≡ 0 → ¬ (0 < G .forced x)
@@ -107,36 +100,9 @@ module _ {G : Graph} {v : View} (law : Lawful G) (c : Closed G v) where
       go (from-self r h) = absurd (omega (arith, i, marked-all r))
 
   module _ (O : Order G) {E : List ℕ} (s : State G (v .flow) E) where
-    rises : {y x : ℕ} → 0 < v .inn y → Next G (v .flow) y x → O .measure y < O .measure x
-    rises {y} {x} h n =
-        let e = n .source in
-        let t : G .terminal (G .source x (n .by)) ≡ 0 = ap (G .terminal) e ∙ reached-inner law (c .ready .ins y h) in
-        omega (arith, O .falls x (n .by) (n .fed .below) t, ap (O .measure) e)
-
-    -- The successors of a carrying in-copy are in, up to an entry.
-    rise : (n : ℕ) {l x : ℕ} → O .bound < n + O .measure x → 0 < v .inn x → 0 < v .flow x → Inner G v l x → (e : ℕ) × (e ∈ E) × Inner G v l e
-    rise zero {x} b h f w = absurd (omega (arith, b, O .most x))
-    rise (suc n) {l} {x} b h f w = go (λ z m i. rise n (omega (arith, b, rises h m)) i (omega (arith, m .fed .pin)) (over x i m w)) (s .leaves x f)
-      where
-        go : ((z : ℕ) → Next G (v .flow) x z → 0 < v .inn z → (e : ℕ) × (e ∈ E) × Inner G v l e) → (x ∈ E) ⊎ ((z : ℕ) × Next G (v .flow) x z) → (e : ℕ) × (e ∈ E) × Inner G v l e
-        go rest (inl i) = (x, i, w)
-        go rest (inr (z, m)) = rest z m (c .outs x (c .ins x h .self f) .next z m)
-
-    leaf-entry : {l : ℕ} → Leaf G (Found G v) l → (e : ℕ) × (e ∈ E) × Inner G v l e
-    leaf-entry {l} h = go (s .leaves l (leaf-carries h))
-      where
-        go : (l ∈ E) ⊎ ((z : ℕ) × Next G (v .flow) l z) → (e : ℕ) × (e ∈ E) × Inner G v l e
-        go (inl i) = (l, i, stop refl)
-        go (inr (z, m)) =
-            let i = c .outs l (leaf-out h) .next z m in
-            rise (suc (O .bound)) (omega arith) i (omega (arith, m .fed .pin)) (over l i m (stop refl))
-
     -- There are no more leaves than entries.
     pub few-leaves : {L : List ℕ} → Distinct L → ((y : ℕ) → y ∈ L → Leaf G (Found G v) y) → length L ≤ length E
-    few-leaves d f =
-        inject {R = λ l e. (v .inn l ≡ 0) × Inner G v l e} d
-        (λ l i. let r = leaf-entry (f l i) in (r .0, r .1, (leaf-apart (f l i) .1, r .2)))
-        (λ a b e p q. inner-one (p .0) (q .0) (p .1) (q .1))
+    few-leaves d f = few-out law (closed-half c) O s d (λ y i. (leaf-out (f y i), leaf-apart (f y i) .1))
 
     module _ (rooted : Rooted G E) where
       -- ---- it is inside each separation with so few leaves
@@ -187,7 +153,7 @@ module _ {G : Graph} {v : View} (law : Lawful G) (c : Closed G v) where
       module _ {root : ℕ} (leads : (x : ℕ) → 0 < G .forced x → Leads G (Found G v) root x) where
         climb : (n : ℕ) {x : ℕ} → O .bound < n + O .measure x → 0 < v .inn x → 0 < v .flow x → Leads G (Found G v) root x
         climb zero {x} b h f = absurd (omega (arith, b, O .most x))
-        climb (suc n) {x} b h f = go (λ z m i. climb n (omega (arith, b, rises h m)) i (omega (arith, m .fed .pin))) (s .leaves x f)
+        climb (suc n) {x} b h f = go (λ z m i. climb n (omega (arith, b, rises law (closed-half c) O s h m)) i (omega (arith, m .fed .pin))) (s .leaves x f)
           where
             go : ((z : ℕ) → Next G (v .flow) x z → 0 < v .inn z → Leads G (Found G v) root z) → (x ∈ E) ⊎ ((z : ℕ) × Next G (v .flow) x z) → Leads G (Found G v) root x
             go rest (inl i) = let r = rooted x i in Leads.step (r .0) (inl (r .1)) (r .2) (leads (r .0) (r .1))

@@ -4,4 +4,12 @@ pub mod Steps
 pub mod Course
 pub mod Search
 pub mod Ways
+pub mod Half
 pub mod Closed
+pub mod Capped
+pub mod Tally
+pub mod Stack
+pub mod Unwind
+pub mod StackLaws
+pub mod StackEnter
+pub mod StackBounds

@@ -1,11 +1,12 @@
 -- Decisions: of products, sums, implications; of a property of each or of some member of a list, or of each or of some number below a bound; the
 -- least and the greatest number with a decided property.
-use mathlib.Core.Path.{_≡_, refl, sym, subst}
+use mathlib.Core.Path.{_≡_, refl, sym, ap, subst}
 use mathlib.Core.Logic.{_⊎_, inl, inr}
 use mathlib.Core.List.{List, [], _∷_}
 use Prim.Native.Nat.{ℕ, zero, suc, _+_, _≤_, _<_, zero-le}
 use native.Mathlib.Nat.{not-suc-le-zero, le-of-suc-le-suc, eq-or-lt-of-le, le-step, lt-suc-self, le-refl, lt-irrefl, zero-add}
 use native.Mathlib.Omega.{arith}
+use lib.ListN.{length}
 use Rattle.sequences.specs.Member.{_∈_, here, there, not-in-nil}
 
 module _ {X Y : Type 0} where
@@ -107,6 +108,15 @@ count-from-in b (suc n) i h = go (count-from-in (suc b) n i) h
     go : (i ∈ count-from (suc b) n → (suc b ≤ i) × (i < suc b + n)) → i ∈ b ∷ count-from (suc b) n → (b ≤ i) × (i < b + suc n)
     go rest (here e) = omega arith
     go rest (there m) = let r = rest m in omega arith
+
+pub length-count-from : (b n : ℕ) → length (count-from b n) ≡ n
+unfolding count-from
+length-count-from b zero = refl
+length-count-from b (suc n) = ap suc (length-count-from (suc b) n)
+
+pub length-upTo : (n : ℕ) → length (upTo n) ≡ n
+unfolding upTo
+length-upTo n = length-count-from zero n
 
 pub in-upTo : {i n : ℕ} → i < n → i ∈ upTo n
 unfolding upTo
