@@ -1,5 +1,6 @@
 -- Laws of storing LUTs in the arrays, one after the other.
 use mathlib.Core.Path.{_≡_, refl, sym, ap, ap₂, _∙_}
+use mathlib.Core.Bool.{Bool}
 use mathlib.Core.List.{List, [], _∷_, _++_}
 use Prim.Native.Nat.{ℕ, zero, suc, _+_, _-_, _*_, _≤_, _<_, zero-le}
 use native.Mathlib.Nat.{zero-add}
@@ -135,70 +136,70 @@ module _ (w : Candidate) (i : ℕ) (row : Row) (z : Candidate) (so : LeavesStore
   }
 
 -- the LUTs of the record, none and one more
-luts-zero : (nodes k least : ℕ) (s : List ℕ) → lutsReader nodes k zero least s ≡ got [] s
+luts-zero : (two : Bool) (nodes k least : ℕ) (s : List ℕ) → lutsReader two nodes k zero least s ≡ got [] s
 unfolding lutsReader
-luts-zero nodes k least s = refl
+luts-zero two nodes k least s = refl
 
-luts-more : (nodes k n least : ℕ) (s : List ℕ)
-    → lutsReader nodes k (suc n) least s ≡ andThen (lutReader nodes k least s) (λ e t. andThen (lutsReader nodes k n (suc (e .root)) t) (λ es u. got (e ∷ es) u))
+luts-more : (two : Bool) (nodes k n least : ℕ) (s : List ℕ)
+    → lutsReader two nodes k (suc n) least s ≡ andThen (lutReader two nodes k least s) (λ e t. andThen (lutsReader two nodes k n (suc (e .root)) t) (λ es u. got (e ∷ es) u))
 unfolding lutsReader
-luts-more nodes k n least s = refl
+luts-more two nodes k n least s = refl
 
 -- i of the LUTs are read and stored; the next root is at least `least`
-pub record LutsSoFar (s : List ℕ) (at nodes k I : ℕ) (w z : Candidate) (next least i : ℕ) : Type 0 where
-  pub result : lutsReader nodes k (w .luts) I (drop at s) ≡ behind (lutsIn (heldOf z) i) (lutsReader nodes k (w .luts - i) least (drop next s))
+pub record LutsSoFar (two : Bool) (s : List ℕ) (at nodes k I : ℕ) (w z : Candidate) (next least i : ℕ) : Type 0 where
+  pub result : lutsReader two nodes k (w .luts) I (drop at s) ≡ behind (lutsIn (heldOf z) i) (lutsReader two nodes k (w .luts - i) least (drop next s))
   pub most : i ≤ w .luts
   pub same : Same w z
   pub few : narrow z i
   pub small : shallow z i
 
-module _ (s : List ℕ) (at nodes k I : ℕ) (w : Candidate) where
-  pub luts-none : LutsSoFar s at nodes k I w w at I 0
+module _ (two : Bool) (s : List ℕ) (at nodes k I : ℕ) (w : Candidate) where
+  pub luts-none : LutsSoFar two s at nodes k I w w at I 0
   unfolding lutsIn lutsFrom
   luts-none =
       let all : w .luts ≡ w .luts - 0 = omega arith in
       record {
-        result = behind-none (lutsReader nodes k (w .luts) I (drop at s)) ∙ ap (λ (n : ℕ). behind [] (lutsReader nodes k n I (drop at s))) all;
+        result = behind-none (lutsReader two nodes k (w .luts) I (drop at s)) ∙ ap (λ (n : ℕ). behind [] (lutsReader two nodes k n I (drop at s))) all;
         most = zero-le;
         same = same-refl w;
         few = λ i h. absurd (omega arith);
         small = λ m h. absurd (omega arith);
       }
 
-  module _ (z : Candidate) (next least i : ℕ) (so : LutsSoFar s at nodes k I w z next least i) where
+  module _ (z : Candidate) (next least i : ℕ) (so : LutsSoFar two s at nodes k I w z next least i) where
     done : List Entry
     done = lutsIn (heldOf z) i
 
-    one-more : i < w .luts → lutsReader nodes k (w .luts) I (drop at s)
-        ≡ behind done (andThen (lutReader nodes k least (drop next s)) (λ e t. andThen (lutsReader nodes k (w .luts - (i + 1)) (suc (e .root)) t) (λ es u. got (e ∷ es) u)))
+    one-more : i < w .luts → lutsReader two nodes k (w .luts) I (drop at s)
+        ≡ behind done (andThen (lutReader two nodes k least (drop next s)) (λ e t. andThen (lutsReader two nodes k (w .luts - (i + 1)) (suc (e .root)) t) (λ es u. got (e ∷ es) u)))
     unfolding done
     one-more h =
         let left : w .luts - i ≡ suc (w .luts - (i + 1)) = omega arith in
-        so .result ∙ ap (λ (n : ℕ). behind done (lutsReader nodes k n least (drop next s))) left ∙ ap (behind done) (luts-more nodes k (w .luts - (i + 1)) least (drop next s))
+        so .result ∙ ap (λ (n : ℕ). behind done (lutsReader two nodes k n least (drop next s))) left ∙ ap (behind done) (luts-more two nodes k (w .luts - (i + 1)) least (drop next s))
 
-    pub luts-one : (row : Row) (y : Candidate) (after : ℕ) → i < w .luts → LutRead s next nodes k least row → row .verdict ≡ Read → LutStored z i row y → after ≡ row .root + 1
-        → LutsSoFar s at nodes k I w y (row .at) after (i + 1)
+    pub luts-one : (row : Row) (y : Candidate) (after : ℕ) → i < w .luts → LutRead two s next nodes k least row → row .verdict ≡ Read → LutStored z i row y → after ≡ row .root + 1
+        → LutsSoFar two s at nodes k I w y (row .at) after (i + 1)
     unfolding done
     luts-one row y after h e r st is = record {
       result = one-more h ∙ ap (behind done) (then-goes _ (went (rowEntry row) (drop (row .at) s) (e .result) r))
-          ∙ behind-one done (rowEntry row) (lutsReader nodes k (w .luts - (i + 1)) (suc (row .root)) (drop (row .at) s))
-          ∙ ap₂ (λ (l : List Entry) (b : ℕ). behind l (lutsReader nodes k (w .luts - (i + 1)) b (drop (row .at) s))) (sym (st .luts)) (sym (is ∙ add-one (row .root)));
+          ∙ behind-one done (rowEntry row) (lutsReader two nodes k (w .luts - (i + 1)) (suc (row .root)) (drop (row .at) s))
+          ∙ ap₂ (λ (l : List Entry) (b : ℕ). behind l (lutsReader two nodes k (w .luts - (i + 1)) b (drop (row .at) s))) (sym (st .luts)) (sym (is ∙ add-one (row .root)));
       most = omega arith;
       same = same-trans (so .same) (st .same);
       few = st .few;
-      small = st .small (so .small) (e .small r);
+      small = st .small (so .small) (e .keeps .small r);
     }
 
-    pub luts-stop : {j : ℕ} (row : Row) → i < w .luts → LutRead s next nodes k least row → row .verdict ≡ Refused j → lutsReader nodes k (w .luts) I (drop at s) ≡ refused j
+    pub luts-stop : {j : ℕ} (row : Row) → i < w .luts → LutRead two s next nodes k least row → row .verdict ≡ Refused j → lutsReader two nodes k (w .luts) I (drop at s) ≡ refused j
     luts-stop {j} row h e r = one-more h ∙ ap (behind done) (then-stops _ (stopped (rowEntry row) (drop (row .at) s) (e .result) r)) ∙ behind-stops done j
 
-    pub luts-all : w .luts ≤ i → lutsReader nodes k (w .luts) I (drop at s) ≡ got (lutsIn (heldOf z) (w .luts)) (drop next s)
+    pub luts-all : w .luts ≤ i → lutsReader two nodes k (w .luts) I (drop at s) ≡ got (lutsIn (heldOf z) (w .luts)) (drop next s)
     unfolding done
     luts-all h =
         let most = so .most in
         let none : w .luts - i ≡ 0 = omega arith in
         let end : i ≡ w .luts = omega arith in
-        so .result ∙ ap (λ (n : ℕ). behind done (lutsReader nodes k n least (drop next s))) none ∙ ap (behind done) (luts-zero nodes k least (drop next s))
+        so .result ∙ ap (λ (n : ℕ). behind done (lutsReader two nodes k n least (drop next s))) none ∙ ap (behind done) (luts-zero two nodes k least (drop next s))
         ∙ behind-all done (drop next s) ∙ ap (λ (n : ℕ). got (lutsIn (heldOf z) n) (drop next s)) end
 
     pub luts-small : w .luts ≤ i → shallow z (w .luts)

@@ -1,5 +1,4 @@
 pub mod Reads
-pub mod CandidateStages
 pub mod LutsStored
 pub mod CandidateStoreLaws
 pub mod CandidateFacts

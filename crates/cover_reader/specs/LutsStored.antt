@@ -63,8 +63,8 @@ pub record LutStored (w : Candidate) (i : ℕ) (row : Row) (z : Candidate) : Typ
   pub small : shallow w i → Shallow (row .backs) → shallow z (i + 1)
 
 -- all LUTs are read and stored
-pub record LutsRead (s : List ℕ) (at nodes k I : ℕ) (w : Candidate) (r : Part) : Type 0 where
-  pub result : lutsReader nodes k (w .luts) I (drop at s) ≡ outcome (r .verdict) (lutsIn (heldOf (r .luts)) (w .luts)) (drop (r .at) s)
+pub record LutsRead (two : Bool) (s : List ℕ) (at nodes k I : ℕ) (w : Candidate) (r : Part) : Type 0 where
+  pub result : lutsReader two nodes k (w .luts) I (drop at s) ≡ outcome (r .verdict) (lutsIn (heldOf (r .luts)) (w .luts)) (drop (r .at) s)
   pub same : Same w (r .luts)
   pub small : r .verdict ≡ Read → shallow (r .luts) (w .luts)
 

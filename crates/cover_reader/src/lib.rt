@@ -1,16 +1,15 @@
 // The byte walk over a candidate's cover record: one pass over any bytes, each LUT stored as it is read. Every refusal is 13.
 use cover_rows::Row;
+use cover_rows::read_front;
 use cover_rows::read_lut;
-use inputs::wide;
 use limits::LEAVES;
 use limits::LUTS;
 use limits::PINS;
-use net_fields::CoverField;
-use net_fields::Field;
+use limits::Rules;
 use net_fields::Verdict;
-use net_fields::read_byte;
 ghost use mathlib.Core.Path.{_≡_};
 ghost use Prim.Native.Nat.{_≤_, _<_};
+ghost use Rattle.limits.specs.Courses.{Offered};
 ghost use Rattle.limits.specs.Limits.{mostGates, mostInputs, mostK, mostLeaves, mostLuts, mostPins};
 ghost use Rattle.cover_reader.specs.Reads.{CoverRead};
 ghost use Rattle.cover_reader.specs.LutsStored.{LeavesStored, LutStored, LutsRead, Empty, narrow, withLeaf};
@@ -56,7 +55,7 @@ fn store_leaves(luts: Candidate, i: usize, row: Row) -> Candidate
     let mut out = luts;
     let mut j: usize = 0;
     while j < PINS {
-        out = store_leaf(out, PINS * i + j, wide(nodes[j]), backs[j]);
+        out = store_leaf(out, PINS * i + j, nodes[j], backs[j]);
         j += 1;
     }
     out
@@ -89,10 +88,11 @@ fn read_luts(
     k: usize,
     inputs: usize,
     luts: Candidate,
+    two: bool,
 ) -> Part
     requires { ⌜ k ≤ mostK ⌝ }
     requires { ⌜ luts .luts ≤ mostLuts ⌝ }
-    ensures { λ r. ⌜ LutsRead (now (bytes .entry)) at nodes k inputs luts r ⌝ }
+    ensures { λ r. ⌜ LutsRead two (now (bytes .entry)) at nodes k inputs luts r ⌝ }
 {
     let n = luts.luts;
     let mut out = luts;
@@ -100,7 +100,7 @@ fn read_luts(
     let mut least = inputs;
     let mut i: usize = 0;
     while i < n {
-        let row = read_lut(bytes, next, nodes, k, least);
+        let row = read_lut(bytes, next, nodes, k, least, two);
         let v = row.verdict;
         if let Verdict::Refused(m) = v {
             return Part {
@@ -139,24 +139,27 @@ fn empty(fine: bool, period: usize, luts: usize) -> Candidate
 }
 
 // The walk: the LUTs of the record, or that it breaks the layout.
-pub fn read_cover(bytes: &[u8], inputs: usize, gates: usize, k: usize) -> Candidate
-    requires { ⌜ (inputs ≤ mostInputs) × (gates ≤ mostGates) × (k ≤ mostK) ⌝ }
-    ensures { λ r. ⌜ CoverRead (now (bytes .entry)) inputs gates k r ⌝ }
+pub fn read_cover(bytes: &[u8], inputs: usize, gates: usize, k: usize, rules: Rules) -> Candidate
+    requires { ⌜ (inputs ≤ mostInputs) × (gates ≤ mostGates) × (k ≤ mostK) × Offered rules ⌝ }
+    ensures { λ r. ⌜ CoverRead rules (now (bytes .entry)) inputs gates k r ⌝ }
 {
-    let period = read_byte(bytes, 0, Field::Cover(CoverField::Period), 0);
-    let v = period.verdict;
+    let front = read_front(bytes, rules);
+    let v = front.verdict;
     if let Verdict::Refused(_) = v {
         return empty(false, 0, 0);
     }
-    let count = read_byte(bytes, period.at, Field::Cover(CoverField::Luts), 0);
-    let w = count.verdict;
+    let start = empty(true, front.period, front.luts);
+    let part = read_luts(
+        bytes,
+        front.at,
+        inputs + gates,
+        k,
+        inputs,
+        start,
+        rules.wide,
+    );
+    let w = part.verdict;
     if let Verdict::Refused(_) = w {
-        return empty(false, 0, 0);
-    }
-    let start = empty(true, wide(period.value), wide(count.value));
-    let part = read_luts(bytes, count.at, inputs + gates, k, inputs, start);
-    let x = part.verdict;
-    if let Verdict::Refused(_) = x {
         return empty(false, 0, 0);
     }
     if part.at < bytes.len() {

@@ -1,7 +1,12 @@
 pub mod CoverBytes
+pub mod LongCover
+pub mod Roomy
 pub mod Listing
 pub mod Marking
+pub mod LutStages
+pub mod CoverStages
 pub mod RoundTrip
+pub mod ReadWritten
 pub mod KeyRecord
 pub mod MarkingDecided
 pub mod Outcomes

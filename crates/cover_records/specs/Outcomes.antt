@@ -12,7 +12,8 @@ use Rattle.cone_theory.specs.Ranks.{ranked}
 use Rattle.cover_theory.specs.Key.{Key, Entry, entries}
 use Rattle.cover_theory.specs.Joined.{key?}
 use Rattle.cover_theory.specs.Period.{leastPeriod, leastKey}
-use Rattle.limits.specs.Limits.{leastK, mostK, mostPeriod, coverArea, scratchArea}
+use Rattle.limits.specs.Limits.{leastK}
+use Rattle.limits.specs.declared.Rules.{Rules}
 use Rattle.net_bytes.specs.Reading.{Result, got, refused, between}
 use Rattle.net_bytes.specs.Walk.{netReader}
 use Rattle.net_bytes.specs.Sound.{walk-sound, walk-fits}
@@ -37,15 +38,15 @@ checkGraph N k s f (yes a) (no b) c = fails 10
 checkGraph N k s f (yes a) (yes b) (no c) = fails 11
 checkGraph N k s f (yes a) (yes b) (yes c) = passes N (record { sound = s; fits = f; loopless = a; reached = b; leading = c })
 
-unfoldable pub checkRead : (k : ℕ) (s : List ℕ) (r : Result Net) → netReader k s ≡ r → Checked k
+unfoldable pub checkRead : (R : Rules) (k : ℕ) (s : List ℕ) (r : Result Net) → netReader R k s ≡ r → Checked k
 unfolding checkGraph
-checkRead k s (refused n) e = fails n
-checkRead k s (got N rest) e = checkGraph N k (walk-sound k s N rest e) (walk-fits k s N rest e) (loopless? N) (reached? N) (leading? N)
+checkRead R k s (refused n) e = fails n
+checkRead R k s (got N rest) e = checkGraph N k (walk-sound R k s N rest e) (walk-fits R k s N rest e) (loopless? N) (reached? N) (leading? N)
 
 -- "4 to 8 arise in one walk from the first byte, the first met counting", then 9, 10, 11.
-unfoldable pub checkNet : (k : ℕ) → List ℕ → Checked k
+unfoldable pub checkNet : Rules → (k : ℕ) → List ℕ → Checked k
 unfolding checkRead
-checkNet k s = checkRead k s (netReader k s) refl
+checkNet R k s = checkRead R k s (netReader R k s) refl
 
 -- ---- map
 
@@ -63,10 +64,10 @@ abbrev pub written : List ℕ → List ℕ → List ℕ
 written bytes area = bytes ++ drop (length bytes) area
 
 -- 1, 2 and 3, in this order; 0 if all pass
-unfoldable pub mapSizes : ℕ → ℕ → List ℕ → List ℕ → ℕ
-mapSizes k target area scratch =
-    cond (not (between leastK mostK k)) 1
-    (cond (ltb mostPeriod target) 2 (cond (ltb (length area) coverArea || ltb (length scratch) scratchArea) 3 0))
+unfoldable pub mapSizes : Rules → ℕ → ℕ → List ℕ → List ℕ → ℕ
+mapSizes R k target area scratch =
+    cond (not (between leastK (R .most) k)) 1
+    (cond (ltb (R .period) target) 2 (cond (ltb (length area) (R .area) || ltb (length scratch) (R .scratch)) 3 0))
 
 -- the period and the written cover for a target, or refusal 12
 pub data Mapped (N : Net) (k : ℕ) : Type 0 where
@@ -77,11 +78,11 @@ unfoldable pub forTarget : (N : Net) (k φ : ℕ) → Dec (Key N k φ) → Mappe
 forTarget N k φ (yes K) = covered φ K
 forTarget N k φ (no n) = unreachable
 
-unfoldable pub mapWritten : {N : Net} {k : ℕ} → Mapped N k → List ℕ → List ℕ → MapOutcome
-mapWritten (covered φ K) area scratch =
-    let bytes = coverBytes φ (entries K) in
-    record { answer = accepted (length bytes); area = written bytes area; scratch = cleared scratchArea scratch }
-mapWritten unreachable area scratch = record { answer = turnedBack 12; area = area; scratch = cleared scratchArea scratch }
+unfoldable pub mapWritten : Rules → {N : Net} {k : ℕ} → Mapped N k → List ℕ → List ℕ → MapOutcome
+mapWritten R (covered φ K) area scratch =
+    let bytes = coverBytes R φ (entries K) in
+    record { answer = accepted (length bytes); area = written bytes area; scratch = cleared (R .scratch) scratch }
+mapWritten R unreachable area scratch = record { answer = turnedBack 12; area = area; scratch = cleared (R .scratch) scratch }
 
 -- "12. The target is not 0 and is not reachable." "(0 means the least period)"
 unfoldable pub mapped : (N : Net) (k target : ℕ) → Passed N k → Mapped N k
@@ -89,20 +90,20 @@ unfolding forTarget
 mapped N k zero p = covered (leastPeriod p) (leastKey p)
 mapped N k (suc t) p = forTarget N k (suc t) (key? p (suc-le-suc zero-le))
 
-unfoldable pub mapChecked : (k target : ℕ) → Checked k → List ℕ → List ℕ → MapOutcome
+unfoldable pub mapChecked : Rules → (k target : ℕ) → Checked k → List ℕ → List ℕ → MapOutcome
 unfolding mapped mapWritten
-mapChecked k target (fails n) area scratch = record { answer = turnedBack n; area = area; scratch = cleared scratchArea scratch }
-mapChecked k target (passes N p) area scratch = mapWritten (mapped N k target p) area scratch
+mapChecked R k target (fails n) area scratch = record { answer = turnedBack n; area = area; scratch = cleared (R .scratch) scratch }
+mapChecked R k target (passes N p) area scratch = mapWritten R (mapped N k target p) area scratch
 
-unfoldable pub mapSized : ℕ → (k target : ℕ) → List ℕ → List ℕ → List ℕ → MapOutcome
+unfoldable pub mapSized : Rules → ℕ → (k target : ℕ) → List ℕ → List ℕ → List ℕ → MapOutcome
 unfolding mapChecked checkNet
-mapSized zero k target net area scratch = mapChecked k target (checkNet k net) area scratch
-mapSized (suc n) k target net area scratch = record { answer = turnedBack (suc n); area = area; scratch = scratch }
+mapSized R zero k target net area scratch = mapChecked R k target (checkNet R k net) area scratch
+mapSized R (suc n) k target net area scratch = record { answer = turnedBack (suc n); area = area; scratch = scratch }
 
--- Map for every input: net, k, target, cover area and scratch.
-unfoldable pub mapOutcome : List ℕ → (k target : ℕ) → List ℕ → List ℕ → MapOutcome
+-- Map under rules R for every input: net, k, target, cover area and scratch.
+unfoldable pub mapOutcome : Rules → List ℕ → (k target : ℕ) → List ℕ → List ℕ → MapOutcome
 unfolding mapSized mapSizes
-mapOutcome net k target area scratch = mapSized (mapSizes k target area scratch) k target net area scratch
+mapOutcome R net k target area scratch = mapSized R (mapSizes R k target area scratch) k target net area scratch
 
 -- ---- mark
 
@@ -111,8 +112,8 @@ pub record MarkOutcome : Type 0 where
   pub scratch : List ℕ
 
 -- 1 and 3; 0 if both pass
-unfoldable pub markSizes : ℕ → List ℕ → ℕ
-markSizes k scratch = cond (not (between leastK mostK k)) 1 (cond (ltb (length scratch) scratchArea) 3 0)
+unfoldable pub markSizes : Rules → ℕ → List ℕ → ℕ
+markSizes R k scratch = cond (not (between leastK (R .most) k)) 1 (cond (ltb (length scratch) (R .scratch)) 3 0)
 
 -- "13 to 18 are each tested over the whole record before the next."
 unfoldable pub judged : (N : Net) (k : ℕ) (r : Record)
@@ -133,17 +134,17 @@ markRead N k p (got r rest) =
     judged N k r (cutsRight? (ranked (p .reached)) k (r .entries)) (tablesRight? p (r .entries)) (allFed? N (r .entries)) (enough? N (r .entries))
     (shortChains? N (r .period) (r .entries)) (r .period - leastPeriod p)
 
-unfoldable pub markChecked : (k : ℕ) → Checked k → List ℕ → Answer
+unfoldable pub markChecked : Rules → (k : ℕ) → Checked k → List ℕ → Answer
 unfolding markRead
-markChecked k (fails n) bytes = turnedBack n
-markChecked k (passes N p) bytes = markRead N k p (coverReader N k bytes)
+markChecked R k (fails n) bytes = turnedBack n
+markChecked R k (passes N p) bytes = markRead N k p (coverReader R N k bytes)
 
-unfoldable pub markSized : ℕ → (k : ℕ) → List ℕ → List ℕ → List ℕ → MarkOutcome
+unfoldable pub markSized : Rules → ℕ → (k : ℕ) → List ℕ → List ℕ → List ℕ → MarkOutcome
 unfolding markChecked checkNet
-markSized zero k net bytes scratch = record { answer = markChecked k (checkNet k net) bytes; scratch = cleared scratchArea scratch }
-markSized (suc n) k net bytes scratch = record { answer = turnedBack (suc n); scratch = scratch }
+markSized R zero k net bytes scratch = record { answer = markChecked R k (checkNet R k net) bytes; scratch = cleared (R .scratch) scratch }
+markSized R (suc n) k net bytes scratch = record { answer = turnedBack (suc n); scratch = scratch }
 
--- Mark for every input: net, k, the candidate's record and scratch.
-unfoldable pub markOutcome : List ℕ → (k : ℕ) → List ℕ → List ℕ → MarkOutcome
+-- Mark under rules R for every input: net, k, the candidate's record and scratch.
+unfoldable pub markOutcome : Rules → List ℕ → (k : ℕ) → List ℕ → List ℕ → MarkOutcome
 unfolding markSized markSizes
-markOutcome net k bytes scratch = markSized (markSizes k scratch) k net bytes scratch
+markOutcome R net k bytes scratch = markSized R (markSizes R k scratch) k net bytes scratch

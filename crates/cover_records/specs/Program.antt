@@ -6,6 +6,7 @@ use lib.ListN.{take, drop, replicate}
 use mathlib.Core.Bool.{cond, not}
 use Rattle.net_model.specs.Net.{Net}
 use Rattle.cover_theory.specs.Key.{Key, entries}
+use Rattle.limits.specs.Courses.{long}
 use Rattle.limits.specs.Limits.{leastK, mostK, mostPeriod, scratchArea}
 use Rattle.net_bytes.specs.Reading.{between}
 use Rattle.net_bytes.specs.Walk.{first, rest}
@@ -26,7 +27,7 @@ listChecked k target (passes N p) = listMapped (mapped N k target p)
 unfoldable pub listing : ℕ → ℕ → List ℕ → List ℕ
 unfolding listChecked checkNet
 listing k target net =
-    let wanted = listChecked k target (checkNet k net) in
+    let wanted = listChecked k target (checkNet long k net) in
     let inTime = cond (ltb mostPeriod target) (refusalText 2) wanted in
     cond (not (between leastK mostK k)) (refusalText 1) inTime
 
@@ -45,7 +46,7 @@ answerText (turnedBack n) = refusalText n
 -- what mark says of the record; the program lends a scratch of 65,536 bytes, so that 3 never arises
 unfoldable pub marking : ℕ → List ℕ → List ℕ → List ℕ
 unfolding answerText
-marking k net bytes = answerText ((markOutcome net k bytes (replicate scratchArea 0)) .answer)
+marking k net bytes = answerText ((markOutcome long net k bytes (replicate scratchArea 0)) .answer)
 
 -- The marking program reads k, the net's length in two bytes, low first, the net, then the record; a missing k or length byte reads as 0, the net is what there is of it,
 -- whatever follows is the record.

@@ -18,11 +18,12 @@ use Rattle.net_model.specs.Copies.{Copy, copy, Before, Rising}
 use Rattle.net_model.specs.Tables.{bit, asNumber}
 use Rattle.cone_values.specs.Words.{asNumber-small, bit-low, half}
 use Rattle.cover_theory.specs.Key.{Entry}
-use Rattle.limits.specs.Limits.{depthRoom, mostLuts, mostPeriod, mostPins}
-use Rattle.net_bytes.specs.Reading.{Result, Reader, andThen, check, byte, times, atEnd, between, got, refused}
+use Rattle.limits.specs.declared.Rules.{Rules}
+use Rattle.limits.specs.Limits.{depthRoom, mostPins}
+use Rattle.net_bytes.specs.Reading.{Result, Reader, andThen, check, times, atEnd, between, got, refused}
 use Rattle.net_bytes.specs.Walk.{tableBytes, tableByte, fromBytes, first, rest}
 use Rattle.net_bytes.specs.Maps.{pow-bytes, one-table-byte}
-use Rattle.cover_records.specs.CoverBytes.{toBytes, notZero, leafMap, depths, isZero, signedByte, lagBytes, lutBytes, allLutBytes, coverBytes, Record, coverByte, fromSigned, leafMapOk, depthReader, leavesFrom, before, risingLeaves, lutReader, lutsReader, coverReader}
+use Rattle.cover_records.specs.CoverBytes.{toBytes, notZero, numbersIn, leafMap, depths, isZero, allOnes, halfRange, signedNumber, lagBytes, lutBytes, allLutBytes, leadBytes, coverBytes, Record, coverByte, coverNumber, fromSigned, leafMapOk, depthReader, leavesFrom, before, risingLeaves, lutBody, lutReader, lutsReader, leadReader, coverReader}
 
 -- ---- readers that go on
 
@@ -35,13 +36,28 @@ check-goes n a s e = ap (λ (t : Bool). check t n a s) e
 between-true : (low high b : ℕ) → low ≤ b → b ≤ high → between low high b ≡ true
 between-true low high b p q = rw (le-leb low b p) (le-leb b high q)
 
--- n bytes that pass their test
-times-bytes : (ok : ℕ → Bool) (bs : List ℕ) (s : List ℕ) → ((b : ℕ) → b ∈ bs → ok b ≡ true) → times (length bs) (coverByte ok) (bs ++ s) ≡ got bs s
+-- a number that passes its test
+number-back : (w : Bool) (ok : ℕ → Bool) (n : ℕ) (s : List ℕ) → ok n ≡ true → coverNumber w ok (numbersIn w (n ∷ []) ++ s) ≡ got n s
+number-back false ok n s e = check-goes 13 n s e
+number-back true ok n s e =
+    let q : n % 256 + 256 * (n / 256) ≡ n = omega arith in
+    subst (λ (m : ℕ). check (ok m) 13 m s ≡ got n s) (sym q) (check-goes 13 n s e)
+
+-- one number in front of others
+pub numbers-cons : (w : Bool) (n : ℕ) (ns s : List ℕ) → numbersIn w (n ∷ ns) ++ s ≡ numbersIn w (n ∷ []) ++ (numbersIn w ns ++ s)
+numbers-cons false n ns s = refl
+numbers-cons true n ns s = refl
+
+-- n numbers that pass their test
+times-numbers : (w : Bool) (ok : ℕ → Bool) (ns : List ℕ) (s : List ℕ) → ((n : ℕ) → n ∈ ns → ok n ≡ true)
+    → times (length ns) (coverNumber w ok) (numbersIn w ns ++ s) ≡ got ns s
 unfolding times
-times-bytes ok [] s h = refl
-times-bytes ok (b ∷ bs) s h =
-    goes (λ a r. andThen (times (length bs) (coverByte ok) r) (λ more behind. got (a ∷ more) behind)) (check-goes 13 b (bs ++ s) (h b (here refl)))
-    ∙ goes (λ more behind. got (b ∷ more) behind) (times-bytes ok bs s (λ c m. h c (there m)))
+times-numbers false ok [] s h = refl
+times-numbers true ok [] s h = refl
+times-numbers w ok (n ∷ ns) s h =
+    ap (times (suc (length ns)) (coverNumber w ok)) (numbers-cons w n ns s)
+    ∙ goes (λ a r. andThen (times (length ns) (coverNumber w ok) r) (λ more behind. got (a ∷ more) behind)) (number-back w ok n (numbersIn w ns ++ s) (h n (here refl)))
+    ∙ goes (λ more behind. got (n ∷ more) behind) (times-numbers w ok ns s (λ c m. h c (there m)))
 
 -- ---- numbers as bytes
 
@@ -151,33 +167,62 @@ depths-back (y ∷ L) s h = go (notZero (y .back)) refl (depths-back L s (λ z m
 
 -- ---- the lag
 
--- a lag that a signed byte holds
-pub data SmallLag : ℤ → Type 0 where
-  up : {n : ℕ} → n < 128 → SmallLag (pos n)
-  down : {n : ℕ} → n < 128 → SmallLag (negsuc n)
+-- a lag that a signed number of one byte, or of two, holds
+pub data SmallLag (w : Bool) : ℤ → Type 0 where
+  up : {n : ℕ} → n < halfRange w → SmallLag w (pos n)
+  down : {n : ℕ} → n < halfRange w → SmallLag w (negsuc n)
+
+-- the numbers below half the range are half of all
+pub two-halves : (w : Bool) → halfRange w + halfRange w ≡ suc (allOnes w)
+two-halves false = refl
+two-halves true = refl
 
 lag-bit : ℤ → ℕ
 lag-bit z = cond (isZero z) 0 1
 
-lag-read : {z : ℤ} → SmallLag z → (s : List ℕ) → (times (lag-bit z) (coverByte notZero) (lagBytes z ++ s) ≡ got (lagBytes z) s) × (fromSigned (first (lagBytes z)) ≡ z)
-unfolding lag-bit times
-lag-read (up {n = zero} h) s = (refl, refl)
-lag-read (up {n = suc n} h) s = (
-  times-bytes notZero (suc n ∷ []) s one,
-  rw (lt-ltb (suc n) 128 h),
-)
+-- the number of a lag that is not 0
+lagNumbers : Bool → ℤ → List ℕ
+lagNumbers w z = cond (isZero z) [] (signedNumber w z ∷ [])
+
+lag-bytes : (w : Bool) (z : ℤ) → lagBytes w z ≡ numbersIn w (lagNumbers w z)
+unfolding lagNumbers
+lag-bytes false z = refl
+lag-bytes true z = go (isZero z)
   where
-    one : (b : ℕ) → b ∈ suc n ∷ [] → notZero b ≡ true
-    one b (here e) = rw e (ap not (ne-eqb (suc n) 0 (λ q. omega arith)))
-    one b (there m) = absurd (not-in-nil m)
-lag-read (down {n = n} h) s = (
-  times-bytes notZero ((255 - n) ∷ []) s one,
-  rw (le-ltb (255 - n) 128 (omega arith)) (ap negsuc (omega arith)),
-)
+    go : (t : Bool) → cond t [] (numbersIn true (signedNumber true z ∷ [])) ≡ numbersIn true (cond t [] (signedNumber true z ∷ []))
+    go true = refl
+    go false = refl
+
+length-lagNumbers : (w : Bool) (z : ℤ) → length (lagNumbers w z) ≡ lag-bit z
+unfolding lagNumbers lag-bit
+length-lagNumbers w z = go (isZero z)
   where
-    one : (b : ℕ) → b ∈ (255 - n) ∷ [] → notZero b ≡ true
-    one b (here e) = rw e (ap not (ne-eqb (255 - n) 0 (λ q. omega arith)))
-    one b (there m) = absurd (not-in-nil m)
+    go : (t : Bool) → length (cond t [] (signedNumber w z ∷ [])) ≡ cond t 0 1
+    go true = refl
+    go false = refl
+
+-- the number of a lag is not 0
+lag-number : (w : Bool) {z : ℤ} → SmallLag w z → (b : ℕ) → b ∈ lagNumbers w z → notZero b ≡ true
+unfolding lagNumbers
+lag-number w (up {n = zero} h) b m = absurd (not-in-nil m)
+lag-number w (up {n = suc n} h) b (here e) = rw e (ap not (ne-eqb (suc n) 0 (λ q. omega arith)))
+lag-number w (up {n = suc n} h) b (there m) = absurd (not-in-nil m)
+lag-number w (down {n = n} h) b (here e) = rw e (ap not (ne-eqb (allOnes w - n) 0 (λ q. let a = two-halves w in omega arith)))
+lag-number w (down {n = n} h) b (there m) = absurd (not-in-nil m)
+
+-- and stands for it
+lag-signed : (w : Bool) {z : ℤ} → SmallLag w z → fromSigned w (first (lagNumbers w z)) ≡ z
+unfolding lagNumbers
+lag-signed false (up {n = zero} h) = refl
+lag-signed true (up {n = zero} h) = refl
+lag-signed w (up {n = suc n} h) = rw (lt-ltb (suc n) (halfRange w) h)
+lag-signed w (down {n = n} h) = let a = two-halves w in rw (le-ltb (allOnes w - n) (halfRange w) (omega arith)) (ap negsuc (omega arith))
+
+lag-read : (w : Bool) {z : ℤ} → SmallLag w z → (s : List ℕ) → times (lag-bit z) (coverNumber w notZero) (lagBytes w z ++ s) ≡ got (lagNumbers w z) s
+lag-read w {z} h s =
+    rw (lag-bytes w z)
+    (subst (λ (j : ℕ). times j (coverNumber w notZero) (numbersIn w (lagNumbers w z) ++ s) ≡ got (lagNumbers w z) s) (length-lagNumbers w z)
+    (times-numbers w notZero (lagNumbers w z) s (lag-number w h)))
 
 -- ---- the table
 
@@ -219,7 +264,7 @@ table-bytes-ok n w b h i = go (ltb n 3) refl
 -- ---- one LUT
 
 -- what an entry of a written record satisfies
-pub record Writable (nodes k least : ℕ) (e : Entry) : Type 0 where
+pub record Writable (w : Bool) (nodes k least : ℕ) (e : Entry) : Type 0 where
   pub low : least ≤ e .root
   pub high : e .root < nodes
   pub some : 1 ≤ length (e .leaves)
@@ -228,27 +273,27 @@ pub record Writable (nodes k least : ℕ) (e : Entry) : Type 0 where
   pub rising : Rising (e .leaves)
   pub inside : (y : Copy) → y ∈ e .leaves → y .node < nodes
   pub depth : (y : Copy) → y ∈ e .leaves → y .back < depthRoom
-  pub lag : SmallLag (e .lag)
+  pub lag : SmallLag w (e .lag)
   pub table : e .table < 2 ^ (2 ^ length (e .leaves))
 
-lut-back : (nodes k least : ℕ) (e : Entry) (s : List ℕ) → Writable nodes k least e → lutReader nodes k least (lutBytes e ++ s) ≡ got e s
-unfolding lutReader lutBytes
-lut-back nodes k least e s w =
-    ap (λ (l : List ℕ). lutReader nodes k least (e .root ∷ n ∷ m ∷ l)) regroup
-    ∙ goes _ (check-goes 13 (e .root) _ rootOk)
+lut-back : (w : Bool) (nodes k least : ℕ) (e : Entry) (s : List ℕ) → Writable w nodes k least e → lutReader w nodes k least (lutBytes w e ++ s) ≡ got e s
+unfolding lutReader lutBody lutBytes
+lut-back w nodes k least e s f =
+    ap (lutReader w nodes k least) regroup
+    ∙ goes _ (number-back w _ (e .root) (n ∷ m ∷ us ++ (ds ++ (ls ++ (ts ++ s)))) rootOk)
     ∙ goes _ (check-goes 13 n _ countOk)
     ∙ goes _ (check-goes 13 m _ mapOk)
-    ∙ goes _ (subst (λ (j : ℕ). times j (coverByte (λ b. ltb b nodes)) (us ++ (ds ++ (ls ++ (ts ++ s)))) ≡ got us (ds ++ (ls ++ (ts ++ s)))) (length-map L (λ (y : Copy). y .node))
-    (times-bytes (λ b. ltb b nodes) us (ds ++ (ls ++ (ts ++ s))) usOk))
+    ∙ goes _ (subst (λ (j : ℕ). times j (coverNumber w (λ b. ltb b nodes)) (us ++ (ds ++ (ls ++ (ts ++ s)))) ≡ got vs (ds ++ (ls ++ (ts ++ s)))) (length-map L (λ (y : Copy). y .node))
+    (times-numbers w (λ b. ltb b nodes) vs (ds ++ (ls ++ (ts ++ s))) usOk))
     ∙ rw low (rw high
-    (goes _ (subst (λ (j : ℕ). times j depthReader (ds ++ (ls ++ (ts ++ s))) ≡ got (deep L) (ls ++ (ts ++ s))) (sym (ones-leafMap L)) (depths-back L (ls ++ (ts ++ s)) (w .depth)))
+    (goes _ (subst (λ (j : ℕ). times j depthReader (ds ++ (ls ++ (ts ++ s))) ≡ got (deep L) (ls ++ (ts ++ s))) (sym (ones-leafMap L)) (depths-back L (ls ++ (ts ++ s)) (f .depth)))
     ∙ rw (leaves-back L)
-    (goes _ (check-goes 13 L (ls ++ (ts ++ s)) (rising-true L (w .rising)))
-    ∙ goes _ (lag-read (w .lag) (ts ++ s) .0)
+    (goes _ (check-goes 13 L (ls ++ (ts ++ s)) (rising-true L (f .rising)))
+    ∙ goes _ (lag-read w (f .lag) (ts ++ s))
     ∙ goes _ (subst (λ (j : ℕ). times j (coverByte (tableByte n)) (ts ++ s) ≡ got ts s) (length-toBytes (tableBytes n) (e .table))
-    (times-bytes (tableByte n) ts s (λ b h. table-bytes-ok n (e .table) b (w .table) h)))
-    ∙ ap₂ {C = Result Entry} (λ (z : ℤ) (t : ℕ). got (record { root = e .root; leaves = L; lag = z; table = t }) s) (lag-read (w .lag) (ts ++ s) .1)
-    (from-to (tableBytes n) (e .table) (bits-fit (2 ^ n) (e .table) (w .table))))))
+    (times-numbers false (tableByte n) ts s (λ b h. table-bytes-ok n (e .table) b (f .table) h)))
+    ∙ ap₂ {C = Result Entry} (λ (z : ℤ) (t : ℕ). got (record { root = e .root; leaves = L; lag = z; table = t }) s) (lag-signed w (f .lag))
+    (from-to (tableBytes n) (e .table) (bits-fit (2 ^ n) (e .table) (f .table))))))
   where
     L : List Copy
     L = e .leaves
@@ -259,29 +304,32 @@ lut-back nodes k least e s w =
     m : ℕ
     m = leafMap L + cond (isZero (e .lag)) 0 64
 
+    vs : List ℕ
+    vs = map (λ (y : Copy). y .node) L
+
     us : List ℕ
-    us = map (λ (y : Copy). y .node) L
+    us = numbersIn w vs
 
     ds : List ℕ
     ds = depths L
 
     ls : List ℕ
-    ls = lagBytes (e .lag)
+    ls = lagBytes w (e .lag)
 
     ts : List ℕ
     ts = toBytes (tableBytes n) (e .table)
 
-    regroup : (us ++ ds ++ ls ++ ts) ++ s ≡ us ++ (ds ++ (ls ++ (ts ++ s)))
-    regroup = simp append-assoc
+    regroup : lutBytes w e ++ s ≡ numbersIn w (e .root ∷ []) ++ (n ∷ m ∷ us ++ (ds ++ (ls ++ (ts ++ s))))
+    regroup = unfold lutBytes in simp append-assoc
 
     rootOk : (leb least (e .root) && ltb (e .root) nodes) ≡ true
-    rootOk = rw (le-leb least (e .root) (w .low)) (lt-ltb (e .root) nodes (w .high))
+    rootOk = rw (le-leb least (e .root) (f .low)) (lt-ltb (e .root) nodes (f .high))
 
     countOk : between 1 k n ≡ true
-    countOk = between-true 1 k n (w .some) (w .few)
+    countOk = between-true 1 k n (f .some) (f .few)
 
     sixtyFour : 2 ^ n ≤ 64
-    sixtyFour = pow-mono {i = n} {j = mostPins} (w .six)
+    sixtyFour = pow-mono {i = n} {j = mostPins} (f .six)
 
     flag : cond (isZero (e .lag)) 0 64 ≡ 64 * lag-bit (e .lag)
     flag = unfold lag-bit in go (isZero (e .lag))
@@ -308,29 +356,39 @@ lut-back nodes k least e s w =
         rw (lt-ltb m 128 (let a = leafMap-small L in let b = sixtyFour in let c = flag in let d = one in omega arith))
         (lt-ltb (m % 64) (2 ^ n) (let a = leafMap-small L in let b = low in omega arith))
 
-    usOk : (b : ℕ) → b ∈ us → ltb b nodes ≡ true
-    usOk b h = let t = map-in (λ (y : Copy). y .node) L h in rw (t .2) (lt-ltb (t .0 .node) nodes (w .inside (t .0) (t .1)))
+    usOk : (b : ℕ) → b ∈ vs → ltb b nodes ≡ true
+    usOk b h = let t = map-in (λ (y : Copy). y .node) L h in rw (t .2) (lt-ltb (t .0 .node) nodes (f .inside (t .0) (t .1)))
 
 -- ---- the record
 
 -- entries with rising roots, the first at least `least`
-pub data AllWritable (nodes k : ℕ) : ℕ → List Entry → Type 0 where
-  none : {least : ℕ} → AllWritable nodes k least []
-  next : {least : ℕ} {e : Entry} {es : List Entry} → Writable nodes k least e → AllWritable nodes k (suc (e .root)) es → AllWritable nodes k least (e ∷ es)
+pub data AllWritable (w : Bool) (nodes k : ℕ) : ℕ → List Entry → Type 0 where
+  none : {least : ℕ} → AllWritable w nodes k least []
+  next : {least : ℕ} {e : Entry} {es : List Entry} → Writable w nodes k least e → AllWritable w nodes k (suc (e .root)) es → AllWritable w nodes k least (e ∷ es)
 
-luts-back : (nodes k least : ℕ) (es : List Entry) (s : List ℕ) → AllWritable nodes k least es → lutsReader nodes k (length es) least (allLutBytes es ++ s) ≡ got es s
+luts-back : (w : Bool) (nodes k least : ℕ) (es : List Entry) (s : List ℕ) → AllWritable w nodes k least es → lutsReader w nodes k (length es) least (allLutBytes w es ++ s) ≡ got es s
 unfolding lutsReader allLutBytes
-luts-back nodes k least [] s none = refl
-luts-back nodes k least (e ∷ es) s (next w ws) =
-    ap (λ (l : List ℕ). lutsReader nodes k (suc (length es)) least l) (append-assoc (lutBytes e) (allLutBytes es) s)
-    ∙ goes (λ x behind. andThen (lutsReader nodes k (length es) (suc (x .root)) behind) (λ more after. got (x ∷ more) after)) (lut-back nodes k least e (allLutBytes es ++ s) w)
-    ∙ goes (λ more after. got (e ∷ more) after) (luts-back nodes k (suc (e .root)) es s ws)
+luts-back w nodes k least [] s none = refl
+luts-back w nodes k least (e ∷ es) s (next f fs) =
+    ap (lutsReader w nodes k (suc (length es)) least) (append-assoc (lutBytes w e) (allLutBytes w es) s)
+    ∙ goes (λ x behind. andThen (lutsReader w nodes k (length es) (suc (x .root)) behind) (λ more after. got (x ∷ more) after)) (lut-back w nodes k least e (allLutBytes w es ++ s) f)
+    ∙ goes (λ more after. got (e ∷ more) after) (luts-back w nodes k (suc (e .root)) es s fs)
+
+-- what stands before the period
+lead-back : (w : Bool) (s : List ℕ) → (b : ℕ) × (leadReader w (leadBytes w ++ s) ≡ got b s)
+lead-back false s = (0, refl)
+lead-back true s = (255, refl)
 
 -- **A written record reads back.**
-pub record-back : (N : Net) (k φ : ℕ) (es : List Entry) → 1 ≤ φ → φ ≤ mostPeriod → 1 ≤ length es → length es ≤ mostLuts → AllWritable (size N) k (N .inputs) es
-    → coverReader N k (coverBytes φ es) ≡ got (record { period = φ; entries = es }) []
+pub record-back : (R : Rules) (N : Net) (k φ : ℕ) (es : List Entry) → 1 ≤ φ → φ ≤ R .period → 1 ≤ length es → length es ≤ R .luts
+    → AllWritable (R .wide) (size N) k (N .inputs) es → coverReader R N k (coverBytes R φ es) ≡ got (record { period = φ; entries = es }) []
 unfolding coverReader coverBytes
-record-back N k φ es p p′ q q′ w =
-    goes _ (check-goes 13 φ _ (between-true 1 mostPeriod φ p p′))
-    ∙ goes _ (check-goes 13 (length es) _ (between-true 1 mostLuts (length es) q q′))
-    ∙ goes _ (subst (λ (l : List ℕ). lutsReader (size N) k (length es) (N .inputs) l ≡ got es []) (append-nil (allLutBytes es)) (luts-back (size N) k (N .inputs) es [] w))
+record-back R N k φ es p p′ q q′ f =
+    ap (λ (l : List ℕ). coverReader R N k (leadBytes w ++ l)) (numbers-cons w φ (length es ∷ []) (allLutBytes w es))
+    ∙ goes _ (lead-back w _ .1)
+    ∙ goes _ (number-back w _ φ _ (between-true 1 (R .period) φ p p′))
+    ∙ goes _ (number-back w _ (length es) _ (between-true 1 (R .luts) (length es) q q′))
+    ∙ goes _ (subst (λ (l : List ℕ). lutsReader w (size N) k (length es) (N .inputs) l ≡ got es []) (append-nil (allLutBytes w es)) (luts-back w (size N) k (N .inputs) es [] f))
+  where
+    w : Bool
+    w = R .wide

@@ -1,5 +1,6 @@
 -- Definitions: the register count of a cover kept in arrays, over its leaves and outputs.
 use mathlib.Core.Path.{_≡_}
+use mathlib.Core.Bool.{false}
 use mathlib.Core.List.{List, [], _++_}
 use Prim.Native.Nat.{ℕ, _+_, _*_, _≤_, _<_}
 use lib.IntN.{ℤ}
@@ -50,7 +51,7 @@ pub record LagsHeld (a : Kept) : Type 0 where
   pub least : 1 ≤ a .period
   pub period : a .period < 256
   pub label : (g : ℕ) → g < a .gates → (getD (a .marks) g 0 ≡ 0 → ⊥) → Small (labelAt a (a .inputs + g))
-  pub small : (g : ℕ) → g < a .gates → (getD (a .marks) g 0 ≡ 0 → ⊥) → SmallLag (lag (a .period) (labelAt a (a .inputs + g)))
+  pub small : (g : ℕ) → g < a .gates → (getD (a .marks) g 0 ≡ 0 → ⊥) → SmallLag false (lag (a .period) (labelAt a (a .inputs + g)))
 
 -- the arrays hold the leaves of the marked gates, without their tables
 pub record LeavesHeld (a : Kept) : Type 0 where

@@ -1,5 +1,6 @@
 -- Whole numbers and how large they get.
 use mathlib.Core.Path.{_≡_, refl, sym, ap, ap₂, _∙_}
+use mathlib.Core.Bool.{false}
 use Prim.Native.Nat.{ℕ, _+_, _≤_, _<_, _^_}
 use native.Mathlib.Omega.{arith}
 use lib.IntN.{ℤ, pos, negsuc, _+ℤ_, _-ℤ_}
@@ -17,7 +18,7 @@ use Rattle.cover_registers.specs.Counting.{Within, Counted}
 pub within-pos : (n m : ℕ) → n ≤ m → Within m (pos n)
 within-pos n m h = record { high = h; low = omega arith }
 
-pub within-lag : {z : ℤ} → SmallLag z → Within 128 z
+pub within-lag : {z : ℤ} → SmallLag false z → Within 128 z
 within-lag (up h) = record { high = omega arith; low = omega arith }
 within-lag (down h) = record { high = omega arith; low = omega arith }
 

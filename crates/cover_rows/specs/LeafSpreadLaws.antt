@@ -18,10 +18,9 @@ use Rattle.net_model.specs.Tables.{bit}
 use Rattle.net_bytes.specs.Maps.{half-pow}
 use Rattle.net_bytes.specs.Walk.{first, rest}
 use Rattle.cover_records.specs.CoverBytes.{leavesFrom}
-use Rattle.net_fields.specs.FieldListLaws.{first-drop, rest-drop, Alike, first-alike, rest-alike}
+use Rattle.net_fields.specs.FieldListLaws.{first-drop, rest-drop, Alike, first-alike, rest-alike, small-none, small-set}
 use Rattle.cover_rows.specs.declared.SpreadSoFar.{SpreadSoFar}
 use Rattle.cover_rows.specs.LutParts.{Spreading, Spread}
-use Rattle.cover_rows.specs.DepthLaws.{shallow-none, shallow-set}
 
 -- one leaf: with the next d, or with none
 leaf-deep : (b u : ℕ) (us ds : List ℕ) → bit b 0 ≡ true → leavesFrom b (u ∷ us) ds ≡ copy u (first ds) ∷ leavesFrom (b / 2) us (rest ds)
@@ -42,7 +41,7 @@ module _ (p : ℕ) (depths : List ℕ) where
     result = λ us h. ap (λ (n : ℕ). leavesFrom n us depths) (sym (div-one p));
     used = omega arith;
     long = refl;
-    small = λ s. shallow-none mostItems;
+    small = λ s. small-none true mostItems;
   }
 
   module _ (i : ℕ) (so : SpreadSoFar) (h : i < mostPins) (w : Spreading p depths i so) where
@@ -73,7 +72,7 @@ module _ (p : ℕ) (depths : List ℕ) where
               (leaf-flat (p / 2 ^ i) (getD us i 0) (drop (suc i) us) (drop (so .used) depths) (low-bit p i ∙ e)));
           used = omega arith;
           long = length-set (so .backs) i 0 ∙ w .long;
-          small = λ s. shallow-set (so .backs) i 0 (omega arith) (w .small s) (omega arith);
+          small = λ s. small-set true (so .backs) i 0 (omega arith) (w .small s) (omega arith);
         }
 
     pub spread-deep : bit p i ≡ true → Spreading p depths (i + 1) (record { backs = set (so .backs) i (getD depths (so .used) 0); used = so .used + 1 })
@@ -88,7 +87,7 @@ module _ (p : ℕ) (depths : List ℕ) where
               (rest-drop depths k ∙ ap (λ (n : ℕ). drop n depths) (sym (add-one k)))));
           used = omega arith;
           long = length-set (so .backs) i (getD depths k 0) ∙ w .long;
-          small = λ s. shallow-set (so .backs) i (getD depths k 0) (omega arith) (w .small s) (s k);
+          small = λ s. small-set true (so .backs) i (getD depths k 0) (omega arith) (w .small s) (s k);
         }
 
   -- all leaves have their d's

@@ -1,6 +1,4 @@
-pub mod LutStages
 pub mod LutParts
-pub mod DepthLaws
 pub mod LeafSpreadLaws
 pub mod RisingLaws
 pub mod SignedLaws

@@ -14,22 +14,22 @@ use Rattle.net_model.specs.Tables.{bit}
 use Rattle.net_model.specs.Copies.{Copy, copy, Rising}
 use Rattle.cover_theory.specs.Key.{Entry}
 use Rattle.net_bytes.specs.Reading.{check, times, between, got}
-use Rattle.net_bytes.specs.Readers.{Each, each-nil, each-cons, got-value, then-got, check-got, byte-got, times-got}
+use Rattle.net_bytes.specs.Readers.{Each, each-nil, each-cons, got-value, then-got, check-got, byte-got, number-got, times-got}
 use Rattle.net_bytes.specs.Sound.{between-true}
 use Rattle.net_bytes.specs.Walk.{tableBytes, tableByte, fromBytes, first, rest}
-use Rattle.cover_records.specs.CoverBytes.{coverByte, notZero, leafMapOk, depthReader, leavesFrom, risingLeaves, fromSigned, lutReader}
-use Rattle.cover_rows.specs.LutStages.{fromTable, fromLags, fromLeaves, fromDepths, fromNodes, fromMap, fromSize, fromRoot, lut-stages}
+use Rattle.cover_records.specs.CoverBytes.{coverByte, coverNumber, notZero, leafMapOk, depthReader, leavesFrom, risingLeaves, halfRange, fromSigned, rootReader, lutBody, lutReader}
+use Rattle.cover_records.specs.LutStages.{fromTable, fromLags, fromLeaves, fromDepths, fromNodes, fromMap, fromSize, body-stages, lut-stages}
 use Rattle.cover_rows.specs.RisingLaws.{rising-true}
 use Rattle.cover_rows.specs.SignedLaws.{signed-small}
 
 -- what a LUT that was read keeps
-pub record LutFacts (nodes k least : ℕ) (e : Entry) : Type 0 where
+pub record LutFacts (w : Bool) (nodes k least : ℕ) (e : Entry) : Type 0 where
   pub low : least ≤ e .root
   pub high : e .root < nodes
   pub few : length (e .leaves) ≤ k
   pub rising : Rising (e .leaves)
   pub node : Each (λ (y : Copy). y .node < nodes) (e .leaves)
-  pub lag : mag (e .lag) ≤ 128
+  pub lag : mag (e .lag) ≤ halfRange w
 
 length-leavesFrom : (b : ℕ) (us ds : List ℕ) → length (leavesFrom b us ds) ≡ length us
 unfolding leavesFrom
@@ -59,37 +59,55 @@ root-range least nodes b = go (leb least b) (ltb b nodes) (leb-true least b) (lt
     go true y f g e = (f refl, g e)
     go false y f g e = absurd (false≢true e)
 
-module _ (nodes k : ℕ) where
-  pub lut-facts : (least : ℕ) (s : List ℕ) (e : Entry) (end : List ℕ) → lutReader nodes k least s ≡ got e end → LutFacts nodes k least e
-  lut-facts least s e end q =
-      let x1 = then-got (coverByte (λ b. leb least b && ltb b nodes) s) (fromRoot nodes k) e end (sym (lut-stages nodes k least s) ∙ q) in
-      let root = x1 .0 in
-      let x2 = then-got (coverByte (between 1 k) (x1 .1)) (fromSize nodes root) e end (x1 .3) in
-      let n = x2 .0 in
-      let x3 = then-got (coverByte (leafMapOk n) (x2 .1)) (fromMap nodes root n) e end (x2 .3) in
-      let m = x3 .0 in
-      let x4 = then-got (times n (coverByte (λ b. ltb b nodes)) (x3 .1)) (fromNodes root n m) e end (x3 .3) in
+module _ (w : Bool) where
+  -- the root and the leaves are those read before, and the lag is small
+  tail-facts : (root n m : ℕ) (L : List Copy) (s : List ℕ) (e : Entry) (end : List ℕ) → fromLeaves w root n m L s ≡ got e end
+      → (root ≡ e .root) × (L ≡ e .leaves) × (mag (e .lag) ≤ halfRange w)
+  tail-facts root n m L s e end q =
+      let x = then-got (times (m / 64) (coverNumber w notZero) s) (fromLags w root n L) e end q in
+      let lags = x .0 in
+      let y = then-got (times (tableBytes n) (coverByte (tableByte n)) (x .1)) (fromTable w root L lags) e end (x .3) in
+      let is : _≡_ {A = Entry} (record { root = root; leaves = L; lag = fromSigned w (first lags); table = fromBytes (y .0) }) e = got-value _ (y .1) e end (y .3) in
+      (ap (λ (z : Entry). z .root) is, ap (λ (z : Entry). z .leaves) is, subst (λ (z : Entry). mag (z .lag) ≤ halfRange w) is (signed-small w (first lags)))
+
+  -- so many leaves, rising, that are nodes
+  leaves-facts : (nodes root n m : ℕ) (s : List ℕ) (e : Entry) (end : List ℕ) → fromMap w nodes root n m s ≡ got e end
+      → (root ≡ e .root) × (length (e .leaves) ≡ n) × Rising (e .leaves) × Each (λ (y : Copy). y .node < nodes) (e .leaves) × (mag (e .lag) ≤ halfRange w)
+  leaves-facts nodes root n m s e end q =
+      let x4 = then-got (times n (coverNumber w (λ b. ltb b nodes)) s) (fromNodes w root n m) e end q in
       let us = x4 .0 in
-      let x5 = then-got (times (ones (m % 64)) depthReader (x4 .1)) (fromDepths root n m us) e end (x4 .3) in
+      let x5 = then-got (times (ones (m % 64)) depthReader (x4 .1)) (fromDepths w root n m us) e end (x4 .3) in
       let ds = x5 .0 in
       let L : List Copy = leavesFrom (m % 64) us ds in
-      let x6 = then-got (check (risingLeaves L) 13 L (x5 .1)) (fromLeaves root n m) e end (x5 .3) in
+      let x6 = then-got (check (risingLeaves L) 13 L (x5 .1)) (fromLeaves w root n m) e end (x5 .3) in
       let c = check-got (risingLeaves L) 13 L (x5 .1) (x6 .0) (x6 .1) (x6 .2) in
-      let x7 = then-got (times (m / 64) (coverByte notZero) (x6 .1)) (fromLags root n (x6 .0)) e end (x6 .3) in
-      let lags = x7 .0 in
-      let x8 = then-got (times (tableBytes n) (coverByte (tableByte n)) (x7 .1)) (fromTable root (x6 .0) lags) e end (x7 .3) in
-      let is : _≡_ {A = Entry} (record { root = root; leaves = x6 .0; lag = fromSigned (first lags); table = fromBytes (x8 .0) }) e = got-value _ (x8 .1) e end (x8 .3) in
-      let range = root-range least nodes root (byte-got 13 13 (λ b. leb least b && ltb b nodes) s root (x1 .1) (x1 .2)) in
+      let t = tail-facts root n m (x6 .0) (x6 .1) e end (x6 .3) in
+      let is : L ≡ e .leaves = c .1 ∙ t .1 in
+      let some = times-got (λ (b : ℕ). b < nodes) n (coverNumber w (λ b. ltb b nodes))
+      (λ t b u f. ltb-true b nodes (number-got w 13 13 (λ b. ltb b nodes) t b u f)) s us (x4 .1) (x4 .2) in (
+        t .0,
+        ap length (sym is) ∙ length-leavesFrom (m % 64) us ds ∙ some .0,
+        subst Rising is (rising-true L (c .0)),
+        subst (λ (l : List Copy). Each (λ (y : Copy). y .node < nodes) l) is (each-leavesFrom (λ (b : ℕ). b < nodes) (m % 64) us ds (some .1)),
+        t .2,
+      )
+
+module _ (w : Bool) (nodes k : ℕ) where
+  pub lut-facts : (least : ℕ) (s : List ℕ) (e : Entry) (end : List ℕ) → lutReader w nodes k least s ≡ got e end → LutFacts w nodes k least e
+  lut-facts least s e end q =
+      let x1 = then-got (rootReader w nodes least s) (lutBody w nodes k) e end (sym (lut-stages w nodes k least s) ∙ q) in
+      let root = x1 .0 in
+      let x2 = then-got (coverByte (between 1 k) (x1 .1)) (fromSize w nodes root) e end (sym (body-stages w nodes k root (x1 .1)) ∙ x1 .3) in
+      let n = x2 .0 in
+      let x3 = then-got (coverByte (leafMapOk n) (x2 .1)) (fromMap w nodes root n) e end (x2 .3) in
+      let f = leaves-facts w nodes root n (x3 .0) (x3 .1) e end (x3 .3) in
+      let range = root-range least nodes root (number-got w 13 13 (λ b. leb least b && ltb b nodes) s root (x1 .1) (x1 .2)) in
       let size = between-true 1 k n (byte-got 13 13 (between 1 k) (x1 .1) n (x2 .1) (x2 .2)) in
-      let some = times-got (λ (b : ℕ). b < nodes) n (coverByte (λ b. ltb b nodes))
-      (λ t b u f. ltb-true b nodes (byte-got 13 13 (λ b. ltb b nodes) t b u f)) (x3 .1) us (x4 .1) (x4 .2) in
-      let long = length-leavesFrom (m % 64) us ds in
-      let each : Each (λ (y : Copy). y .node < nodes) L = each-leavesFrom (λ (b : ℕ). b < nodes) (m % 64) us ds (some .1) in
-      subst (LutFacts nodes k least) is (record {
-        low = range .0;
-        high = range .1;
-        few = subst (λ (l : List Copy). length l ≤ k) (c .1) (omega (arith, long, some .0, size .1));
-        rising = subst Rising (c .1) (rising-true L (c .0));
-        node = subst (λ (l : List Copy). Each (λ (y : Copy). y .node < nodes) l) (c .1) each;
-        lag = signed-small (first lags);
-      })
+      record {
+        low = subst (λ (r : ℕ). least ≤ r) (f .0) (range .0);
+        high = subst (λ (r : ℕ). r < nodes) (f .0) (range .1);
+        few = subst (λ (l : ℕ). l ≤ k) (sym (f .1)) (size .1);
+        rising = f .2;
+        node = f .3;
+        lag = f .4;
+      }

@@ -1,44 +1,46 @@
-// The rows of a cover record: one LUT, its depths, head, leaves and tail.
+// The rows of a cover record: what stands before the LUTs; one LUT, its root, and behind it its head, leaves and tail. Numbers take one byte
+// or two.
 use inputs::wide;
 use limits::ITEMS;
+use limits::Rules;
 use net_fields::CoverField;
 use net_fields::Field;
+use net_fields::NumberField;
 use net_fields::Verdict;
 use net_fields::count_of;
 use net_fields::has;
+use net_fields::luts_field;
 use net_fields::number;
+use net_fields::period_field;
 use net_fields::read_byte;
 use net_fields::read_items;
+use net_fields::read_number;
+use net_fields::read_numbers;
 use net_fields::table_bytes;
 use signed::minus;
 use signed::whole;
 ghost use mathlib.Core.Path.{_≡_};
-ghost use Prim.Native.Nat.{_+_, _*_, _^_, _≤_, _<_};
-ghost use Rattle.limits.specs.Limits.{depthRoom, mostItems, mostK, mostPins};
+ghost use Prim.Native.Nat.{_+_, _^_, _≤_, _<_};
+ghost use Rattle.limits.specs.Courses.{Offered};
+ghost use Rattle.limits.specs.Limits.{mostK, mostPins};
 ghost use Rattle.net_model.specs.Arrays.{copiesFrom};
 ghost use Rattle.net_model.specs.Copies.{copy};
-ghost use Rattle.cover_records.specs.CoverBytes.{before, fromSigned, risingLeaves};
-ghost use Rattle.cover_rows.specs.LutParts.{DepthRead, DepthsRead, Spreading, Spread, HeadRead, LeavesRead, TailRead, LutRead};
+ghost use Rattle.net_fields.specs.ItemsRead.{numberRoom};
+ghost use Rattle.cover_records.specs.CoverBytes.{before, fromSigned, halfRange, risingLeaves};
+ghost use Rattle.cover_rows.specs.LutParts.{FrontRead, Spreading, Spread, HeadRead, LeavesRead, TailRead, BodyRead, LutRead};
 
-// A stored d, and the place behind it.
-struct Depth {
-    verdict: Verdict,
-    at: usize,
-    value: usize,
+// The period and the LUT count of a record, and the place behind them.
+pub struct Front {
+    pub verdict: Verdict,
+    pub at: usize,
+    pub period: usize,
+    pub luts: usize,
 }
 
-// At most ITEMS stored d's, and the place behind them; the values that are not read are 0.
-struct Depths {
-    verdict: Verdict,
-    at: usize,
-    values: [usize; ITEMS],
-}
-
-// The root, leaf count and map of a LUT, and the place behind them.
+// The leaf count and map of a LUT, and the place behind them.
 struct Head {
     verdict: Verdict,
     at: usize,
-    root: usize,
     size: usize,
     map: u8,
 }
@@ -53,7 +55,7 @@ struct SpreadSoFar {
 struct Leaves {
     verdict: Verdict,
     at: usize,
-    nodes: [u8; ITEMS],
+    nodes: [usize; ITEMS],
     backs: [usize; ITEMS],
 }
 
@@ -71,80 +73,43 @@ pub struct Row {
     pub at: usize,
     pub root: usize,
     pub size: usize,
-    pub nodes: [u8; ITEMS],
+    pub nodes: [usize; ITEMS],
     pub backs: [usize; ITEMS],
     pub lag: i64,
     pub table: u64,
 }
 
-fn no_depth(n: u8) -> Depth
-    ensures { λ r. ⌜ (r .verdict ≡ Verdict.Refused n) × (r .value ≡ 0) ⌝ }
+fn no_front(n: u8) -> Front
+    ensures { λ r. ⌜ r .verdict ≡ Verdict.Refused n ⌝ }
 {
-    Depth {
+    Front {
         verdict: Verdict::Refused(n),
         at: 0,
-        value: 0,
+        period: 0,
+        luts: 0,
     }
 }
 
-// A number of two bytes.
-fn paired(low: u8, high: u8) -> usize
-    ensures { λ r. ⌜ (r ≡ low + 256 * high) × (r < depthRoom) ⌝ }
+// What stands before the LUTs: the period and their number.
+pub fn read_front(bytes: &[u8], rules: Rules) -> Front
+    requires { ⌜ Offered rules ⌝ }
+    ensures { λ r. ⌜ FrontRead rules (now (bytes .entry)) r ⌝ }
 {
-    wide(low) + 256 * wide(high)
-}
-
-// A stored d: two bytes, low first, not 0.
-fn read_depth(bytes: &[u8], at: usize) -> Depth
-    ensures { λ r. ⌜ DepthRead (now (bytes .entry)) at r ⌝ }
-{
-    let low = read_byte(bytes, at, Field::Cover(CoverField::Depth), 0);
-    let v = low.verdict;
+    let period = read_number(bytes, 0, period_field(rules), 0, rules.wide);
+    let v = period.verdict;
     if let Verdict::Refused(m) = v {
-        return no_depth(m);
+        return no_front(m);
     }
-    let high = read_byte(bytes, low.at, Field::Cover(CoverField::Depth), 0);
-    let w = high.verdict;
+    let count = read_number(bytes, period.at, luts_field(rules), 0, rules.wide);
+    let w = count.verdict;
     if let Verdict::Refused(m) = w {
-        return no_depth(m);
+        return no_front(m);
     }
-    let d = paired(low.value, high.value);
-    if d == 0 {
-        return no_depth(13);
-    }
-    Depth {
+    Front {
         verdict: Verdict::Read,
-        at: high.at,
-        value: d,
-    }
-}
-
-// The next n stored d's; the first refusal ends it.
-fn read_depths(bytes: &[u8], at: usize, n: usize) -> Depths
-    requires { ⌜ n ≤ mostItems ⌝ }
-    ensures { λ r. ⌜ DepthsRead (now (bytes .entry)) at n r ⌝ }
-{
-    let mut values = [0usize; ITEMS];
-    let mut next = at;
-    let mut i = 0;
-    while i < n {
-        let depth = read_depth(bytes, next);
-        let v = depth.verdict;
-        if let Verdict::Refused(m) = v {
-            return Depths {
-                verdict: Verdict::Refused(m),
-                at: next,
-                values: values,
-            };
-        }
-        values[i] = depth.value;
-        next = depth.at;
-        i += 1;
-    }
-    Depths {
-        verdict: Verdict::Read,
-        at: next,
-        values: values,
+        at: count.at,
+        period: period.value,
+        luts: count.value,
     }
 }
 
@@ -157,42 +122,35 @@ fn power(n: usize) -> usize
 }
 
 fn no_head(n: u8) -> Head
-    ensures { λ r. ⌜ (r .verdict ≡ Verdict.Refused n) × (r .root ≡ 0) × (r .size ≡ 0) × (r .map ≡ 0) ⌝ }
+    ensures { λ r. ⌜ (r .verdict ≡ Verdict.Refused n) × (r .size ≡ 0) × (r .map ≡ 0) ⌝ }
 {
     Head {
         verdict: Verdict::Refused(n),
         at: 0,
-        root: 0,
         size: 0,
         map: 0,
     }
 }
 
-// The root, at least so high, the leaf count, at most k, and the map.
-fn read_head(bytes: &[u8], at: usize, nodes: usize, k: usize, least: usize) -> Head
+// The leaf count, at most k, and the map.
+fn read_head(bytes: &[u8], at: usize, k: usize) -> Head
     requires { ⌜ k ≤ mostK ⌝ }
-    ensures { λ r. ⌜ HeadRead (now (bytes .entry)) at nodes k least r ⌝ }
+    ensures { λ r. ⌜ HeadRead (now (bytes .entry)) at k r ⌝ }
 {
-    let root = read_byte(bytes, at, Field::Cover(CoverField::Root(least)), nodes);
-    let v = root.verdict;
+    let size = read_byte(bytes, at, Field::Cover(CoverField::Size), k);
+    let v = size.verdict;
     if let Verdict::Refused(m) = v {
-        return no_head(m);
-    }
-    let size = read_byte(bytes, root.at, Field::Cover(CoverField::Size), k);
-    let w = size.verdict;
-    if let Verdict::Refused(m) = w {
         return no_head(m);
     }
     let n = wide(size.value);
     let map = read_byte(bytes, size.at, Field::Cover(CoverField::Map), power(n));
-    let x = map.verdict;
-    if let Verdict::Refused(m) = x {
+    let w = map.verdict;
+    if let Verdict::Refused(m) = w {
         return no_head(m);
     }
     Head {
         verdict: Verdict::Read,
         at: map.at,
-        root: wide(root.value),
         size: n,
         map: map.value,
     }
@@ -238,7 +196,7 @@ fn spread(map: u8, n: usize, depths: [usize; ITEMS]) -> [usize; ITEMS]
 }
 
 // Whether one leaf comes before another.
-fn comes_before(node: u8, back: usize, next_node: u8, next_back: usize) -> bool
+fn comes_before(node: usize, back: usize, next_node: usize, next_back: usize) -> bool
     ensures { λ r. ⌜ r ≡ before (copy node back) (copy «next_node» «next_back») ⌝ }
 {
     if node < next_node {
@@ -251,7 +209,7 @@ fn comes_before(node: u8, back: usize, next_node: u8, next_back: usize) -> bool
 }
 
 // Whether n leaves rise.
-fn rising(nodes: [u8; ITEMS], backs: [usize; ITEMS], n: usize) -> bool
+fn rising(nodes: [usize; ITEMS], backs: [usize; ITEMS], n: usize) -> bool
     requires { ⌜ n ≤ mostPins ⌝ }
     ensures { λ r. ⌜ r ≡ risingLeaves (copiesFrom nodes backs 0 n) ⌝ }
 {
@@ -271,23 +229,30 @@ fn no_leaves(n: u8) -> Leaves
     Leaves {
         verdict: Verdict::Refused(n),
         at: 0,
-        nodes: [0u8; ITEMS],
+        nodes: [0usize; ITEMS],
         backs: [0usize; ITEMS],
     }
 }
 
 // The leaves of a LUT: a node for each, a stored d for each leaf bit of the map, and all rising.
-fn read_leaves(bytes: &[u8], at: usize, nodes: usize, n: usize, map: u8) -> Leaves
+fn read_leaves(bytes: &[u8], at: usize, nodes: usize, n: usize, map: u8, two: bool) -> Leaves
     requires { ⌜ n ≤ mostPins ⌝ }
-    ensures { λ r. ⌜ LeavesRead (now (bytes .entry)) at nodes n map r ⌝ }
+    ensures { λ r. ⌜ LeavesRead two (now (bytes .entry)) at nodes n map r ⌝ }
 {
-    let sources = read_items(bytes, at, n, Field::Cover(CoverField::Leaf), nodes);
+    let sources = read_numbers(bytes, at, n, NumberField::Leaf, nodes, two);
     let v = sources.verdict;
     if let Verdict::Refused(m) = v {
         return no_leaves(m);
     }
     let bits = map % 64;
-    let depths = read_depths(bytes, sources.at, count_of(bits));
+    let depths = read_numbers(
+        bytes,
+        sources.at,
+        count_of(bits),
+        NumberField::Depth,
+        0,
+        true,
+    );
     let w = depths.verdict;
     if let Verdict::Refused(m) = w {
         return no_leaves(m);
@@ -306,14 +271,23 @@ fn read_leaves(bytes: &[u8], at: usize, nodes: usize, n: usize, map: u8) -> Leav
     }
 }
 
-// The number of a signed byte.
-fn lag_of_byte(byte: u8) -> i64
-    ensures { λ r. ⌜ r ≡ fromSigned byte ⌝ }
+// Half the numbers of one byte, or of two: from it on they stand for negatives.
+fn half(two: bool) -> usize
+    ensures { λ r. ⌜ r ≡ halfRange two ⌝ }
 {
-    if byte < 128 {
-        return whole(wide(byte));
+    if two { 32768 } else { 128 }
+}
+
+// The number that one byte, or two, stand for with a sign.
+fn lag_of_number(value: usize, two: bool) -> i64
+    requires { ⌜ value < numberRoom two ⌝ }
+    ensures { λ r. ⌜ r ≡ fromSigned two value ⌝ }
+{
+    let h = half(two);
+    if value < h {
+        return whole(value);
     }
-    minus(whole(wide(byte)), 256)
+    minus(whole(value), h + h)
 }
 
 fn no_tail(n: u8) -> Tail
@@ -328,11 +302,11 @@ fn no_tail(n: u8) -> Tail
 }
 
 // The lag, where the map has bit 6, and the table.
-fn read_tail(bytes: &[u8], at: usize, n: usize, map: u8) -> Tail
+fn read_tail(bytes: &[u8], at: usize, n: usize, map: u8, two: bool) -> Tail
     requires { ⌜ n ≤ mostPins ⌝ }
-    ensures { λ r. ⌜ TailRead (now (bytes .entry)) at n map r ⌝ }
+    ensures { λ r. ⌜ TailRead two (now (bytes .entry)) at n map r ⌝ }
 {
-    let lags = read_items(bytes, at, wide(map) / 64, Field::Cover(CoverField::Lag), 0);
+    let lags = read_numbers(bytes, at, wide(map) / 64, NumberField::Lag, 0, two);
     let v = lags.verdict;
     if let Verdict::Refused(m) = v {
         return no_tail(m);
@@ -348,7 +322,7 @@ fn read_tail(bytes: &[u8], at: usize, n: usize, map: u8) -> Tail
     Tail {
         verdict: Verdict::Read,
         at: table.at,
-        lag: lag_of_byte(l[0]),
+        lag: lag_of_number(l[0], two),
         table: number(t),
     }
 }
@@ -361,29 +335,29 @@ fn no_row(n: u8) -> Row
         at: 0,
         root: 0,
         size: 0,
-        nodes: [0u8; ITEMS],
+        nodes: [0usize; ITEMS],
         backs: [0usize; ITEMS],
         lag: 0,
         table: 0,
     }
 }
 
-// A LUT: its head, its leaves, its lag and table.
-pub fn read_lut(bytes: &[u8], at: usize, nodes: usize, k: usize, least: usize) -> Row
-    requires { ⌜ k ≤ mostK ⌝ }
-    ensures { λ r. ⌜ LutRead (now (bytes .entry)) at nodes k least r ⌝ }
+// What stands behind a LUT's root: its head, its leaves, its lag and table.
+pub fn read_body(bytes: &[u8], at: usize, nodes: usize, k: usize, root: usize, two: bool) -> Row
+    requires { ⌜ (k ≤ mostK) × (root < numberRoom two) ⌝ }
+    ensures { λ r. ⌜ BodyRead two (now (bytes .entry)) at nodes k root r ⌝ }
 {
-    let head = read_head(bytes, at, nodes, k, least);
+    let head = read_head(bytes, at, k);
     let v = head.verdict;
     if let Verdict::Refused(m) = v {
         return no_row(m);
     }
-    let leaves = read_leaves(bytes, head.at, nodes, head.size, head.map);
+    let leaves = read_leaves(bytes, head.at, nodes, head.size, head.map, two);
     let w = leaves.verdict;
     if let Verdict::Refused(m) = w {
         return no_row(m);
     }
-    let tail = read_tail(bytes, leaves.at, head.size, head.map);
+    let tail = read_tail(bytes, leaves.at, head.size, head.map, two);
     let x = tail.verdict;
     if let Verdict::Refused(m) = x {
         return no_row(m);
@@ -393,11 +367,24 @@ pub fn read_lut(bytes: &[u8], at: usize, nodes: usize, k: usize, least: usize) -
     Row {
         verdict: Verdict::Read,
         at: tail.at,
-        root: head.root,
+        root: root,
         size: head.size,
         nodes: s,
         backs: d,
         lag: tail.lag,
         table: tail.table,
     }
+}
+
+// A LUT: its root, at least so high, and what stands behind it.
+pub fn read_lut(bytes: &[u8], at: usize, nodes: usize, k: usize, least: usize, two: bool) -> Row
+    requires { ⌜ k ≤ mostK ⌝ }
+    ensures { λ r. ⌜ LutRead two (now (bytes .entry)) at nodes k least r ⌝ }
+{
+    let root = read_number(bytes, at, NumberField::Root(least), nodes, two);
+    let v = root.verdict;
+    if let Verdict::Refused(m) = v {
+        return no_row(m);
+    }
+    read_body(bytes, root.at, nodes, k, root.value, two)
 }

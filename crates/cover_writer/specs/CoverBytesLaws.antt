@@ -9,6 +9,7 @@ use borrow.Author.Tests.{ne-eqb}
 use lib.Dec.{eqb}
 use lib.IntN.{pos}
 use lib.ListN.{length, getD, length-append}
+use Rattle.limits.specs.Courses.{long}
 use Rattle.integers.specs.Lag.{lag}
 use Rattle.net_model.specs.Arrays.{stride}
 use Rattle.net_model.specs.Tables.{asNumber}
@@ -35,14 +36,14 @@ entries-split a g (suc n) m =
     go true h = h
     go false h = ap (λ (l : List Entry). entryAt a g ∷ l) h
 
-pub bytes-append : (es fs : List Entry) → allLutBytes (es ++ fs) ≡ allLutBytes es ++ allLutBytes fs
+pub bytes-append : (es fs : List Entry) → allLutBytes false (es ++ fs) ≡ allLutBytes false es ++ allLutBytes false fs
 unfolding allLutBytes
 bytes-append [] fs = refl
-bytes-append (e ∷ es) fs = ap (λ (l : List ℕ). lutBytes e ++ l) (bytes-append es fs) ∙ sym (append-assoc (lutBytes e) (allLutBytes es) (allLutBytes fs))
+bytes-append (e ∷ es) fs = ap (λ (l : List ℕ). lutBytes false e ++ l) (bytes-append es fs) ∙ sym (append-assoc (lutBytes false e) (allLutBytes false es) (allLutBytes false fs))
 
 -- the bytes of the LUTs of the first g gates
 unfoldable pub bytesTo : Kept → ℕ → List ℕ
-bytesTo a g = allLutBytes (entriesFrom a 0 g)
+bytesTo a g = allLutBytes false (entriesFrom a 0 g)
 
 pub bytes-none : (a : Kept) → bytesTo a 0 ≡ []
 unfolding bytesTo entriesFrom allLutBytes
@@ -50,7 +51,7 @@ bytes-none a = refl
 
 pub bytes-next : (a : Kept) (g : ℕ) → bytesTo a (g + 1) ≡ bytesTo a g ++ bytesAt a g
 unfolding bytesTo bytesAt
-bytes-next a g = ap allLutBytes (entries-split a 0 g 1 ∙ ap (λ (i : ℕ). entriesFrom a 0 g ++ entriesFrom a i 1) (zero-plus g)) ∙ bytes-append (entriesFrom a 0 g) (entriesFrom a g 1)
+bytes-next a g = ap (allLutBytes false) (entries-split a 0 g 1 ∙ ap (λ (i : ℕ). entriesFrom a 0 g ++ entriesFrom a i 1) (zero-plus g)) ∙ bytes-append (entriesFrom a 0 g) (entriesFrom a g 1)
   where
     zero-plus : (g : ℕ) → 0 + g ≡ g
     zero-plus g = omega arith
@@ -60,10 +61,10 @@ pub bytes-within : (a : Kept) (g n : ℕ) → g ≤ n → length (bytesTo a g) �
 unfolding bytesTo
 bytes-within a g n h =
     let e : n ≡ g + (n - g) = omega arith in
-    let s = ap (λ (i : ℕ). allLutBytes (entriesFrom a 0 i)) e ∙ ap allLutBytes (entries-split a 0 g (n - g)) ∙ bytes-append (entriesFrom a 0 g) (entriesFrom a (0 + g) (n - g)) in
-    omega (arith, ap length s, length-append (allLutBytes (entriesFrom a 0 g)) (allLutBytes (entriesFrom a (0 + g) (n - g))))
+    let s = ap (λ (i : ℕ). allLutBytes false (entriesFrom a 0 i)) e ∙ ap (allLutBytes false) (entries-split a 0 g (n - g)) ∙ bytes-append (entriesFrom a 0 g) (entriesFrom a (0 + g) (n - g)) in
+    omega (arith, ap length s, length-append (allLutBytes false (entriesFrom a 0 g)) (allLutBytes false (entriesFrom a (0 + g) (n - g))))
 
-pub bytes-all : (a : Kept) → bytesTo a (a .gates) ≡ allLutBytes (entriesIn a)
+pub bytes-all : (a : Kept) → bytesTo a (a .gates) ≡ allLutBytes false (entriesIn a)
 unfolding bytesTo entriesIn
 bytes-all a = refl
 
@@ -72,9 +73,9 @@ unfolding bytesAt entriesFrom allLutBytes
 at-none a g e = rw e refl
 
 pub at-some : (a : Kept) (g : ℕ) → (getD (a .marks) g 0 ≡ 0 → ⊥)
-    → bytesAt a g ≡ lutBytes (lutOf (a .inputs + g) (a .nodes) (a .backs) (stride * g) (getD (a .sizes) g 0) (lag (a .period) (getD (a .labels) (a .inputs + g) (pos 0))) (getD (a .tables) g 0))
+    → bytesAt a g ≡ lutBytes false (lutOf (a .inputs + g) (a .nodes) (a .backs) (stride * g) (getD (a .sizes) g 0) (lag (a .period) (getD (a .labels) (a .inputs + g) (pos 0))) (getD (a .tables) g 0))
 unfolding bytesAt entriesFrom entryAt allLutBytes
-at-some a g n = rw (ne-eqb (getD (a .marks) g 0) 0 n) (append-nil (lutBytes (entryAt a g)))
+at-some a g n = rw (ne-eqb (getD (a .marks) g 0) 0 n) (append-nil (lutBytes false (entryAt a g)))
 
 -- there is room for the LUTs of some gates, and for the next
 pub room-so-far : {a : Kept} {area : List ℕ} (g : ℕ) → g ≤ a .gates → LutsAsked a area → length (bytesTo a g) ≤ length area
@@ -123,6 +124,6 @@ marked-next marks g = rw add-one refl
 
 -- ---- the whole record
 
-pub cover-bytes : (a : Kept) (count : ℕ) → count ≡ marked (a .marks) (a .gates) → coverBytes (a .period) (entriesIn a) ≡ (a .period ∷ count ∷ []) ++ allLutBytes (entriesIn a)
+pub cover-bytes : (a : Kept) (count : ℕ) → count ≡ marked (a .marks) (a .gates) → coverBytes long (a .period) (entriesIn a) ≡ (a .period ∷ count ∷ []) ++ allLutBytes false (entriesIn a)
 unfolding coverBytes entriesIn
-cover-bytes a count e = ap (λ (n : ℕ). a .period ∷ n ∷ allLutBytes (entriesFrom a 0 (a .gates))) (count-entries a (a .gates) ∙ sym e)
+cover-bytes a count e = ap (λ (n : ℕ). a .period ∷ n ∷ allLutBytes false (entriesFrom a 0 (a .gates))) (count-entries a (a .gates) ∙ sym e)

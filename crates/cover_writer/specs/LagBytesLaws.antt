@@ -9,7 +9,7 @@ use lib.Signed.{_≤ℤ_, _<ℤ_}
 use mir.Syntax.{w64}
 use mir.Val.{SFits, toZ, ofZ}
 use Rattle.integers.specs.Parts.{ints, +-parts}
-use Rattle.cover_records.specs.CoverBytes.{isZero, signedByte, lagBytes}
+use Rattle.cover_records.specs.CoverBytes.{isZero, signedNumber, lagBytes}
 use Rattle.cover_records.specs.RoundTrip.{SmallLag, up, down}
 use Rattle.signed.specs.RangeLaws.{back, fits-of}
 
@@ -22,10 +22,10 @@ other-bits (pos zero) n = absurd (n refl)
 other-bits (pos (suc m)) n = refl
 other-bits (negsuc m) n = refl
 
-pub no-lag : (z : ℤ) → isZero z ≡ true → lagBytes z ≡ []
+pub no-lag : (z : ℤ) → isZero z ≡ true → lagBytes false z ≡ []
 no-lag z e = rw e refl
 
-pub some-lag : (z : ℤ) → isZero z ≡ false → lagBytes z ≡ signedByte z ∷ []
+pub some-lag : (z : ℤ) → isZero z ≡ false → lagBytes false z ≡ signedNumber false z ∷ []
 some-lag z e = rw e refl
 
 pub flag-small : (z : ℤ) → cond (isZero z) 0 64 ≤ 64
@@ -35,21 +35,21 @@ flag-small z = go (isZero z)
     go true = omega arith
     go false = omega arith
 
-pub signed-small : {z : ℤ} → SmallLag z → signedByte z < 256
+pub signed-small : {z : ℤ} → SmallLag false z → signedNumber false z < 256
 signed-small (up h) = omega arith
 signed-small (down h) = omega arith
 
-pub lag-fits : {z : ℤ} → SmallLag z → SFits w64 z
+pub lag-fits : {z : ℤ} → SmallLag false z → SFits w64 z
 lag-fits (up {n = n} h) = fits-of (pos n) 128 (omega arith) (omega arith)
 lag-fits (down {n = n} h) = fits-of (negsuc n) 128 (omega arith) (omega arith)
 
-pub byte-fits : {z : ℤ} → SmallLag z → SFits w64 (pos (signedByte z))
-byte-fits {z} s = let h = signed-small s in fits-of (pos (signedByte z)) 256 (omega arith) (omega arith)
+pub byte-fits : {z : ℤ} → SmallLag false z → SFits w64 (pos (signedNumber false z))
+byte-fits {z} s = let h = signed-small s in fits-of (pos (signedNumber false z)) 256 (omega arith) (omega arith)
 
-pub below-zero : {z : ℤ} → SmallLag z → z <ℤ pos 0 → (z +ℤ pos 256) ≡ pos (signedByte z)
+pub below-zero : {z : ℤ} → SmallLag false z → z <ℤ pos 0 → (z +ℤ pos 256) ≡ pos (signedNumber false z)
 below-zero (up {n = n} h) l = absurd (omega (arith, ints))
 below-zero (down {n = n} h) l = let p = +-parts (negsuc n) (pos 256) in omega (arith, ints)
 
-pub from-zero : {z : ℤ} → SmallLag z → pos 0 ≤ℤ z → z ≡ pos (signedByte z)
+pub from-zero : {z : ℤ} → SmallLag false z → pos 0 ≤ℤ z → z ≡ pos (signedNumber false z)
 from-zero (up h) l = refl
 from-zero (down {n = n} h) l = absurd (omega (arith, ints))

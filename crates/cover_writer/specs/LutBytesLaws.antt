@@ -171,7 +171,7 @@ leaf-bytes nodes backs at n = sym (ap₂ (λ (l m : List ℕ). l ++ m) (nodes-al
 pub length-nodes : (nodes backs : List ℕ) (at n : ℕ) → length (nodesOf (copiesFrom nodes backs at n)) ≡ n
 length-nodes nodes backs at n = length-map (copiesFrom nodes backs at n) (λ (y : Copy). y .node) ∙ length-copiesFrom nodes backs at n
 
-pub value-bytes : (lag : ℤ) (n table : ℕ) → valueBytes lag n table ≡ lagBytes lag ++ toBytes (tableBytes n) table
+pub value-bytes : (lag : ℤ) (n table : ℕ) → valueBytes lag n table ≡ lagBytes false lag ++ toBytes (tableBytes n) table
 unfolding valueBytes
 value-bytes lag n table = refl
 
@@ -180,12 +180,12 @@ abbrev pub headBytes : ℕ → ℕ → ℕ → List ℕ
 headBytes root n map = root ∷ n ∷ map ∷ []
 
 pub lut-bytes : (root : ℕ) (nodes backs : List ℕ) (at n : ℕ) (lag : ℤ) (table : ℕ)
-    → lutBytes (lutOf root nodes backs at n lag table)
+    → lutBytes false (lutOf root nodes backs at n lag table)
     ≡ (headBytes root n (leafMap (copiesFrom [] backs at n) + cond (isZero lag) 0 64) ++ leafBytes (copiesFrom nodes backs at n)) ++ valueBytes lag n table
 unfolding lutBytes leafBytes valueBytes
 lut-bytes root nodes backs at n lag table =
-    ap₂ (λ (k m : ℕ). root ∷ k ∷ (m + flag) ∷ nodesOf L ++ depths L ++ lagBytes lag ++ toBytes (tableBytes k) table) (length-copiesFrom nodes backs at n) (sym (leafMap-alone nodes backs at n))
-    ∙ ap (λ (l : List ℕ). root ∷ n ∷ (leafMap (copiesFrom [] backs at n) + flag) ∷ l) (append-assoc (nodesOf L ++ depths L) (lagBytes lag) (toBytes (tableBytes n) table))
+    ap₂ (λ (k m : ℕ). root ∷ k ∷ (m + flag) ∷ nodesOf L ++ depths L ++ lagBytes false lag ++ toBytes (tableBytes k) table) (length-copiesFrom nodes backs at n) (sym (leafMap-alone nodes backs at n))
+    ∙ ap (λ (l : List ℕ). root ∷ n ∷ (leafMap (copiesFrom [] backs at n) + flag) ∷ l) (append-assoc (nodesOf L ++ depths L) (lagBytes false lag) (toBytes (tableBytes n) table))
   where
     L : List Copy
     L = copiesFrom nodes backs at n

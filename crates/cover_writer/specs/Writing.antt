@@ -1,9 +1,11 @@
 -- Definitions: what the writer asks of a cover kept in arrays, and what it means that bytes were written into an area.
 use mathlib.Core.Path.{_≡_}
+use mathlib.Core.Bool.{false}
 use mathlib.Core.List.{List, _++_, map}
 use Prim.Native.Nat.{ℕ, zero, suc, _+_, _*_, _≤_, _<_}
 use lib.IntN.{ℤ, pos}
 use lib.ListN.{length, getD}
+use Rattle.limits.specs.Courses.{long}
 use Rattle.limits.specs.Limits.{depthRoom}
 use Rattle.integers.specs.Lag.{lag}
 use Rattle.net_model.specs.Arrays.{stride, copiesFrom}
@@ -42,7 +44,7 @@ pub record LutHeld (a : Kept) (g : ℕ) : Type 0 where
   pub nodes : Below 256 (a .nodes) (stride * g) (getD (a .sizes) g 0)
   pub backs : Below depthRoom (a .backs) (stride * g) (getD (a .sizes) g 0)
   pub label : Small (getD (a .labels) (a .inputs + g) (pos 0))
-  pub smallLag : SmallLag (lag (a .period) (getD (a .labels) (a .inputs + g) (pos 0)))
+  pub smallLag : SmallLag false (lag (a .period) (getD (a .labels) (a .inputs + g) (pos 0)))
 
 pub record LutsHeld (a : Kept) : Type 0 where
   pub each : (g : ℕ) → g < a .gates → (getD (a .marks) g 0 ≡ 0 → ⊥) → LutHeld a g
@@ -51,7 +53,7 @@ pub record LutsHeld (a : Kept) : Type 0 where
 pub record Writable (a : Kept) (area : List ℕ) : Type 0 where
   pub arrays : ArraysHeld a
   pub luts : LutsHeld a
-  pub room : length (coverBytes (a .period) (entriesIn a)) ≤ length area
+  pub room : length (coverBytes long (a .period) (entriesIn a)) ≤ length area
 
 -- ---- what is told
 
@@ -68,7 +70,7 @@ leafBytes L = map (λ (y : Copy). y .node) L ++ depths L
 
 -- the lag, then the table of a LUT with n leaves
 unfoldable pub valueBytes : ℤ → ℕ → ℕ → List ℕ
-valueBytes lag n table = lagBytes lag ++ toBytes (tableBytes n) table
+valueBytes lag n table = lagBytes false lag ++ toBytes (tableBytes n) table
 
 pub record LeavesAsked (nodes backs : List ℕ) (at n : ℕ) (area : List ℕ) : Type 0 where
   pub nodesHeld : at + n ≤ length nodes
@@ -87,14 +89,14 @@ pub record LutAsked (root : ℕ) (nodes backs : List ℕ) (at n : ℕ) (lag : �
   pub backsHeld : at + n ≤ length backs
   pub nodesSmall : Below 256 nodes at n
   pub backsSmall : Below depthRoom backs at n
-  pub smallLag : SmallLag lag
-  pub room : length (lutBytes (lutOf root nodes backs at n lag table)) ≤ length area
+  pub smallLag : SmallLag false lag
+  pub room : length (lutBytes false (lutOf root nodes backs at n lag table)) ≤ length area
 
 -- ---- parts of the cover
 
 -- the bytes of the LUT of gate g, none where it has no LUT
 unfoldable pub bytesAt : Kept → ℕ → List ℕ
-bytesAt a g = allLutBytes (entriesFrom a g 1)
+bytesAt a g = allLutBytes false (entriesFrom a g 1)
 
 -- gate g of the arrays, and room for its LUT
 pub record GateAsked (a : Kept) (g : ℕ) (area : List ℕ) : Type 0 where
@@ -106,7 +108,7 @@ pub record GateAsked (a : Kept) (g : ℕ) (area : List ℕ) : Type 0 where
 pub record LutsAsked (a : Kept) (area : List ℕ) : Type 0 where
   pub arrays : ArraysHeld a
   pub luts : LutsHeld a
-  pub room : length (allLutBytes (entriesIn a)) ≤ length area
+  pub room : length (allLutBytes false (entriesIn a)) ≤ length area
 
 -- the marks of n gates that are not 0
 unfoldable pub marked : List ℕ → ℕ → ℕ

@@ -2,16 +2,17 @@
 use limits::PINS;
 use net_fields::table_bytes;
 ghost use mathlib.Core.Path.{_≡_};
-ghost use mathlib.Core.Bool.{cond};
+ghost use mathlib.Core.Bool.{cond, false};
 ghost use mathlib.Core.List.{[], _∷_, map};
 ghost use Prim.Native.Nat.{_+_, _≤_, _<_};
 ghost use lib.ListN.{length};
+ghost use Rattle.limits.specs.Courses.{long};
 ghost use Rattle.limits.specs.Limits.{depthRoom, mostPins};
 ghost use Rattle.net_model.specs.Arrays.{copiesFrom};
 ghost use Rattle.net_model.specs.Copies.{Copy, copy};
 ghost use Rattle.net_model.specs.Tables.{asNumber};
 ghost use Rattle.net_bytes.specs.Walk.{tableBytes};
-ghost use Rattle.cover_records.specs.CoverBytes.{toBytes, notZero, leafMap, depths, isZero, signedByte, lagBytes, lutBytes, allLutBytes, coverBytes};
+ghost use Rattle.cover_records.specs.CoverBytes.{toBytes, notZero, leafMap, depths, isZero, signedNumber, lagBytes, lutBytes, allLutBytes, coverBytes};
 ghost use Rattle.cover_records.specs.Kept.{kept, entriesIn};
 ghost use Rattle.cover_records.specs.Outcomes.{written};
 ghost use Rattle.cover_records.specs.RoundTrip.{SmallLag};
@@ -100,8 +101,8 @@ fn write_depths(backs: &[usize], at: usize, n: usize, area: &mut [u8]) -> usize
 
 // A whole number from −128 to 127 as a byte.
 fn byte_of_lag(lag: i64) -> u8
-    requires { ⌜ SmallLag lag ⌝ }
-    ensures { λ r. ⌜ r ≡ signedByte lag ⌝ }
+    requires { ⌜ SmallLag false lag ⌝ }
+    ensures { λ r. ⌜ r ≡ signedNumber false lag ⌝ }
 {
     if lag < 0 {
         (lag + 256) as u8
@@ -112,9 +113,9 @@ fn byte_of_lag(lag: i64) -> u8
 
 // The lag, where it is not 0.
 fn write_lag(lag: i64, area: &mut [u8]) -> usize
-    requires { ⌜ SmallLag lag ⌝ }
-    requires { ⌜ length (lagBytes lag) ≤ length (now area) ⌝ }
-    ensures { λ r. ⌜ Wrote (lagBytes lag) (now (area .entry)) (now (area .exit)) r ⌝ }
+    requires { ⌜ SmallLag false lag ⌝ }
+    requires { ⌜ length (lagBytes false lag) ≤ length (now area) ⌝ }
+    ensures { λ r. ⌜ Wrote (lagBytes false lag) (now (area .entry)) (now (area .exit)) r ⌝ }
 {
     if lag == 0 {
         return 0;
@@ -161,7 +162,7 @@ fn write_leaves(nodes: &[usize], backs: &[usize], at: usize, n: usize, area: &mu
 
 // The lag, and behind it the table of a LUT with n leaves.
 fn write_values(lag: i64, table: u64, n: usize, area: &mut [u8]) -> usize
-    requires { ⌜ SmallLag lag × (n ≤ mostPins) ⌝ }
+    requires { ⌜ SmallLag false lag × (n ≤ mostPins) ⌝ }
     requires { ⌜ length (valueBytes lag n table) ≤ length (now area) ⌝ }
     ensures { λ r. ⌜ Wrote (valueBytes lag n table) (now (area .entry)) (now (area .exit)) r ⌝ }
 {
@@ -182,7 +183,7 @@ fn write_lut(
     area: &mut [u8],
 ) -> usize
     requires { ⌜ LutAsked root (now nodes) (now backs) at n lag table (now area) ⌝ }
-    ensures { λ r. ⌜ Wrote (lutBytes (lutOf root (now (nodes .entry)) (now (backs .entry)) at n lag table)) (now (area .entry)) (now (area .exit)) r ⌝ }
+    ensures { λ r. ⌜ Wrote (lutBytes false (lutOf root (now (nodes .entry)) (now (backs .entry)) at n lag table)) (now (area .entry)) (now (area .exit)) r ⌝ }
 {
     let map = leaf_map(backs, at, n) + lag_flag(lag);
     let a = write_head(root, n, map, area);
@@ -225,7 +226,7 @@ fn write_luts(
     area: &mut [u8],
 ) -> usize
     requires { ⌜ LutsAsked (kept (s .inputs) (s .gates) (s .period) (now labels) (now marks) (now sizes) (now nodes) (now backs) (now tables)) (now area) ⌝ }
-    ensures { λ r. ⌜ Wrote (allLutBytes (entriesIn (kept (s .inputs) (s .gates) (s .period) (now (labels .entry)) (now (marks .entry)) (now (sizes .entry)) (now (nodes .entry)) (now (backs .entry)) (now (tables .entry))))) (now (area .entry)) (now (area .exit)) r ⌝ }
+    ensures { λ r. ⌜ Wrote (allLutBytes false (entriesIn (kept (s .inputs) (s .gates) (s .period) (now (labels .entry)) (now (marks .entry)) (now (sizes .entry)) (now (nodes .entry)) (now (backs .entry)) (now (tables .entry))))) (now (area .entry)) (now (area .exit)) r ⌝ }
 {
     let gates = s.gates;
     let mut at = 0;
@@ -286,8 +287,8 @@ pub fn write_cover(
     area: &mut [u8],
 ) -> usize
     requires { ⌜ Writable (kept inputs gates period (now labels) (now marks) (now sizes) (now nodes) (now backs) (now tables)) (now area) ⌝ }
-    ensures length { λ r. ⌜ r ≡ length (coverBytes period (entriesIn (kept inputs gates period (now (labels .entry)) (now (marks .entry)) (now (sizes .entry)) (now (nodes .entry)) (now (backs .entry)) (now (tables .entry))))) ⌝ }
-    ensures bytes { λ _. ⌜ now (area .exit) ≡ written (coverBytes period (entriesIn (kept inputs gates period (now (labels .entry)) (now (marks .entry)) (now (sizes .entry)) (now (nodes .entry)) (now (backs .entry)) (now (tables .entry))))) (now (area .entry)) ⌝ }
+    ensures length { λ r. ⌜ r ≡ length (coverBytes long period (entriesIn (kept inputs gates period (now (labels .entry)) (now (marks .entry)) (now (sizes .entry)) (now (nodes .entry)) (now (backs .entry)) (now (tables .entry))))) ⌝ }
+    ensures bytes { λ _. ⌜ now (area .exit) ≡ written (coverBytes long period (entriesIn (kept inputs gates period (now (labels .entry)) (now (marks .entry)) (now (sizes .entry)) (now (nodes .entry)) (now (backs .entry)) (now (tables .entry))))) (now (area .entry)) ⌝ }
 {
     let s = CoverHead {
         inputs: inputs,

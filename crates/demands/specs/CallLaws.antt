@@ -7,6 +7,7 @@ use Prim.Native.Nat.{ℕ, zero, suc, _+_, _-_, _≤_, _<_}
 use native.Mathlib.Omega.{arith}
 use lib.ListN.{length, getD, take}
 use Rattle.limits.specs.Limits.{coverArea, scratchArea, mostPeriod}
+use Rattle.limits.specs.Courses.{long, is-long}
 use Rattle.net_model.specs.Net.{Net}
 use Rattle.net_model.specs.Checks.{Passed}
 use Rattle.net_model.specs.Runs.{Run}
@@ -19,7 +20,7 @@ use Rattle.cover_theory.specs.Period.{leastPeriod, leastPeriod-is, leastPeriod-
 use Rattle.cover_theory.specs.Written.{noEntry}
 use Rattle.net_bytes.specs.Readers.{got-value}
 use Rattle.cover_records.specs.CoverBytes.{Record, coverBytes}
-use Rattle.cover_records.specs.KeyRecord.{WithinLimits, key-length}
+use Rattle.cover_records.specs.KeyRecord.{roomy, WithinLimits, key-length}
 use Rattle.cover_records.specs.Outcomes.{accepted, turnedBack, passes, checkNet, cleared, written, mapSizes, MapOutcome, mapWritten, mapOutcome, markSizes, MarkOutcome, markOutcome}
 use Rattle.job_sizes.specs.Sizes.{Fit}
 use Rattle.job_sizes.specs.SizeLaws.{size-none, mark-sizes-are}
@@ -85,13 +86,13 @@ module _ (c : MapCall) where
     passed : Passed net (c .k)
     period : ℕ
     key : Key net (c .k) period
-    sizes : mapSizes (c .k) (c .target) (c .area) (c .scratch) ≡ 0
-    checked : checkNet (c .k) (c .net) ≡ passes net passed
+    sizes : mapSizes long (c .k) (c .target) (c .area) (c .scratch) ≡ 0
+    checked : checkNet long (c .k) (c .net) ≡ passes net passed
     isNet : IsNet (c .k) (c .net) net
     fine : (m : ℕ) → ¬ MapBad c m
     asked : Asked c net period
-    size : n ≡ length (coverBytes period (entries key))
-    front : (mapDone c) .area ≡ written (coverBytes period (entries key)) (c .area)
+    size : n ≡ length (coverBytes long period (entries key))
+    front : (mapDone c) .area ≡ written (coverBytes long period (entries key)) (c .area)
     wiped : (mapDone c) .scratch ≡ cleared scratchArea (c .scratch)
 
   made : (n : ℕ) → (mapDone c) .answer ≡ accepted n → Made n
@@ -124,7 +125,7 @@ module _ (c : MapCall) where
       go (yes z) = w .asked .1 z .positive
       go (no z) = let e = w .asked .0 z in omega arith
 
-  made-limits : {n : ℕ} (w : Made n) → WithinLimits (w .net) (c .k)
+  made-limits : {n : ℕ} (w : Made n) → WithinLimits long (w .net) (c .k)
   made-limits w = limits (c .net) (c .k) (w .net) (w .passed) (map-fit (c .k) (c .target) (c .area) (c .scratch) (w .sizes) .high) (w .checked)
 
   made-near : {n : ℕ} (w : Made n) → w .period ≤ mostPeriod
@@ -142,14 +143,14 @@ module _ (c : MapCall) where
   as-written : {n : ℕ} (w : Made n) → Wrote (w .net) (c .k) (w .period) (c .area) ((mapDone c) .area) n
   as-written {n} w =
       subst (λ (m : ℕ). Wrote (w .net) (c .k) (w .period) (c .area) ((mapDone c) .area) m) (sym (w .size))
-      (subst (λ (l : List ℕ). Wrote (w .net) (c .k) (w .period) (c .area) l (length (coverBytes (w .period) (entries (w .key))))) (sym (w .front))
+      (subst (λ (l : List ℕ). Wrote (w .net) (c .k) (w .period) (c .area) l (length (coverBytes long (w .period) (entries (w .key))))) (sym (w .front))
       (wrote-key (w .passed) (made-limits w) (made-positive w) (made-near w) (w .key) (c .area)))
 
   pub leaves : (n : ℕ) → (mapDone c) .answer ≡ accepted n
       → (n ≤ coverArea) × ((N : Net) × (φ : ℕ) × MapNet c N × Asked c N φ × Wrote N (c .k) φ (c .area) ((mapDone c) .area) n) × ((mapDone c) .scratch ≡ cleared scratchArea (c .scratch))
   leaves n e =
       let w = made n e in
-      let l = key-length (w .passed) (made-limits w) (made-positive w) (w .key) in
+      let l = key-length (roomy is-long) (w .passed) (made-limits w) (made-positive w) (w .key) in
       let s = w .size in (
         omega arith,
         (
@@ -163,11 +164,11 @@ module _ (c : MapCall) where
       )
 
   pub keyed : (n : ℕ) → (mapDone c) .answer ≡ accepted n → (N : Net) → IsNet (c .k) (c .net) N → (φ : ℕ) → Asked c N φ
-      → Key N (c .k) φ × ((K : Key N (c .k) φ) → (n ≡ length (coverBytes φ (entries K))) × ((mapDone c) .area ≡ written (coverBytes φ (entries K)) (c .area)))
+      → Key N (c .k) φ × ((K : Key N (c .k) φ) → (n ≡ length (coverBytes long φ (entries K))) × ((mapDone c) .area ≡ written (coverBytes long φ (entries K)) (c .area)))
   keyed n e N i φ a = subst (Holds N) (same (zero? (c .target))) (subst (λ (M : Net). Holds M (w .period)) net-same here)
     where
       Holds : Net → ℕ → Type 0
-      Holds M ψ = Key M (c .k) ψ × ((K : Key M (c .k) ψ) → (n ≡ length (coverBytes ψ (entries K))) × ((mapDone c) .area ≡ written (coverBytes ψ (entries K)) (c .area)))
+      Holds M ψ = Key M (c .k) ψ × ((K : Key M (c .k) ψ) → (n ≡ length (coverBytes long ψ (entries K))) × ((mapDone c) .area ≡ written (coverBytes long ψ (entries K)) (c .area)))
 
       w : Made n
       w = made n e
@@ -211,8 +212,8 @@ pub met-at : (c : MapCall) (N : Net) → MapNet c N → ¬ (c .target ≡ 0) →
     → (n : ℕ) × ((mapDone c) .answer ≡ accepted n) × Wrote N (c .k) (c .target) (c .area) ((mapDone c) .area) n
 met-at c N t z m = let s = map.map-taken (c .net) (c .k) (c .target) (c .area) (c .scratch) N (t .0) (t .1) in go (c .target) z m (s .0) (s .1 .0) (s .1 .1)
   where
-    go : (φ : ℕ) → ¬ (φ ≡ 0) → Met N (c .k) φ → mapSizes (c .k) φ (c .area) (c .scratch) ≡ 0 → (P : Passed N (c .k)) → checkNet (c .k) (c .net) ≡ passes N P
-        → (n : ℕ) × ((mapOutcome (c .net) (c .k) φ (c .area) (c .scratch)) .answer ≡ accepted n) × Wrote N (c .k) φ (c .area) ((mapOutcome (c .net) (c .k) φ (c .area) (c .scratch)) .area) n
+    go : (φ : ℕ) → ¬ (φ ≡ 0) → Met N (c .k) φ → mapSizes long (c .k) φ (c .area) (c .scratch) ≡ 0 → (P : Passed N (c .k)) → checkNet long (c .k) (c .net) ≡ passes N P
+        → (n : ℕ) × ((mapOutcome long (c .net) (c .k) φ (c .area) (c .scratch)) .answer ≡ accepted n) × Wrote N (c .k) φ (c .area) ((mapOutcome long (c .net) (c .k) φ (c .area) (c .scratch)) .area) n
     go zero z m s P p = absurd (z refl)
     go (suc φ) z m s P p = met-written (c .net) (c .area) (c .scratch) (c .k) φ N P s p m
 
@@ -221,12 +222,12 @@ pub least-at : (c : MapCall) (N : Net) → MapNet c N → c .target ≡ 0
 least-at c N t z =
     let s = map.map-taken (c .net) (c .k) (c .target) (c .area) (c .scratch) N (t .0) (t .1) in
     subst Written (sym z)
-    (least-written (c .net) (c .area) (c .scratch) (c .k) N (s .1 .0) (subst (λ (n : ℕ). mapSizes (c .k) n (c .area) (c .scratch) ≡ 0) z (s .0)) (s .1 .1))
+    (least-written (c .net) (c .area) (c .scratch) (c .k) N (s .1 .0) (subst (λ (n : ℕ). mapSizes long (c .k) n (c .area) (c .scratch) ≡ 0) z (s .0)) (s .1 .1))
   where
     Written : ℕ → Type 0
     Written x =
-        (φ n : ℕ) × ((mapOutcome (c .net) (c .k) x (c .area) (c .scratch)) .answer ≡ accepted n)
-        × Wrote N (c .k) φ (c .area) ((mapOutcome (c .net) (c .k) x (c .area) (c .scratch)) .area) n × LeastPeriod N (c .k) φ
+        (φ n : ℕ) × ((mapOutcome long (c .net) (c .k) x (c .area) (c .scratch)) .answer ≡ accepted n)
+        × Wrote N (c .k) φ (c .area) ((mapOutcome long (c .net) (c .k) x (c .area) (c .scratch)) .area) n × LeastPeriod N (c .k) φ
 
 -- what map writes, mark accepts
 pub owned : (c : MapCall) (n : ℕ) → (mapDone c) .answer ≡ accepted n → (scratch : List ℕ) → scratchArea ≤ length scratch
@@ -236,14 +237,14 @@ owned c n e scratch h = go (c .target) (w .sizes) e
     w : Made c n
     w = made c n e
 
-    fit : Fit (c .k) (c .target) (length (c .area)) (length (c .scratch))
+    fit : Fit long (c .k) (c .target) (length (c .area)) (length (c .scratch))
     fit = map-fit (c .k) (c .target) (c .area) (c .scratch) (w .sizes)
 
-    sizes : markSizes (c .k) scratch ≡ 0
-    sizes = mark-sizes-are (c .k) scratch ∙ sym (size-none (c .k) 0 coverArea (length scratch) (fit .low) (fit .high) (omega arith) (omega arith) h)
+    sizes : markSizes long (c .k) scratch ≡ 0
+    sizes = mark-sizes-are long (c .k) scratch ∙ sym (size-none long (c .k) 0 coverArea (length scratch) (fit .low) (fit .high) (omega arith) (omega arith) h)
 
-    go : (t : ℕ) → mapSizes (c .k) t (c .area) (c .scratch) ≡ 0 → (mapOutcome (c .net) (c .k) t (c .area) (c .scratch)) .answer ≡ accepted n
-        → (x : ℕ) × ((markOutcome (c .net) (c .k) (take n ((mapOutcome (c .net) (c .k) t (c .area) (c .scratch)) .area)) scratch) .answer ≡ accepted x) × (t ≡ 0 → x ≡ 0)
+    go : (t : ℕ) → mapSizes long (c .k) t (c .area) (c .scratch) ≡ 0 → (mapOutcome long (c .net) (c .k) t (c .area) (c .scratch)) .answer ≡ accepted n
+        → (x : ℕ) × ((markOutcome long (c .net) (c .k) (take n ((mapOutcome long (c .net) (c .k) t (c .area) (c .scratch)) .area)) scratch) .answer ≡ accepted x) × (t ≡ 0 → x ≡ 0)
     go zero s e = (0, least-accepted (c .net) (c .area) (c .scratch) scratch (c .k) (w .net) (w .passed) sizes (w .checked) n s e, λ z. refl)
     go (suc t) s e =
         (suc t - leastPeriod (w .passed), target-accepted (c .net) (c .area) (c .scratch) scratch (c .k) (w .net) (w .passed) sizes (w .checked) t n s e, λ z. absurd (omega arith))
@@ -275,7 +276,7 @@ module _ (c : MarkCall) where
       → ((markDone c) .answer ≡ accepted x) ↔ ((r : Record) × IsRecord N (c .k) (c .bytes) r × RightRecord N (c .k) r × ((l : ℕ) × LeastPeriod N (c .k) l × (r .period ≡ x + l)))
   marked N t x = (forth, back)
     where
-      taken : (markSizes (c .k) (c .scratch) ≡ 0) × ((P : Passed N (c .k)) × (checkNet (c .k) (c .net) ≡ passes N P))
+      taken : (markSizes long (c .k) (c .scratch) ≡ 0) × ((P : Passed N (c .k)) × (checkNet long (c .k) (c .net) ≡ passes N P))
       taken = mark.mark-taken (c .net) (c .k) (c .bytes) (c .scratch) N (t .0) (t .1)
 
       P : Passed N (c .k)

@@ -2,6 +2,7 @@
 use mathlib.Core.Path.{_≡_}
 use mathlib.Core.List.{List}
 use Prim.Native.Nat.{ℕ, _<_}
+use Rattle.limits.specs.Courses.{long}
 use Rattle.net_model.specs.Net.{Net}
 use Rattle.cover_theory.specs.Covers.{LeastPeriod}
 use Rattle.cover_records.specs.Outcomes.{MapOutcome, mapOutcome, MarkOutcome, markOutcome}
@@ -23,10 +24,10 @@ pub record MarkCall : Type 0 where
 
 -- what the call leaves, and which checks of it fail
 abbrev pub mapDone : MapCall → MapOutcome
-mapDone c = mapOutcome (c .net) (c .k) (c .target) (c .area) (c .scratch)
+mapDone c = mapOutcome long (c .net) (c .k) (c .target) (c .area) (c .scratch)
 
 abbrev pub markDone : MarkCall → MarkOutcome
-markDone c = markOutcome (c .net) (c .k) (c .bytes) (c .scratch)
+markDone c = markOutcome long (c .net) (c .k) (c .bytes) (c .scratch)
 
 abbrev pub MapBad : MapCall → ℕ → Type 0
 MapBad c = MapFails (c .net) (c .k) (c .target) (c .area) (c .scratch)

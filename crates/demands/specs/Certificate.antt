@@ -8,6 +8,7 @@ use mathlib.Core.Logic.{_↔_}
 use Prim.Native.Nat.{ℕ, _+_, _≤_, _<_}
 use lib.ListN.{length, getD, take}
 use Rattle.limits.specs.Limits.{coverArea, scratchArea}
+use Rattle.limits.specs.Courses.{long}
 use Rattle.net_model.specs.Net.{Net}
 use Rattle.net_model.specs.Runs.{Run}
 use Rattle.cover_theory.specs.Covers.{Met, LeastPeriod}
@@ -28,8 +29,7 @@ use Rattle.demands.specs.TurnedBack.{IsNet, IsRecord, First, OfMap, OfMa
 use Rattle.demands.specs.Calls.{MapCall, MarkCall, mapDone, markDone, MapBad, MarkBad, MapNet, MarkNet, Asked}
 use Rattle.demands.specs.MapEndsLaws.{map-range}
 use Rattle.demands.specs.MarkEndsLaws.{mark-range}
-use Rattle.demands.specs.Right.{RightRecord}
-use Rattle.demands.specs.Right.{Wrote}
+use Rattle.demands.specs.Right.{RightRecord, Wrote}
 use Rattle.demands.specs.CallLaws as law
 use Rattle.demands.specs.SharedCount.{SharedCount}
 use Rattle.demands.specs.SharedCountLaws.{shared-count}
@@ -59,7 +59,7 @@ pub record Certificate : Type 0 where
   pub mark-cleared : (c : MarkCall) (n : ℕ) → (markDone c) .answer ≡ turnedBack n → 3 < n → (markDone c) .scratch ≡ cleared scratchArea (c .scratch)
   -- ---- Demand 2. "Labels, cuts, LUT tables and lags are those of Pan and Liu's definition (DAC 1996), ties as in 01": the record written is that of every key
   pub keys : (c : MapCall) (n : ℕ) → (mapDone c) .answer ≡ accepted n → (N : Net) → IsNet (c .k) (c .net) N → (φ : ℕ) → Asked c N φ
-      → Key N (c .k) φ × ((K : Key N (c .k) φ) → (n ≡ length (coverBytes φ (entries K))) × ((mapDone c) .area ≡ written (coverBytes φ (entries K)) (c .area)))
+      → Key N (c .k) φ × ((K : Key N (c .k) φ) → (n ≡ length (coverBytes long φ (entries K))) × ((mapDone c) .area ≡ written (coverBytes long φ (entries K)) (c .area)))
   -- "Mark accepts a record exactly if it is a cover of that net for that k whose lags meet its stated period", for a net that passes 1 to 11; the excess is that period less the least
   pub marks : (c : MarkCall) (N : Net) → MarkNet c N → (x : ℕ)
       → ((markDone c) .answer ≡ accepted x) ↔ ((r : Record) × IsRecord N (c .k) (c .bytes) r × RightRecord N (c .k) r × ((l : ℕ) × LeastPeriod N (c .k) l × (r .period ≡ x + l)))

@@ -1,7 +1,7 @@
 -- Demand 2, about the outcome of mark: it accepts a record exactly if it is, in 01's layout, a cover of that net for that k whose lags meet its stated period,
 -- with the tables of its LUTs; every run of the net, shifted by the lags, satisfies each LUT of an accepted record; every record that map writes is accepted.
 use mathlib.Core.Path.{_≡_, refl, sym, subst, ap, _∙_}
-use mathlib.Core.Bool.{Bool}
+use mathlib.Core.Bool.{Bool, false}
 use mathlib.Core.List.{List, [], _∷_, _++_}
 use mathlib.Core.Logic.{_↔_}
 use Prim.Native.Nat.{ℕ, zero, suc, _+_, _-_, _≤_, _<_, suc-le-suc, zero-le}
@@ -23,12 +23,13 @@ use Rattle.cover_theory.specs.KeyOf.{entries-in, roots-gate, entryOf}
 use Rattle.cover_theory.specs.Period.{leastPeriod, leastPeriod-is, leastKey, leastPeriod-bound}
 use Rattle.cover_theory.specs.Written.{noEntry, lut-asCover, luts-asCover}
 use Rattle.limits.specs.Limits.{mostPeriod, mostLuts, coverArea}
+use Rattle.limits.specs.Courses.{long, is-long}
 use Rattle.net_bytes.specs.Reading.{got, refused, Result, Reader, andThen, atEnd, between}
 use Rattle.net_bytes.specs.Readers.{refused-not-got, got-value, then-got, byte-got, atEnd-got}
 use Rattle.net_bytes.specs.Sound.{between-true}
 use Rattle.cover_records.specs.CoverBytes.{Record, coverBytes, coverReader, coverByte, lutsReader}
 use Rattle.cover_records.specs.MarkingDecided.{cutsRight?, tablesRight?, allFed?, enough?, shortChains?}
-use Rattle.cover_records.specs.KeyRecord.{WithinLimits, key-back}
+use Rattle.cover_records.specs.KeyRecord.{roomy, WithinLimits, key-back}
 use Rattle.cover_records.specs.Marking.{CutsRight, TableRight, TablesRight, AllFed, EnoughRegisters, ShortChains}
 use Rattle.cover_records.specs.Accepted.{Covering, covering-cover, excess-is, accepted-runs}
 use Rattle.cover_records.specs.Outcomes.{Answer, accepted, turnedBack, Checked, passes, checkNet, MarkOutcome, MapOutcome, mapSizes, written, forTarget, mapWritten, mapped, mapOutcome, markSizes, judged, markRead, markChecked, markSized, markOutcome}
@@ -107,28 +108,28 @@ module _ {N : Net} {k : ℕ} (P : Passed N k) (r : Record) where
 
 -- ---- mark
 
-module _ (net bytes scratch : List ℕ) (k : ℕ) (N : Net) (P : Passed N k) (sizes : markSizes k scratch ≡ 0) (passed : checkNet k net ≡ passes N P) where
-  pub answer-is : (markOutcome net k bytes scratch) .answer ≡ markRead N k P (coverReader N k bytes)
+module _ (net bytes scratch : List ℕ) (k : ℕ) (N : Net) (P : Passed N k) (sizes : markSizes long k scratch ≡ 0) (passed : checkNet long k net ≡ passes N P) where
+  pub answer-is : (markOutcome long net k bytes scratch) .answer ≡ markRead N k P (coverReader long N k bytes)
   unfolding markOutcome markSized markChecked
   answer-is =
-      ap (λ (n : ℕ). (markSized n k net bytes scratch) .answer) sizes
-      ∙ ap (λ (c : Checked k). markChecked k c bytes) passed
+      ap (λ (n : ℕ). (markSized long n k net bytes scratch) .answer) sizes
+      ∙ ap (λ (c : Checked k). markChecked long k c bytes) passed
 
   -- **Mark accepts exactly the records of covers that meet their stated period**, in 01's layout and with right tables; the excess is the period less the least one.
-  pub accepts : (n : ℕ) → (markOutcome net k bytes scratch) .answer ≡ accepted n
-      → (r : Record) × (rest : List ℕ) × (coverReader N k bytes ≡ got r rest) × RightRecord N k r × (n ≡ r .period - leastPeriod P)
-  accepts n e = go (coverReader N k bytes) refl (sym answer-is ∙ e)
+  pub accepts : (n : ℕ) → (markOutcome long net k bytes scratch) .answer ≡ accepted n
+      → (r : Record) × (rest : List ℕ) × (coverReader long N k bytes ≡ got r rest) × RightRecord N k r × (n ≡ r .period - leastPeriod P)
+  accepts n e = go (coverReader long N k bytes) refl (sym answer-is ∙ e)
     where
-      go : (x : Result Record) → coverReader N k bytes ≡ x → markRead N k P x ≡ accepted n
-          → (r : Record) × (rest : List ℕ) × (coverReader N k bytes ≡ got r rest) × RightRecord N k r × (n ≡ r .period - leastPeriod P)
+      go : (x : Result Record) → coverReader long N k bytes ≡ x → markRead N k P x ≡ accepted n
+          → (r : Record) × (rest : List ℕ) × (coverReader long N k bytes ≡ got r rest) × RightRecord N k r × (n ≡ r .period - leastPeriod P)
       go (refused m) q a = absurd (refusal-not P (record { period = 0; entries = [] }) m n (unfold markRead in a))
       go (got r rest) q a =
           let j = judged-right P r (cutsRight? (ranked (P .reached)) k (r .entries)) (tablesRight? P (r .entries)) (allFed? N (r .entries)) (enough? N (r .entries))
           (shortChains? N (r .period) (r .entries)) (r .period - leastPeriod P) n (unfold markRead in a) in
           (r, rest, q, j .0, j .1)
 
-  pub accepted-if : (r : Record) (rest : List ℕ) → coverReader N k bytes ≡ got r rest → RightRecord N k r
-      → (markOutcome net k bytes scratch) .answer ≡ accepted (r .period - leastPeriod P)
+  pub accepted-if : (r : Record) (rest : List ℕ) → coverReader long N k bytes ≡ got r rest → RightRecord N k r
+      → (markOutcome long net k bytes scratch) .answer ≡ accepted (r .period - leastPeriod P)
   unfolding markRead
   accepted-if r rest e g =
       answer-is ∙ ap (markRead N k P) e
@@ -143,16 +144,16 @@ pub right-runs : {N : Net} {k : ℕ} (P : Passed N k) (r : Record) → RightReco
 right-runs P r g run i h = accepted-runs P {es = r .entries} (g .tables) run i h
 
 -- a record that the layout reads states a period of 1 or more
-pub period-stated : (N : Net) (k : ℕ) (bytes : List ℕ) (r : Record) (rest : List ℕ) → coverReader N k bytes ≡ got r rest → 1 ≤ r .period
+pub period-stated : (N : Net) (k : ℕ) (bytes : List ℕ) (r : Record) (rest : List ℕ) → coverReader long N k bytes ≡ got r rest → 1 ≤ r .period
 period-stated N k bytes r rest e =
     let a = then-got (coverByte (between 1 mostPeriod) bytes) (λ period. behind N k period) r rest (unfold coverReader in e) in
     let b = then-got (coverByte (between 1 mostLuts) (a .1)) (λ n. luts N k (a .0) n) r rest (a .3) in
-    let c = then-got (lutsReader (size N) k (b .0) (N .inputs) (b .1)) (λ es. atEnd 13 (record { period = a .0; entries = es })) r rest (b .3) in
+    let c = then-got (lutsReader false (size N) k (b .0) (N .inputs) (b .1)) (λ es. atEnd 13 (record { period = a .0; entries = es })) r rest (b .3) in
     let d = atEnd-got 13 (record { period = a .0; entries = c .0 }) (c .1) r rest (c .3) in
     subst (λ (x : Record). 1 ≤ x .period) (d .0) (between-true 1 mostPeriod (a .0) (byte-got 13 13 (between 1 mostPeriod) bytes (a .0) (a .1) (a .2)) .0)
   where
     luts : Net → ℕ → ℕ → ℕ → Reader Record
-    luts N k period n s = andThen (lutsReader (size N) k n (N .inputs) s) (λ es. atEnd 13 (record { period = period; entries = es }))
+    luts N k period n s = andThen (lutsReader false (size N) k n (N .inputs) s) (λ es. atEnd 13 (record { period = period; entries = es }))
 
     behind : Net → ℕ → ℕ → Reader Record
     behind N k period s = andThen (coverByte (between 1 mostLuts) s) (λ n. luts N k period n)
@@ -184,14 +185,14 @@ module _ {N : Net} {k φ : ℕ} (P : Passed N k) (h : 1 ≤ φ) (K : Key N k φ)
   pub key-right : RightRecord N k (record { period = φ; entries = entries K })
   key-right = record { tables = key-table; isCover = key-met P h K .0; meets = key-met P h K .1 }
 
-module _ (net area scratch scratch′ : List ℕ) (k : ℕ) (N : Net) (P : Passed N k) (sizes′ : markSizes k scratch′ ≡ 0) (passed : checkNet k net ≡ passes N P) where
-  within : WithinLimits N k
-  within = limits net k N P (fit k 0 coverArea (length scratch′) (sym (mark-sizes-are k scratch′) ∙ sizes′) .high) passed
+module _ (net area scratch scratch′ : List ℕ) (k : ℕ) (N : Net) (P : Passed N k) (sizes′ : markSizes long k scratch′ ≡ 0) (passed : checkNet long k net ≡ passes N P) where
+  within : WithinLimits long N k
+  within = limits net k N P (fit long k 0 coverArea (length scratch′) (sym (mark-sizes-are long k scratch′) ∙ sizes′) .high) passed
 
   -- the record of a key is accepted
-  key-accepted : {φ : ℕ} → 1 ≤ φ → φ ≤ mostPeriod → (K : Key N k φ) → (markOutcome net k (coverBytes φ (entries K)) scratch′) .answer ≡ accepted (φ - leastPeriod P)
+  key-accepted : {φ : ℕ} → 1 ≤ φ → φ ≤ mostPeriod → (K : Key N k φ) → (markOutcome long net k (coverBytes long φ (entries K)) scratch′) .answer ≡ accepted (φ - leastPeriod P)
   key-accepted {φ} h h′ K =
-      accepted-if net (coverBytes φ (entries K)) scratch′ k N P sizes′ passed (record { period = φ; entries = entries K }) [] (key-back P within h K h′) (key-right P h K)
+      accepted-if net (coverBytes long φ (entries K)) scratch′ k N P sizes′ passed (record { period = φ; entries = entries K }) [] (key-back (roomy is-long) P within h K h′) (key-right P h K)
 
   -- the area's first n bytes are the record, where n is its length
   in-front : (bytes : List ℕ) (n : ℕ) → accepted (length bytes) ≡ accepted n → take n (written bytes area) ≡ bytes
@@ -201,31 +202,31 @@ module _ (net area scratch scratch′ : List ℕ) (k : ℕ) (N : Net) (P : Passe
       same e = cc
 
   -- **Every record that map writes for a target is accepted**, with excess target less least period.
-  pub target-accepted : (t n : ℕ) → mapSizes k (suc t) area scratch ≡ 0 → (mapOutcome net k (suc t) area scratch) .answer ≡ accepted n
-      → (markOutcome net k (take n ((mapOutcome net k (suc t) area scratch) .area)) scratch′) .answer ≡ accepted (suc t - leastPeriod P)
+  pub target-accepted : (t n : ℕ) → mapSizes long k (suc t) area scratch ≡ 0 → (mapOutcome long net k (suc t) area scratch) .answer ≡ accepted n
+      → (markOutcome long net k (take n ((mapOutcome long net k (suc t) area scratch) .area)) scratch′) .answer ≡ accepted (suc t - leastPeriod P)
   unfolding mapWritten mapped forTarget
   target-accepted t n sizes e =
       let o = outcome-is net area scratch k (suc t) N P sizes passed in
-      subst (λ (x : MapOutcome). x .answer ≡ accepted n → (markOutcome net k (take n (x .area)) scratch′) .answer ≡ accepted (suc t - leastPeriod P)) (sym o) (go (key? P (suc-le-suc zero-le))) e
+      subst (λ (x : MapOutcome). x .answer ≡ accepted n → (markOutcome long net k (take n (x .area)) scratch′) .answer ≡ accepted (suc t - leastPeriod P)) (sym o) (go (key? P (suc-le-suc zero-le))) e
     where
-      go : (d : Dec (Key N k (suc t))) → (mapWritten (forTarget N k (suc t) d) area scratch) .answer ≡ accepted n
-          → (markOutcome net k (take n ((mapWritten (forTarget N k (suc t) d) area scratch) .area)) scratch′) .answer ≡ accepted (suc t - leastPeriod P)
-      go (yes K) q = ap (λ (bytes : List ℕ). (markOutcome net k bytes scratch′) .answer) (in-front (coverBytes (suc t) (entries K)) n q) ∙ key-accepted (suc-le-suc zero-le) (map-fit k (suc t) area scratch sizes .near) K
+      go : (d : Dec (Key N k (suc t))) → (mapWritten long (forTarget N k (suc t) d) area scratch) .answer ≡ accepted n
+          → (markOutcome long net k (take n ((mapWritten long (forTarget N k (suc t) d) area scratch) .area)) scratch′) .answer ≡ accepted (suc t - leastPeriod P)
+      go (yes K) q = ap (λ (bytes : List ℕ). (markOutcome long net k bytes scratch′) .answer) (in-front (coverBytes long (suc t) (entries K)) n q) ∙ key-accepted (suc-le-suc zero-le) (map-fit k (suc t) area scratch sizes .near) K
       go (no m) q = absurd (refusal-not P (record { period = 0; entries = [] }) 12 n q)
 
   -- **With target 0 too**, with excess 0.
-  pub least-accepted : (n : ℕ) → mapSizes k 0 area scratch ≡ 0 → (mapOutcome net k 0 area scratch) .answer ≡ accepted n
-      → (markOutcome net k (take n ((mapOutcome net k 0 area scratch) .area)) scratch′) .answer ≡ accepted 0
+  pub least-accepted : (n : ℕ) → mapSizes long k 0 area scratch ≡ 0 → (mapOutcome long net k 0 area scratch) .answer ≡ accepted n
+      → (markOutcome long net k (take n ((mapOutcome long net k 0 area scratch) .area)) scratch′) .answer ≡ accepted 0
   unfolding mapWritten mapped
   least-accepted n sizes e =
       let o = outcome-is net area scratch k 0 N P sizes passed in
-      subst (λ (x : MapOutcome). x .answer ≡ accepted n → (markOutcome net k (take n (x .area)) scratch′) .answer ≡ accepted 0) (sym o) right e
+      subst (λ (x : MapOutcome). x .answer ≡ accepted n → (markOutcome long net k (take n (x .area)) scratch′) .answer ≡ accepted 0) (sym o) right e
     where
       none : leastPeriod P - leastPeriod P ≡ 0
       none = omega arith
 
-      right : accepted (length (coverBytes (leastPeriod P) (entries (leastKey P)))) ≡ accepted n
-          → (markOutcome net k (take n (written (coverBytes (leastPeriod P) (entries (leastKey P))) area)) scratch′) .answer ≡ accepted 0
+      right : accepted (length (coverBytes long (leastPeriod P) (entries (leastKey P)))) ≡ accepted n
+          → (markOutcome long net k (take n (written (coverBytes long (leastPeriod P) (entries (leastKey P))) area)) scratch′) .answer ≡ accepted 0
       right q =
-          ap (λ (bytes : List ℕ). (markOutcome net k bytes scratch′) .answer) (in-front (coverBytes (leastPeriod P) (entries (leastKey P))) n q)
+          ap (λ (bytes : List ℕ). (markOutcome long net k bytes scratch′) .answer) (in-front (coverBytes long (leastPeriod P) (entries (leastKey P))) n q)
           ∙ key-accepted (leastPeriod-is P .positive) (le-trans (leastPeriod-bound P (within .gate)) (within .gates)) (leastKey P) ∙ ap accepted none

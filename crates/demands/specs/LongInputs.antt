@@ -9,6 +9,7 @@ use lib.Dec.{ltb, lit≤}
 use lib.ListN.{length, take, drop, replicate, take-append-drop, length-drop}
 use lib.Seq.{take-all, take-take, take-append-le, drop-append-le, length-take-le}
 use Rattle.limits.specs.Limits.{leastK, mostK, mostPeriod, coverArea, scratchArea, mostNetBytes, inputRoom}
+use Rattle.limits.specs.Courses.{long}
 use Rattle.sequences.specs.Member.{_∈_, there, in-append-left, in-append-right}
 use Rattle.net_bytes.specs.Reading.{between}
 use Rattle.net_bytes.specs.Readers.{Each}
@@ -37,12 +38,12 @@ same-alone : {A : Type 0} (f : List ℕ → A) (s : List ℕ) {x : A} → ((t : 
 same-alone f s h t = ap f (sym (append-nil s)) ∙ h [] ∙ sym (h t)
 
 -- a net that begins with more bytes than a net can have fails alike, whatever follows
-net-fails : (k : ℕ) (s : List ℕ) → Bytes s → mostNetBytes < length s → (e : ℕ) × ((t : List ℕ) → checkNet k (s ++ t) ≡ fails e)
-net-fails k s b l = let r = short-refuses (short-net k) s b l in (r .0, λ t. check-refused k (s ++ t) (r .0) (r .1 t))
+net-fails : (k : ℕ) (s : List ℕ) → Bytes s → mostNetBytes < length s → (e : ℕ) × ((t : List ℕ) → checkNet long k (s ++ t) ≡ fails e)
+net-fails k s b l = let r = short-refuses (short-net long k) s b l in (r .0, λ t. check-refused long k (s ++ t) (r .0) (r .1 t))
 
 -- ---- listing
 
-listing-net : (k target : ℕ) (net net′ : List ℕ) → checkNet k net ≡ checkNet k net′ → listing k target net ≡ listing k target net′
+listing-net : (k target : ℕ) (net net′ : List ℕ) → checkNet long k net ≡ checkNet long k net′ → listing k target net ≡ listing k target net′
 unfolding listing
 listing-net k target net net′ e =
     ap (λ (c : Checked k). cond (not (between leastK mostK k)) (refusalText 1) (cond (ltb mostPeriod target) (refusalText 2) (listChecked k target c))) e
@@ -52,21 +53,21 @@ unfolding listingProgram
 listing-cut [] t b l = absurd (omega arith)
 listing-cut (k ∷ []) t b l = absurd (omega arith)
 listing-cut (k ∷ target ∷ s) t b l =
-    listing-net k target s (s ++ t) (same-alone (checkNet k) s (net-fails k s (λ a h. b a (there (there h))) (omega arith) .1) t)
+    listing-net k target s (s ++ t) (same-alone (checkNet long k) s (net-fails k s (λ a h. b a (there (there h))) (omega arith) .1) t)
 
 -- ---- marking
 
 -- mark looks at the net and the record only for a k in its range
-module _ (k : ℕ) (net net′ bytes bytes′ : List ℕ) (same : k ≤ mostK → markChecked k (checkNet k net) bytes ≡ markChecked k (checkNet k net′) bytes′) where
-  outcome-as : (scratch : List ℕ) → (markOutcome net k bytes scratch) .answer ≡ (markOutcome net′ k bytes′ scratch) .answer
+module _ (k : ℕ) (net net′ bytes bytes′ : List ℕ) (same : k ≤ mostK → markChecked long k (checkNet long k net) bytes ≡ markChecked long k (checkNet long k net′) bytes′) where
+  outcome-as : (scratch : List ℕ) → (markOutcome long net k bytes scratch) .answer ≡ (markOutcome long net′ k bytes′ scratch) .answer
   unfolding markOutcome markSizes markSized
-  outcome-as scratch = sized (markSizes k scratch) (in-range (between leastK mostK k) (cond (ltb (length scratch) scratchArea) 3 0) refl)
+  outcome-as scratch = sized (markSizes long k scratch) (in-range (between leastK mostK k) (cond (ltb (length scratch) scratchArea) 3 0) refl)
     where
       in-range : (t : Bool) (n : ℕ) → between leastK mostK k ≡ t → cond (not t) 1 n ≡ 0 → k ≤ mostK
       in-range true n e h = between-true leastK mostK k e .1
       in-range false n e h = absurd (omega arith)
 
-      sized : (n : ℕ) → (n ≡ 0 → k ≤ mostK) → (markSized n k net bytes scratch) .answer ≡ (markSized n k net′ bytes′ scratch) .answer
+      sized : (n : ℕ) → (n ≡ 0 → k ≤ mostK) → (markSized long n k net bytes scratch) .answer ≡ (markSized long n k net′ bytes′ scratch) .answer
       sized zero h = same (h refl)
       sized (suc n) h = refl
 
@@ -74,18 +75,18 @@ module _ (k : ℕ) (net net′ bytes bytes′ : List ℕ) (same : k ≤ mostK �
   unfolding marking
   marking-as = ap answerText (outcome-as (replicate scratchArea 0))
 
-marking-net : (k e : ℕ) (net net′ bytes bytes′ : List ℕ) → checkNet k net ≡ fails e → checkNet k net′ ≡ fails e → marking k net bytes ≡ marking k net′ bytes′
+marking-net : (k e : ℕ) (net net′ bytes bytes′ : List ℕ) → checkNet long k net ≡ fails e → checkNet long k net′ ≡ fails e → marking k net bytes ≡ marking k net′ bytes′
 unfolding markChecked
 marking-net k e net net′ bytes bytes′ p q =
-    marking-as k net net′ bytes bytes′ λ h. ap (λ (c : Checked k). markChecked k c bytes) p ∙ sym (ap (λ (c : Checked k). markChecked k c bytes′) q)
+    marking-as k net net′ bytes bytes′ λ h. ap (λ (c : Checked k). markChecked long k c bytes) p ∙ sym (ap (λ (c : Checked k). markChecked long k c bytes′) q)
 
 marking-record : (k : ℕ) (net bytes t : List ℕ) → Bytes bytes → coverArea < length bytes → marking k net bytes ≡ marking k net (bytes ++ t)
 unfolding markChecked
-marking-record k net bytes t b l = marking-as k net net bytes (bytes ++ t) λ h. checked h (checkNet k net)
+marking-record k net bytes t b l = marking-as k net net bytes (bytes ++ t) λ h. checked h (checkNet long k net)
   where
-    checked : k ≤ mostK → (c : Checked k) → markChecked k c bytes ≡ markChecked k c (bytes ++ t)
+    checked : k ≤ mostK → (c : Checked k) → markChecked long k c bytes ≡ markChecked long k c (bytes ++ t)
     checked h (fails n) = refl
-    checked h (passes N p) = ap (markRead N k p) (same-alone (coverReader N k) bytes (short-refuses (short-cover N k h) bytes b l .1) t)
+    checked h (passes N p) = ap (markRead N k p) (same-alone (coverReader long N k) bytes (short-refuses (short-cover long N k h) bytes b l .1) t)
 
 -- a net of few bytes is there whole, and what follows it is more than a cover record can have; a longer net fails
 marking-parts : (k n : ℕ) (s t : List ℕ) → Bytes s → suc mostNetBytes + coverArea < length s
@@ -95,12 +96,12 @@ marking-parts k n s t b l = go (decLe n (suc mostNetBytes))
     front : List ℕ
     front = take (suc mostNetBytes) s
 
-    refusal : (e : ℕ) × ((u : List ℕ) → checkNet k (front ++ u) ≡ fails e)
+    refusal : (e : ℕ) × ((u : List ℕ) → checkNet long k (front ++ u) ≡ fails e)
     refusal = net-fails k front (bytes-front (suc mostNetBytes) s b) (omega (arith, length-take-le (suc mostNetBytes) s (omega arith)))
 
-    long : (u : List ℕ) → suc mostNetBytes < n → take (suc mostNetBytes) u ≡ front → checkNet k (take n u) ≡ fails (refusal .0)
-    long u h e =
-        ap (checkNet k) (sym (take-append-drop (suc mostNetBytes) (take n u)) ∙ ap (λ (x : List ℕ). x ++ drop (suc mostNetBytes) (take n u)) (take-take (suc mostNetBytes) n u (omega arith) ∙ e))
+    longer : (u : List ℕ) → suc mostNetBytes < n → take (suc mostNetBytes) u ≡ front → checkNet long k (take n u) ≡ fails (refusal .0)
+    longer u h e =
+        ap (checkNet long k) (sym (take-append-drop (suc mostNetBytes) (take n u)) ∙ ap (λ (x : List ℕ). x ++ drop (suc mostNetBytes) (take n u)) (take-take (suc mostNetBytes) n u (omega arith) ∙ e))
         ∙ refusal .1 (drop (suc mostNetBytes) (take n u))
 
     go : Dec (n ≤ suc mostNetBytes) → marking k (take n s) (drop n s) ≡ marking k (take n (s ++ t)) (drop n (s ++ t))
@@ -108,8 +109,8 @@ marking-parts k n s t b l = go (decLe n (suc mostNetBytes))
         marking-record k (take n s) (drop n s) t (bytes-behind n s b) (omega (arith, length-drop n s))
         ∙ ap₂ (marking k) (sym (take-append-le n s t (omega arith))) (sym (drop-append-le n s t (omega arith)))
     go (no h) =
-        marking-net k (refusal .0) (take n s) (take n (s ++ t)) (drop n s) (drop n (s ++ t)) (long s (omega arith) refl)
-        (long (s ++ t) (omega arith) (take-append-le (suc mostNetBytes) s t (omega arith)))
+        marking-net k (refusal .0) (take n s) (take n (s ++ t)) (drop n s) (drop n (s ++ t)) (longer s (omega arith) refl)
+        (longer (s ++ t) (omega arith) (take-append-le (suc mostNetBytes) s t (omega arith)))
 
 marking-cut : (s t : List ℕ) → Bytes s → 4 + mostNetBytes + coverArea < length s → markingProgram s ≡ markingProgram (s ++ t)
 unfolding markingProgram

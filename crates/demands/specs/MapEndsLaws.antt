@@ -6,6 +6,7 @@ use Prim.Native.Nat.{ℕ, zero, suc, _≤_, _<_, suc-le-suc, zero-le}
 use native.Mathlib.Omega.{arith}
 use lib.ListN.{length}
 use Rattle.limits.specs.Limits.{mostPeriod, coverArea, scratchArea}
+use Rattle.limits.specs.Courses.{long}
 use Rattle.net_model.specs.Net.{Net}
 use Rattle.net_model.specs.Checks.{Passed}
 use Rattle.label_theory.specs.Labels.{Reachable}
@@ -44,7 +45,7 @@ module _ (net : List ℕ) (k target : ℕ) (area scratch : List ℕ) where
   map-none : ((m : ℕ) → MapBad m → 13 ≤ m) → (m : ℕ) → ¬ MapBad m
   map-none l m f = let a = l m f in let b = map-range m f in omega (arith, b .1)
 
-  module _ (sizes : mapSizes k target area scratch ≡ 0) (fit : Fit k target (length area) (length scratch)) where
+  module _ (sizes : mapSizes long k target area scratch ≡ 0) (fit : Fit long k target (length area) (length scratch)) where
     inside : (n : ℕ) → Outside k → n ≤ 1
     inside n f = absurd (f (fit .low, fit .high))
 
@@ -55,8 +56,8 @@ module _ (net : List ℕ) (k target : ℕ) (area scratch : List ℕ) where
     wide n (inl f) = absurd (let a = fit .room in omega arith)
     wide n (inr f) = absurd (let a = fit .space in omega arith)
 
-    map-passed : (N : Net) (P : Passed N k) → checkNet k net ≡ passes N P → IsNet k net N → ((m : ℕ) → ¬ NetFails k net m)
-        → (t : ℕ) → target ≡ t → MapEnds net k target area scratch (mapWritten (mapped N k t P) area scratch)
+    map-passed : (N : Net) (P : Passed N k) → checkNet long k net ≡ passes N P → IsNet k net N → ((m : ℕ) → ¬ NetFails k net m)
+        → (t : ℕ) → target ≡ t → MapEnds net k target area scratch (mapWritten long (mapped N k t P) area scratch)
     unfolding mapped forTarget mapWritten
     map-passed N P p i none zero e =
         MapEnds.wrote N P (leastPeriod P) (leastKey P) sizes p i
@@ -69,7 +70,7 @@ module _ (net : List ℕ) (k target : ℕ) (area scratch : List ℕ) where
         reach : (M : Net) → IsNet k net M → Reachable N k (suc t) → Reachable M k target
         reach M j r = subst (λ (x : Net). Reachable x k target) (one-net k net i j) (subst (Reachable N k) (sym e) r)
 
-        go : (d : Dec (Key N k (suc t))) → MapEnds net k target area scratch (mapWritten (forTarget N k (suc t) d) area scratch)
+        go : (d : Dec (Key N k (suc t))) → MapEnds net k target area scratch (mapWritten long (forTarget N k (suc t) d) area scratch)
         go (yes K) =
             MapEnds.wrote N P (suc t) K sizes p i
             (map-none (map-least 13 (inside 13) (near 13) (wide 13) (λ m f. absurd (none m f)) (λ M j q f. absurd (f (reach M j (key-reachable P (suc-le-suc zero-le) K)))))) (λ q. absurd (not-zero q))
@@ -79,29 +80,29 @@ module _ (net : List ℕ) (k target : ℕ) (area scratch : List ℕ) where
             (first-of (MapFails.unreachable N i not-zero (λ r. n (keyOf P (subst (Reachable N k) e r))) refl)
             (map-least 12 (inside 12) (near 12) (wide 12) (λ m f. absurd (none m f)) (λ M j q f. omega arith))) refl
 
-    map-netted : NetEnds k net (checkNet k net) → MapEnds net k target area scratch (mapChecked k target (checkNet k net) area scratch)
+    map-netted : NetEnds k net (checkNet long k net) → MapEnds net k target area scratch (mapChecked long k target (checkNet long k net) area scratch)
     unfolding mapChecked
     map-netted (stops n e f least) =
         let r = net-range k net n f in
         MapEnds.late n (omega arith) (first-of (MapFails.ofNet f) (map-least n (inside n) (near n) (wide n) least (λ M j q g. omega arith)))
-        (ap (λ (c : Checked k). mapChecked k target c area scratch) e)
+        (ap (λ (c : Checked k). mapChecked long k target c area scratch) e)
     map-netted (goes N P e i none) =
-        subst (λ (c : Checked k). MapEnds net k target area scratch (mapChecked k target c area scratch)) (sym e) (map-passed N P e i none target refl)
+        subst (λ (c : Checked k). MapEnds net k target area scratch (mapChecked long k target c area scratch)) (sym e) (map-passed N P e i none target refl)
 
   map-small : (m : ℕ) → NetFails k net m → 3 ≤ m
   map-small m f = let r = net-range k net m f in omega arith
 
-  pub map-ends : MapEnds net k target area scratch (mapOutcome net k target area scratch)
+  pub map-ends : MapEnds net k target area scratch (mapOutcome long net k target area scratch)
   unfolding mapOutcome mapSized
   map-ends = go (sizes-said k target (length area) (length scratch))
     where
-      sizes : {n : ℕ} → sizesOf k target (length area) (length scratch) ≡ n → mapSizes k target area scratch ≡ n
-      sizes e = map-sizes-are k target area scratch ∙ e
+      sizes : {n : ℕ} → sizesOf long k target (length area) (length scratch) ≡ n → mapSizes long k target area scratch ≡ n
+      sizes e = map-sizes-are long k target area scratch ∙ e
 
-      back : {n : ℕ} → mapSizes k target area scratch ≡ suc n → mapSized (mapSizes k target area scratch) k target net area scratch ≡ record { answer = turnedBack (suc n); area = area; scratch = scratch }
-      back e = ap (λ (n : ℕ). mapSized n k target net area scratch) e
+      back : {n : ℕ} → mapSizes long k target area scratch ≡ suc n → mapSized long (mapSizes long k target area scratch) k target net area scratch ≡ record { answer = turnedBack (suc n); area = area; scratch = scratch }
+      back e = ap (λ (n : ℕ). mapSized long n k target net area scratch) e
 
-      go : Said k target (length area) (length scratch) (sizesOf k target (length area) (length scratch)) → MapEnds net k target area scratch (mapSized (mapSizes k target area scratch) k target net area scratch)
+      go : Said k target (length area) (length scratch) (sizesOf long k target (length area) (length scratch)) → MapEnds net k target area scratch (mapSized long (mapSizes long k target area scratch) k target net area scratch)
       go (said1 e f) = MapEnds.early 1 (omega arith) (first-of (MapFails.outside f refl) (λ m g. let r = map-range m g in r .0)) (back (sizes e))
       go (said2 e l h f) =
           MapEnds.early 2 (omega arith) (first-of (MapFails.above f refl) (map-least 2 (λ g. absurd (g (l, h))) (λ g. omega arith) (λ g. omega arith) (λ m g. let r = map-small m g in omega arith) (λ M j q g. omega arith))) (back (sizes e))
@@ -112,9 +113,9 @@ module _ (net : List ℕ) (k target : ℕ) (area scratch : List ℕ) where
           small : (length area < coverArea) ⊎ (length scratch < scratchArea) → MapBad 3
           small (inl g) = MapFails.room g refl
           small (inr g) = MapFails.space g refl
-      go (fits e f) = subst (λ (n : ℕ). MapEnds net k target area scratch (mapSized n k target net area scratch)) (sym (sizes e)) (map-netted (sizes e) f (net-ends k net))
+      go (fits e f) = subst (λ (n : ℕ). MapEnds net k target area scratch (mapSized long n k target net area scratch)) (sym (sizes e)) (map-netted (sizes e) f (net-ends k net))
 
-  pub map-told : Told MapBad ((mapOutcome net k target area scratch) .answer)
+  pub map-told : Told MapBad ((mapOutcome long net k target area scratch) .answer)
   unfolding mapWritten
   map-told = go map-ends
     where
@@ -124,17 +125,17 @@ module _ (net : List ℕ) (k target : ℕ) (area scratch : List ℕ) where
       go (MapEnds.wrote N P φ K s p i none z t e) = subst (λ (o : MapOutcome). Told MapBad (o .answer)) (sym e) none
 
   -- where no check of the sizes fails, the test of the sizes passes
-  pub map-sized : ((m : ℕ) → m < 4 → ¬ MapBad m) → mapSizes k target area scratch ≡ 0
+  pub map-sized : ((m : ℕ) → m < 4 → ¬ MapBad m) → mapSizes long k target area scratch ≡ 0
   map-sized none = go (sizes-said k target (length area) (length scratch))
     where
-      go : Said k target (length area) (length scratch) (sizesOf k target (length area) (length scratch)) → mapSizes k target area scratch ≡ 0
-      go (fits e f) = map-sizes-are k target area scratch ∙ e
+      go : Said k target (length area) (length scratch) (sizesOf long k target (length area) (length scratch)) → mapSizes long k target area scratch ≡ 0
+      go (fits e f) = map-sizes-are long k target area scratch ∙ e
       go (said1 e f) = absurd (none 1 (omega arith) (MapFails.outside f refl))
       go (said2 e l h f) = absurd (none 2 (omega arith) (MapFails.above f refl))
       go (said3 e l h t (inl f)) = absurd (none 3 (omega arith) (MapFails.room f refl))
       go (said3 e l h t (inr f)) = absurd (none 3 (omega arith) (MapFails.space f refl))
 
   -- where checks 1 to 11 pass, sizes and net are right
-  pub map-taken : (N : Net) → IsNet k net N → ((m : ℕ) → m < 12 → ¬ MapBad m) → (mapSizes k target area scratch ≡ 0) × ((P : Passed N k) × (checkNet k net ≡ passes N P))
+  pub map-taken : (N : Net) → IsNet k net N → ((m : ℕ) → m < 12 → ¬ MapBad m) → (mapSizes long k target area scratch ≡ 0) × ((P : Passed N k) × (checkNet long k net ≡ passes N P))
   map-taken N i none =
       (map-sized (λ m h. none m (omega arith)), net-passes k net N i (λ m f. let r = net-range k net m f in none m (omega arith) (MapFails.ofNet f)))

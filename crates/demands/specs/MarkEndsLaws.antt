@@ -6,6 +6,7 @@ use Prim.Native.Nat.{ℕ, zero, suc, _-_, _≤_, _<_}
 use native.Mathlib.Omega.{arith}
 use lib.ListN.{length}
 use Rattle.limits.specs.Limits.{mostPeriod, coverArea, scratchArea}
+use Rattle.limits.specs.Courses.{long}
 use Rattle.net_model.specs.Net.{Net}
 use Rattle.net_model.specs.Checks.{Passed}
 use Rattle.cone_theory.specs.Ranks.{ranked}
@@ -31,7 +32,7 @@ module _ (net : List ℕ) (k : ℕ) (bytes scratch : List ℕ) where
   mark-range n (MarkFails.outside f q) = (omega arith, omega arith, λ e. omega arith, λ e. omega arith)
   mark-range n (MarkFails.space f q) = (omega arith, omega arith, λ e. omega arith, λ e. omega arith)
   mark-range n (MarkFails.ofNet f) = let r = net-range k net n f in (omega arith, omega arith, λ e. omega arith, λ e. omega arith)
-  mark-range n (MarkFails.layout N i e) = let q = only-cover N k bytes n e in (omega arith, omega arith, λ e. omega arith, λ e. omega arith)
+  mark-range n (MarkFails.layout N i e) = let q = only-cover long N k bytes n e in (omega arith, omega arith, λ e. omega arith, λ e. omega arith)
   mark-range n (MarkFails.cuts N r i j f q) = (omega arith, omega arith, λ e. omega arith, λ e. omega arith)
   mark-range n (MarkFails.tables N r i j f q) = (omega arith, omega arith, λ e. omega arith, λ e. omega arith)
   mark-range n (MarkFails.fed N r i j f q) = (omega arith, omega arith, λ e. omega arith, λ e. omega arith)
@@ -40,7 +41,7 @@ module _ (net : List ℕ) (k : ℕ) (bytes scratch : List ℕ) where
 
   -- a record's checks come no sooner than n
   pub record NoSooner (n : ℕ) : Type 0 where
-    pub layout : (N : Net) → IsNet k net N → (m : ℕ) → coverReader N k bytes ≡ refused m → n ≤ 13
+    pub layout : (N : Net) → IsNet k net N → (m : ℕ) → coverReader long N k bytes ≡ refused m → n ≤ 13
     pub cuts : (N : Net) (r : Record) → IsNet k net N → IsRecord N k bytes r → ¬ CutsRight N k (r .entries) → n ≤ 14
     pub tables : (N : Net) (r : Record) → IsNet k net N → IsRecord N k bytes r → ¬ TablesRight N k (r .entries) → n ≤ 15
     pub fed : (N : Net) (r : Record) → IsNet k net N → IsRecord N k bytes r → ¬ AllFed N (r .entries) → n ≤ 16
@@ -62,14 +63,14 @@ module _ (net : List ℕ) (k : ℕ) (bytes scratch : List ℕ) where
   mark-least n a c d s m (MarkFails.outside f q) = omega (arith, a f)
   mark-least n a c d s m (MarkFails.space f q) = omega (arith, c f)
   mark-least n a c d s m (MarkFails.ofNet f) = d m f
-  mark-least n a c d s m (MarkFails.layout N i e) = let q = only-cover N k bytes m e in omega (arith, s .layout N i m e)
+  mark-least n a c d s m (MarkFails.layout N i e) = let q = only-cover long N k bytes m e in omega (arith, s .layout N i m e)
   mark-least n a c d s m (MarkFails.cuts N r i j f q) = omega (arith, s .cuts N r i j f)
   mark-least n a c d s m (MarkFails.tables N r i j f q) = omega (arith, s .tables N r i j f)
   mark-least n a c d s m (MarkFails.fed N r i j f q) = omega (arith, s .fed N r i j f)
   mark-least n a c d s m (MarkFails.enough N r i j f q) = omega (arith, s .enough N r i j f)
   mark-least n a c d s m (MarkFails.chains N r i j f q) = omega (arith, s .chains N r i j f)
 
-  module _ (sizes : markSizes k scratch ≡ 0) (fit : Fit k 0 coverArea (length scratch)) where
+  module _ (sizes : markSizes long k scratch ≡ 0) (fit : Fit long k 0 coverArea (length scratch)) where
     inside : (n : ℕ) → Outside k → n ≤ 1
     inside n f = absurd (f (fit .low, fit .high))
 
@@ -92,8 +93,8 @@ module _ (net : List ℕ) (k : ℕ) (bytes scratch : List ℕ) where
             go : {M : Net} → N ≡ M → IsRecord M k bytes q → X M q
             go {M} e j′ = subst (λ (z : Net). IsRecord z k bytes q → X z q) e (λ j″. subst (X N) (got-value r (j .0) q (j″ .0) (sym (j .1) ∙ j″ .1)) x) j′
 
-        got-no : (M : Net) → IsNet k net M → (m : ℕ) → coverReader M k bytes ≡ refused m → ⊥
-        got-no M i′ m e = refused-not-got m r (j .0) (sym (subst (λ (z : Net). coverReader z k bytes ≡ refused m) (sym (one-net k net i i′)) e) ∙ j .1)
+        got-no : (M : Net) → IsNet k net M → (m : ℕ) → coverReader long M k bytes ≡ refused m → ⊥
+        got-no M i′ m e = refused-not-got m r (j .0) (sym (subst (λ (z : Net). coverReader long z k bytes ≡ refused m) (sym (one-net k net i i′)) e) ∙ j .1)
 
         -- the checks before n pass
         passing : (n : ℕ) → (14 < n → CutsRight N k (r .entries)) → (15 < n → TablesRight N k (r .entries)) → (16 < n → AllFed N (r .entries)) → (17 < n → EnoughRegisters N (r .entries))
@@ -133,32 +134,32 @@ module _ (net : List ℕ) (k : ℕ) (bytes scratch : List ℕ) where
                 let q = mark-range m f in
                 omega (arith, q .1)
 
-      read-ends : (P : Passed N k) → (x : Result Record) → coverReader N k bytes ≡ x → Done (markRead N k P x)
+      read-ends : (P : Passed N k) → (x : Result Record) → coverReader long N k bytes ≡ x → Done (markRead N k P x)
       unfolding markRead
-      read-ends P (refused m) e = let q = only-cover N k bytes m e in record-fails m (omega arith) (MarkFails.layout N i e) (no-sooner m (omega arith))
+      read-ends P (refused m) e = let q = only-cover long N k bytes m e in record-fails m (omega arith) (MarkFails.layout N i e) (no-sooner m (omega arith))
       read-ends P (got r rest) e =
           judged-ends r (rest, e) (cutsRight? (ranked (P .reached)) k (r .entries)) (tablesRight? P (r .entries)) (allFed? N (r .entries)) (enough? N (r .entries))
           (shortChains? N (r .period) (r .entries)) (r .period - leastPeriod P)
 
-    netted : NetEnds k net (checkNet k net) → Done (markChecked k (checkNet k net) bytes)
+    netted : NetEnds k net (checkNet long k net) → Done (markChecked long k (checkNet long k net) bytes)
     unfolding markChecked
     netted (stops n e f least) =
         let r = net-range k net n f in
         MarkEnds.late n (omega arith) (first-of (MarkFails.ofNet f) (mark-least n (inside n) (wide n) least (no-sooner n (omega arith))))
-        (ap (λ (c : Checked k). record { answer = markChecked k c bytes; scratch = cleared scratchArea scratch }) e)
-    netted (goes N P e i none) = subst (λ (c : Checked k). Done (markChecked k c bytes)) (sym e) (read-ends N i none P (coverReader N k bytes) refl)
+        (ap (λ (c : Checked k). record { answer = markChecked long k c bytes; scratch = cleared scratchArea scratch }) e)
+    netted (goes N P e i none) = subst (λ (c : Checked k). Done (markChecked long k c bytes)) (sym e) (read-ends N i none P (coverReader long N k bytes) refl)
 
-  pub mark-ends : MarkEnds net k bytes scratch (markOutcome net k bytes scratch)
+  pub mark-ends : MarkEnds net k bytes scratch (markOutcome long net k bytes scratch)
   unfolding markOutcome markSized
   mark-ends = go (sizes-said k 0 coverArea (length scratch))
     where
-      sizes : {n : ℕ} → sizesOf k 0 coverArea (length scratch) ≡ n → markSizes k scratch ≡ n
-      sizes e = mark-sizes-are k scratch ∙ e
+      sizes : {n : ℕ} → sizesOf long k 0 coverArea (length scratch) ≡ n → markSizes long k scratch ≡ n
+      sizes e = mark-sizes-are long k scratch ∙ e
 
-      back : {n : ℕ} → markSizes k scratch ≡ suc n → markSized (markSizes k scratch) k net bytes scratch ≡ record { answer = turnedBack (suc n); scratch = scratch }
-      back e = ap (λ (n : ℕ). markSized n k net bytes scratch) e
+      back : {n : ℕ} → markSizes long k scratch ≡ suc n → markSized long (markSizes long k scratch) k net bytes scratch ≡ record { answer = turnedBack (suc n); scratch = scratch }
+      back e = ap (λ (n : ℕ). markSized long n k net bytes scratch) e
 
-      go : Said k 0 coverArea (length scratch) (sizesOf k 0 coverArea (length scratch)) → MarkEnds net k bytes scratch (markSized (markSizes k scratch) k net bytes scratch)
+      go : Said k 0 coverArea (length scratch) (sizesOf long k 0 coverArea (length scratch)) → MarkEnds net k bytes scratch (markSized long (markSizes long k scratch) k net bytes scratch)
       go (said1 e f) = MarkEnds.early 1 (omega arith) (first-of (MarkFails.outside f refl) (λ m g. let r = mark-range m g in r .0)) (back (sizes e))
       go (said2 e l h f) = absurd (omega arith)
       go (said3 e l h t f) =
@@ -168,9 +169,9 @@ module _ (net : List ℕ) (k : ℕ) (bytes scratch : List ℕ) where
           small : (coverArea < coverArea) ⊎ (length scratch < scratchArea) → MarkBad 3
           small (inl g) = absurd (omega arith)
           small (inr g) = MarkFails.space g refl
-      go (fits e f) = subst (λ (n : ℕ). MarkEnds net k bytes scratch (markSized n k net bytes scratch)) (sym (sizes e)) (netted (sizes e) f (net-ends k net))
+      go (fits e f) = subst (λ (n : ℕ). MarkEnds net k bytes scratch (markSized long n k net bytes scratch)) (sym (sizes e)) (netted (sizes e) f (net-ends k net))
 
-  pub mark-told : Told MarkBad ((markOutcome net k bytes scratch) .answer)
+  pub mark-told : Told MarkBad ((markOutcome long net k bytes scratch) .answer)
   mark-told = go mark-ends
     where
       go : {o : MarkOutcome} → MarkEnds net k bytes scratch o → Told MarkBad (o .answer)
@@ -179,17 +180,17 @@ module _ (net : List ℕ) (k : ℕ) (bytes scratch : List ℕ) where
       go (MarkEnds.marked n s none e) = subst (λ (o : MarkOutcome). Told MarkBad (o .answer)) (sym e) none
 
   -- where no check of the sizes fails, the test of the sizes passes
-  pub mark-sized : ((m : ℕ) → m < 4 → ¬ MarkBad m) → markSizes k scratch ≡ 0
+  pub mark-sized : ((m : ℕ) → m < 4 → ¬ MarkBad m) → markSizes long k scratch ≡ 0
   mark-sized none = go (sizes-said k 0 coverArea (length scratch))
     where
-      go : Said k 0 coverArea (length scratch) (sizesOf k 0 coverArea (length scratch)) → markSizes k scratch ≡ 0
-      go (fits e f) = mark-sizes-are k scratch ∙ e
+      go : Said k 0 coverArea (length scratch) (sizesOf long k 0 coverArea (length scratch)) → markSizes long k scratch ≡ 0
+      go (fits e f) = mark-sizes-are long k scratch ∙ e
       go (said1 e f) = absurd (none 1 (omega arith) (MarkFails.outside f refl))
       go (said2 e l h f) = absurd (omega arith)
       go (said3 e l h t (inl f)) = absurd (omega arith)
       go (said3 e l h t (inr f)) = absurd (none 3 (omega arith) (MarkFails.space f refl))
 
   -- where checks 1 to 11 pass, sizes and net are right
-  pub mark-taken : (N : Net) → IsNet k net N → ((m : ℕ) → m < 12 → ¬ MarkBad m) → (markSizes k scratch ≡ 0) × ((P : Passed N k) × (checkNet k net ≡ passes N P))
+  pub mark-taken : (N : Net) → IsNet k net N → ((m : ℕ) → m < 12 → ¬ MarkBad m) → (markSizes long k scratch ≡ 0) × ((P : Passed N k) × (checkNet long k net ≡ passes N P))
   mark-taken N i none =
       (mark-sized (λ m h. none m (omega arith)), net-passes k net N i (λ m f. let r = net-range k net m f in none m (omega arith) (MarkFails.ofNet f)))

@@ -3,6 +3,7 @@ use mathlib.Core.Path.{_≡_}
 use mathlib.Core.List.{List, [], _++_}
 use Prim.Native.Nat.{ℕ}
 use lib.ListN.{length, drop}
+use Rattle.limits.specs.Courses.{long}
 use Rattle.net_model.specs.Net.{Net}
 use Rattle.cover_theory.specs.Covers.{IsCover, Meets}
 use Rattle.cover_theory.specs.Key.{Entry, asCover}
@@ -23,7 +24,7 @@ pub record Wrote (N : Net) (k φ : ℕ) (area area′ : List ℕ) (length′ : �
   pub front : area′ ≡ bytes ++ drop (length bytes) area
   pub period : ℕ
   pub luts : List Entry
-  pub reads : coverReader N k bytes ≡ got (record { period = period; entries = luts }) []
+  pub reads : coverReader long N k bytes ≡ got (record { period = period; entries = luts }) []
   pub stated : period ≡ φ
   pub isCover : IsCover N k (asCover N luts)
   pub meets : Meets N (asCover N luts) φ

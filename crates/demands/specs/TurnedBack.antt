@@ -4,6 +4,7 @@ use mathlib.Core.List.{List}
 use Prim.Native.Nat.{ℕ, _≤_, _<_}
 use lib.ListN.{length}
 use Rattle.limits.specs.Limits.{leastK, mostK, mostPeriod, coverArea, scratchArea}
+use Rattle.limits.specs.Courses.{long}
 use Rattle.net_model.specs.Net.{Net}
 use Rattle.net_model.specs.Checks.{Loopless, AllReached, AllLeading}
 use Rattle.label_theory.specs.Labels.{Reachable}
@@ -14,16 +15,16 @@ use Rattle.cover_records.specs.Marking.{CutsRight, TablesRight, AllFed, EnoughR
 
 -- the bytes are the record of the net N
 abbrev pub IsNet : ℕ → List ℕ → Net → Type 0
-IsNet k net N = (rest : List ℕ) × (netReader k net ≡ got N rest)
+IsNet k net N = (rest : List ℕ) × (netReader long k net ≡ got N rest)
 
 -- the bytes are, in the layout, the record r of a candidate
 abbrev pub IsRecord : Net → ℕ → List ℕ → Record → Type 0
-IsRecord N k bytes r = (rest : List ℕ) × (coverReader N k bytes ≡ got r rest)
+IsRecord N k bytes r = (rest : List ℕ) × (coverReader long N k bytes ≡ got r rest)
 
 -- Check n of the net fails: "4 to 8 arise in one walk from the first byte, the first met counting", and
 -- "9. A loop has no register. 10. Some gate is reached from no input. 11. Some gate leads to no output."
 pub data NetFails (k : ℕ) (net : List ℕ) (n : ℕ) : Type 0 where
-  walk : netReader k net ≡ refused n → NetFails k net n
+  walk : netReader long k net ≡ refused n → NetFails k net n
   loop : (N : Net) → IsNet k net N → ¬ Loopless N → n ≡ 9 → NetFails k net n
   unreached : (N : Net) → IsNet k net N → ¬ AllReached N → n ≡ 10 → NetFails k net n
   unled : (N : Net) → IsNet k net N → ¬ AllLeading N → n ≡ 11 → NetFails k net n
@@ -48,7 +49,7 @@ pub data MarkFails (net : List ℕ) (k : ℕ) (bytes scratch : List ℕ) (n : �
   space : length scratch < scratchArea → n ≡ 3 → MarkFails net k bytes scratch n
   ofNet : NetFails k net n → MarkFails net k bytes scratch n
   -- "13. The candidate's record breaks the layout"
-  layout : (N : Net) → IsNet k net N → coverReader N k bytes ≡ refused n → MarkFails net k bytes scratch n
+  layout : (N : Net) → IsNet k net N → coverReader long N k bytes ≡ refused n → MarkFails net k bytes scratch n
   -- "14. Some LUT's leaves are no cut of its root. 15. Some table is wrong. 16. A gate leaf or gate source of an output has no LUT.
   -- 17. Some connection gets fewer than 0 registers. 18. Some registerless chain is longer than the period."
   cuts : (N : Net) (r : Record) → IsNet k net N → IsRecord N k bytes r → ¬ CutsRight N k (r .entries) → n ≡ 14 → MarkFails net k bytes scratch n

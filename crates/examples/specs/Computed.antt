@@ -4,6 +4,7 @@ use mathlib.Core.List.{List, [], _∷_, _++_}
 use Prim.Native.Nat.{ℕ}
 use lib.Count.{ones, onesIn}
 use lib.IntN.{ℤ, pos, negsuc}
+use Rattle.limits.specs.Courses.{long}
 use Rattle.integers.specs.Lag.{lag, ceilDiv}
 use Rattle.net_model.specs.Net.{Net, gate}
 use Rattle.net_model.specs.Copies.{Copy, copy}
@@ -11,50 +12,50 @@ use Rattle.net_model.specs.Tables.{tableOf, pack, valueIn, atLeaf}
 use Rattle.cover_theory.specs.Key.{Entry}
 use Rattle.cover_theory.specs.SharedRegisters.{longest, overNodes, sharedCount}
 use Rattle.net_bytes.specs.Reading.{Result, got, refused, times}
-use Rattle.net_bytes.specs.Walk.{netReader, gateReader, outputReader, pinsFrom, fromBytes}
-use Rattle.cover_records.specs.CoverBytes.{Record, coverBytes, allLutBytes, lutBytes, depths, leafMap, toBytes, coverReader, lutsReader, lutReader, depthReader, leavesFrom, risingLeaves}
+use Rattle.net_bytes.specs.Walk.{netReader, bodyReader, gateReader, outputReader, pinsFrom, fromBytes}
+use Rattle.cover_records.specs.CoverBytes.{Record, coverBytes, allLutBytes, lutBytes, depths, leafMap, toBytes, coverReader, lutsReader, lutReader, lutBody, depthReader, leavesFrom, risingLeaves}
 use Rattle.cover_records.specs.Listing.{coverText, refusalText, lutLines, lutLine, leafText, tableText, hexLow, signed, decimal, digitText, reversed, digitsLow, registerCount, entryTaps, lutTaps, leafTaps, outputTaps, lagIn}
 use Rattle.examples.specs.Nets.{pin, bytesA, netA, bytesB, netB, bytesC, netC, entriesA, labelsA, recordA}
 
 -- ---- the walk over the net's bytes
 
-reads-A : netReader 2 bytesA ≡ got netA []
-unfolding netReader gateReader outputReader pinsFrom fromBytes times ones onesIn
+reads-A : netReader long 2 bytesA ≡ got netA []
+unfolding netReader bodyReader gateReader outputReader pinsFrom fromBytes times ones onesIn
 reads-A = refl
 
-reads-B : netReader 2 bytesB ≡ got netB []
-unfolding netReader gateReader outputReader pinsFrom fromBytes times ones onesIn
+reads-B : netReader long 2 bytesB ≡ got netB []
+unfolding netReader bodyReader gateReader outputReader pinsFrom fromBytes times ones onesIn
 reads-B = refl
 
-reads-C : netReader 2 bytesC ≡ got netC []
-unfolding netReader gateReader outputReader pinsFrom fromBytes times ones onesIn
+reads-C : netReader long 2 bytesC ≡ got netC []
+unfolding netReader bodyReader gateReader outputReader pinsFrom fromBytes times ones onesIn
 reads-C = refl
 
 -- the empty net, and one that ends behind its first byte
-ends-early : (netReader 2 [] ≡ refused 4) × (netReader 2 (1 ∷ []) ≡ refused 4)
-unfolding netReader gateReader outputReader pinsFrom fromBytes times ones onesIn
+ends-early : (netReader long 2 [] ≡ refused 4) × (netReader long 2 (1 ∷ []) ≡ refused 4)
+unfolding netReader bodyReader gateReader outputReader pinsFrom fromBytes times ones onesIn
 ends-early = (refl, refl)
 
 -- 17 inputs; 33 gates
-out-of-range : (netReader 2 (17 ∷ []) ≡ refused 5) × (netReader 2 (1 ∷ 33 ∷ []) ≡ refused 5)
-unfolding netReader gateReader outputReader pinsFrom fromBytes times ones onesIn
+out-of-range : (netReader long 2 (17 ∷ []) ≡ refused 5) × (netReader long 2 (1 ∷ 33 ∷ []) ≡ refused 5)
+unfolding netReader bodyReader gateReader outputReader pinsFrom fromBytes times ones onesIn
 out-of-range = (refl, refl)
 
 -- a pin map of 0; a register bit without its pin; a source that is no node; a count of 4; a spare table bit
 forbidden-bytes :
-    (netReader 2 (1 ∷ 1 ∷ 1 ∷ 0 ∷ []) ≡ refused 6) × (netReader 2 (1 ∷ 1 ∷ 1 ∷ 1 ∷ 2 ∷ []) ≡ refused 6)
-    × (netReader 2 (1 ∷ 1 ∷ 1 ∷ 1 ∷ 0 ∷ 2 ∷ []) ≡ refused 6) × (netReader 2 (1 ∷ 1 ∷ 1 ∷ 1 ∷ 1 ∷ 0 ∷ 4 ∷ []) ≡ refused 6)
-    × (netReader 2 (1 ∷ 1 ∷ 1 ∷ 1 ∷ 0 ∷ 0 ∷ 4 ∷ []) ≡ refused 6)
-unfolding netReader gateReader outputReader pinsFrom fromBytes times ones onesIn
+    (netReader long 2 (1 ∷ 1 ∷ 1 ∷ 0 ∷ []) ≡ refused 6) × (netReader long 2 (1 ∷ 1 ∷ 1 ∷ 1 ∷ 2 ∷ []) ≡ refused 6)
+    × (netReader long 2 (1 ∷ 1 ∷ 1 ∷ 1 ∷ 0 ∷ 2 ∷ []) ≡ refused 6) × (netReader long 2 (1 ∷ 1 ∷ 1 ∷ 1 ∷ 1 ∷ 0 ∷ 4 ∷ []) ≡ refused 6)
+    × (netReader long 2 (1 ∷ 1 ∷ 1 ∷ 1 ∷ 0 ∷ 0 ∷ 4 ∷ []) ≡ refused 6)
+unfolding netReader bodyReader gateReader outputReader pinsFrom fromBytes times ones onesIn
 forbidden-bytes = (refl, refl, refl, refl, refl)
 
 -- three pins at k 2, told before the register map is read
-too-many-pins : netReader 2 (1 ∷ 1 ∷ 1 ∷ 7 ∷ []) ≡ refused 7
-unfolding netReader gateReader outputReader pinsFrom fromBytes times ones onesIn
+too-many-pins : netReader long 2 (1 ∷ 1 ∷ 1 ∷ 7 ∷ []) ≡ refused 7
+unfolding netReader bodyReader gateReader outputReader pinsFrom fromBytes times ones onesIn
 too-many-pins = refl
 
-bytes-follow : netReader 2 (bytesC ++ 0 ∷ []) ≡ refused 8
-unfolding netReader gateReader outputReader pinsFrom fromBytes times ones onesIn
+bytes-follow : netReader long 2 (bytesC ++ 0 ∷ []) ≡ refused 8
+unfolding netReader bodyReader gateReader outputReader pinsFrom fromBytes times ones onesIn
 bytes-follow = refl
 
 -- ---- tables
@@ -80,22 +81,22 @@ table-C = refl
 
 -- ---- the cover record
 
-writes-A : coverBytes 2 entriesA ≡ recordA
+writes-A : coverBytes long 2 entriesA ≡ recordA
 unfolding coverBytes allLutBytes lutBytes depths leafMap toBytes
 writes-A = refl
 
-reads-record-A : coverReader netA 2 recordA ≡ got (record { period = 2; entries = entriesA }) []
-unfolding coverReader lutsReader lutReader depthReader leavesFrom risingLeaves times fromBytes ones onesIn
+reads-record-A : coverReader long netA 2 recordA ≡ got (record { period = 2; entries = entriesA }) []
+unfolding coverReader lutsReader lutReader lutBody depthReader leavesFrom risingLeaves times fromBytes ones onesIn
 reads-record-A = refl
 
 -- an early end; bytes over; a period of 0; a root that is no gate; leaves that do not rise; a stored d of 0; a spare table bit
 broken-layout :
-    (coverReader netA 2 (2 ∷ []) ≡ refused 13) × (coverReader netA 2 (recordA ++ 0 ∷ []) ≡ refused 13)
-    × (coverReader netA 2 (0 ∷ 1 ∷ []) ≡ refused 13) × (coverReader netA 2 (1 ∷ 1 ∷ 1 ∷ 1 ∷ 0 ∷ 0 ∷ 2 ∷ []) ≡ refused 13)
-    × (coverReader netA 2 (1 ∷ 1 ∷ 2 ∷ 2 ∷ 0 ∷ 1 ∷ 0 ∷ 8 ∷ []) ≡ refused 13)
-    × (coverReader netA 2 (1 ∷ 1 ∷ 2 ∷ 2 ∷ 1 ∷ 0 ∷ 1 ∷ 0 ∷ 0 ∷ 8 ∷ []) ≡ refused 13)
-    × (coverReader netA 2 (1 ∷ 1 ∷ 2 ∷ 2 ∷ 0 ∷ 0 ∷ 1 ∷ 16 ∷ []) ≡ refused 13)
-unfolding coverReader lutsReader lutReader depthReader leavesFrom risingLeaves times fromBytes ones onesIn
+    (coverReader long netA 2 (2 ∷ []) ≡ refused 13) × (coverReader long netA 2 (recordA ++ 0 ∷ []) ≡ refused 13)
+    × (coverReader long netA 2 (0 ∷ 1 ∷ []) ≡ refused 13) × (coverReader long netA 2 (1 ∷ 1 ∷ 1 ∷ 1 ∷ 0 ∷ 0 ∷ 2 ∷ []) ≡ refused 13)
+    × (coverReader long netA 2 (1 ∷ 1 ∷ 2 ∷ 2 ∷ 0 ∷ 1 ∷ 0 ∷ 8 ∷ []) ≡ refused 13)
+    × (coverReader long netA 2 (1 ∷ 1 ∷ 2 ∷ 2 ∷ 1 ∷ 0 ∷ 1 ∷ 0 ∷ 0 ∷ 8 ∷ []) ≡ refused 13)
+    × (coverReader long netA 2 (1 ∷ 1 ∷ 2 ∷ 2 ∷ 0 ∷ 0 ∷ 1 ∷ 16 ∷ []) ≡ refused 13)
+unfolding coverReader lutsReader lutReader lutBody depthReader leavesFrom risingLeaves times fromBytes ones onesIn
 broken-layout = (refl, refl, refl, refl, refl, refl, refl)
 
 -- ---- lags and the listing

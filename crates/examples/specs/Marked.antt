@@ -31,9 +31,10 @@ use Rattle.cover_theory.specs.KeyOf.{entryOf, in-entries}
 use Rattle.cover_theory.specs.Period.{leastPeriod}
 use Rattle.cover_theory.specs.SharedRegisters.{longest, overNodes, sharedCount}
 use Rattle.limits.specs.Limits.{scratchArea}
+use Rattle.limits.specs.Courses.{long}
 use Rattle.net_bytes.specs.Reading.{got, times}
-use Rattle.net_bytes.specs.Walk.{netReader, gateReader, outputReader, pinsFrom, fromBytes}
-use Rattle.cover_records.specs.CoverBytes.{Record, coverBytes, allLutBytes, lutBytes, depths, leafMap, toBytes, coverReader, lutsReader, lutReader, depthReader, leavesFrom, risingLeaves}
+use Rattle.net_bytes.specs.Walk.{netReader, bodyReader, gateReader, outputReader, pinsFrom, fromBytes}
+use Rattle.cover_records.specs.CoverBytes.{Record, coverBytes, allLutBytes, lutBytes, depths, leafMap, toBytes, coverReader, lutsReader, lutReader, lutBody, depthReader, leavesFrom, risingLeaves}
 use Rattle.cover_records.specs.MarkingDecided.{cutsRight?, tablesRight?, allFed?, enough?, shortChains?}
 use Rattle.cover_records.specs.Marking.{CutsRight, TableRight, TablesRight, AllFed, EnoughRegisters, ShortChains}
 use Rattle.cover_records.specs.Outcomes.{Answer, turnedBack, Checked, cleared, judged, markRead, markSizes, markSized, markChecked, markOutcome}
@@ -69,7 +70,7 @@ boundA2 P =
     weaken b4 (given (weaker? netA _ (labels netA (pos 1 ∷ pos 2 ∷ pos 2 ∷ []))) tt)
 
 a-3 : Maps bytesA netA 3 1 (pos 1 ∷ pos 1 ∷ pos 1 ∷ []) (lut 4 (copy 0 0 ∷ copy 1 0 ∷ copy 4 1 ∷ []) (pos 0) 0x87 ∷ [])
-unfolding plan? planned passed? gate netReader gateReader outputReader pinsFrom fromBytes times ones
+unfolding plan? planned passed? gate netReader bodyReader gateReader outputReader pinsFrom fromBytes times ones
 a-3 = maps bytesA netA 0 _ ((copy 2 0 ∷ []) ∷ (copy 3 0 ∷ copy 2 0 ∷ []) ∷ (copy 4 0 ∷ copy 3 0 ∷ copy 2 0 ∷ []) ∷ []) _ 3 (boundA 3) (λ R. tt, refl, (tt, refl, refl, refl))
 
 -- ---- B
@@ -88,7 +89,7 @@ boundB2 w P =
     weaken b4 (given (weaker? (throughB w) _ (labels (throughB w) (pos 1 ∷ pos 2 ∷ []))) tt)
 
 b-2 : Maps bytesB netB 2 1 (pos 1 ∷ pos 2 ∷ []) (lut 3 (copy 0 0 ∷ copy 1 0 ∷ []) (pos 0) 8 ∷ lut 4 (copy 2 0 ∷ copy 3 0 ∷ []) (pos 1) 8 ∷ [])
-unfolding plan? planned passed? gate netReader gateReader outputReader pinsFrom fromBytes times ones
+unfolding plan? planned passed? gate netReader bodyReader gateReader outputReader pinsFrom fromBytes times ones
 b-2 = maps bytesB netB 0 _ ((copy 3 0 ∷ []) ∷ (copy 4 0 ∷ []) ∷ []) _ 2 (boundB2 1) (λ R. tt, refl, (tt, refl, refl, refl))
 
 b-2-registers : (K : Key netB 2 1) → registerCount netB (entries K) ≡ 2
@@ -216,11 +217,11 @@ judged-17 N k r p q f n (yes a) (yes b) (no c) d e x = absurd (c f)
 judged-17 N k r p q f n (yes a) (yes b) (yes c) (yes d) e x = absurd (n d)
 judged-17 N k r p q f n (yes a) (yes b) (yes c) (no d) e x = refl
 
-late-reads : coverReader netB 2 (coverBytes 1 late) ≡ got (record { period = 1; entries = late }) []
-unfolding late coverBytes allLutBytes lutBytes depths leafMap toBytes coverReader lutsReader lutReader depthReader leavesFrom risingLeaves times fromBytes ones
+late-reads : coverReader long netB 2 (coverBytes long 1 late) ≡ got (record { period = 1; entries = late }) []
+unfolding late coverBytes allLutBytes lutBytes depths leafMap toBytes coverReader lutsReader lutReader lutBody depthReader leavesFrom risingLeaves times fromBytes ones
 late-reads = refl
 
-late-read : (P : Passed netB 2) → markRead netB 2 P (coverReader netB 2 (coverBytes 1 late)) ≡ turnedBack 17
+late-read : (P : Passed netB 2) → markRead netB 2 P (coverReader long netB 2 (coverBytes long 1 late)) ≡ turnedBack 17
 unfolding markRead
 late-read P =
     let r : Record = record { period = 1; entries = late } in
@@ -231,14 +232,14 @@ late-read P =
 -- ---- the record that is turned back
 
 marked-17 : (scratch : List ℕ) → scratchArea ≤ length scratch
-    → markOutcome bytesB 2 (coverBytes 1 (lut 3 (copy 0 0 ∷ copy 1 0 ∷ []) (pos 0) 8 ∷ lut 4 (copy 2 0 ∷ copy 3 0 ∷ []) (pos 2) 8 ∷ [])) scratch
+    → markOutcome long bytesB 2 (coverBytes long 1 (lut 3 (copy 0 0 ∷ copy 1 0 ∷ []) (pos 0) 8 ∷ lut 4 (copy 2 0 ∷ copy 3 0 ∷ []) (pos 2) 8 ∷ [])) scratch
     ≡ record { answer = turnedBack 17; scratch = cleared scratchArea scratch }
 unfolding late passed? gate markOutcome markSizes markSized markChecked
 marked-17 scratch h =
     let r = net-passes bytesB 2 netB (given (passed? netB 2) tt) (b-2 .reads) in
-    let sizes : markSizes 2 scratch ≡ 0 = rw (le-ltb (length scratch) scratchArea h) refl in
-    ap (λ (n : ℕ). markSized n 2 bytesB (coverBytes 1 late) scratch) sizes
-    ∙ ap (λ (a : Answer). record { answer = a; scratch = cleared scratchArea scratch }) (ap (λ (c : Checked 2). markChecked 2 c (coverBytes 1 late)) (r .1) ∙ late-read (r .0))
+    let sizes : markSizes long 2 scratch ≡ 0 = rw (le-ltb (length scratch) scratchArea h) refl in
+    ap (λ (n : ℕ). markSized long n 2 bytesB (coverBytes long 1 late) scratch) sizes
+    ∙ ap (λ (a : Answer). record { answer = a; scratch = cleared scratchArea scratch }) (ap (λ (c : Checked 2). markChecked long 2 c (coverBytes long 1 late)) (r .1) ∙ late-read (r .0))
 
 -- ---- the theorem
 
@@ -269,12 +270,12 @@ pub record MarkedExamples : Type 0 where
   pub two-leaves : (k : ℕ) → 2 ≤ k → k ≤ 6 → Maps bytesE netE k 1 (pos 1 ∷ []) (lut 1 (copy 0 0 ∷ copy 0 1 ∷ []) (pos 0) 8 ∷ [])
   -- "B, k 2, period 1, lag of root 4 ... at 2: 17."
   pub B-mark : (scratch : List ℕ) → scratchArea ≤ length scratch
-      → markOutcome bytesB 2 (coverBytes 1 (lut 3 (copy 0 0 ∷ copy 1 0 ∷ []) (pos 0) 8 ∷ lut 4 (copy 2 0 ∷ copy 3 0 ∷ []) (pos 2) 8 ∷ [])) scratch
+      → markOutcome long bytesB 2 (coverBytes long 1 (lut 3 (copy 0 0 ∷ copy 1 0 ∷ []) (pos 0) 8 ∷ lut 4 (copy 2 0 ∷ copy 3 0 ∷ []) (pos 2) 8 ∷ [])) scratch
       ≡ record { answer = turnedBack 17; scratch = cleared scratchArea scratch }
 
 -- **The examples that document 01 marks [P].**
 pub marked-examples : MarkedExamples
-unfolding outputsMet? dec-¬ plan? planned passed? gate netReader gateReader outputReader pinsFrom fromBytes times ones
+unfolding outputsMet? dec-¬ plan? planned passed? gate netReader bodyReader gateReader outputReader pinsFrom fromBytes times ones
 marked-examples = record {
   A-k2 = refuses bytesA netA 2 0 (pos 1 ∷ pos 2 ∷ pos 2 ∷ []) boundA2 (tt, refl, refl, refl) tt;
   A-k3 = a-3;

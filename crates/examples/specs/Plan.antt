@@ -42,6 +42,7 @@ use Rattle.cover_theory.specs.KeyOf.{rootList, rootOf?, rootList-root, root-roo
 use Rattle.cover_theory.specs.KeyUnique.{label-same, entries-unique}
 use Rattle.cover_theory.specs.Joined.{key?}
 use Rattle.limits.specs.Limits.{leastK, mostK, mostPeriod, coverArea, scratchArea}
+use Rattle.limits.specs.Courses.{long}
 use Rattle.net_bytes.specs.Reading.{Result, got, between}
 use Rattle.net_bytes.specs.Walk.{netReader}
 use Rattle.net_bytes.specs.Sound.{walk-sound, walk-fits}
@@ -209,7 +210,7 @@ module _ (N : Net) (k φ : ℕ) (lab : ℕ → ℤ) (cone : ℕ → List Copy) w
 
 -- ---- what map does
 
-module _ (bytes : List ℕ) (k : ℕ) (N : Net) (P : Passed N k) (reads : netReader k bytes ≡ got N []) where
+module _ (bytes : List ℕ) (k : ℕ) (N : Net) (P : Passed N k) (reads : netReader long k bytes ≡ got N []) where
   graph-passes : (s : Sound N) (f : Fits N k) (a : Dec (Loopless N)) (b : Dec (AllReached N)) (c : Dec (AllLeading N)) → (Q : Passed N k) × (checkGraph N k s f a b c ≡ passes N Q)
   unfolding checkGraph
   graph-passes s f (no a) b c = absurd (a (P .loopless))
@@ -218,50 +219,50 @@ module _ (bytes : List ℕ) (k : ℕ) (N : Net) (P : Passed N k) (reads : netRea
   graph-passes s f (yes a) (yes b) (yes c) = (record { sound = s; fits = f; loopless = a; reached = b; leading = c }, refl)
 
   -- a net that passes the checks passes them in map
-  pub net-passes : (Q : Passed N k) × (checkNet k bytes ≡ passes N Q)
+  pub net-passes : (Q : Passed N k) × (checkNet long k bytes ≡ passes N Q)
   unfolding checkNet checkRead
-  net-passes = subst (λ (r : Result Net). (e : netReader k bytes ≡ r) → (Q : Passed N k) × (checkRead k bytes r e ≡ passes N Q)) (sym reads) from refl
+  net-passes = subst (λ (r : Result Net). (e : netReader long k bytes ≡ r) → (Q : Passed N k) × (checkRead long k bytes r e ≡ passes N Q)) (sym reads) from refl
     where
-      from : (e : netReader k bytes ≡ got N []) → (Q : Passed N k) × (checkRead k bytes (got N []) e ≡ passes N Q)
-      from e = graph-passes (walk-sound k bytes N [] e) (walk-fits k bytes N [] e) (loopless? N) (reached? N) (leading? N)
+      from : (e : netReader long k bytes ≡ got N []) → (Q : Passed N k) × (checkRead long k bytes (got N []) e ≡ passes N Q)
+      from e = graph-passes (walk-sound long k bytes N [] e) (walk-fits long k bytes N [] e) (loopless? N) (reached? N) (leading? N)
 
-  module _ (t : ℕ) (area scratch : List ℕ) (sizes : mapSizes k (suc t) area scratch ≡ 0) where
+  module _ (t : ℕ) (area scratch : List ℕ) (sizes : mapSizes long k (suc t) area scratch ≡ 0) where
     -- **Where there is a key, map writes its entries.**
     pub map-writes : Key N k (suc t) → (es : List Entry) → ((K : Key N k (suc t)) → entries K ≡ es)
-        → mapOutcome bytes k (suc t) area scratch
-        ≡ record { answer = accepted (length (coverBytes (suc t) es)); area = written (coverBytes (suc t) es) area; scratch = cleared scratchArea scratch }
+        → mapOutcome long bytes k (suc t) area scratch
+        ≡ record { answer = accepted (length (coverBytes long (suc t) es)); area = written (coverBytes long (suc t) es) area; scratch = cleared scratchArea scratch }
     unfolding mapped mapWritten forTarget
     map-writes K es same = outcome-is bytes area scratch k (suc t) N Q sizes (net-passes .1) ∙ go (key? Q (suc-le-suc zero-le))
       where
         Q : Passed N k
         Q = net-passes .0
 
-        go : (d : Dec (Key N k (suc t))) → mapWritten (forTarget N k (suc t) d) area scratch
-            ≡ record { answer = accepted (length (coverBytes (suc t) es)); area = written (coverBytes (suc t) es) area; scratch = cleared scratchArea scratch }
-        go (yes J) = ap (λ (l : List Entry). record { answer = accepted (length (coverBytes (suc t) l)); area = written (coverBytes (suc t) l) area; scratch = cleared scratchArea scratch }) (same J)
+        go : (d : Dec (Key N k (suc t))) → mapWritten long (forTarget N k (suc t) d) area scratch
+            ≡ record { answer = accepted (length (coverBytes long (suc t) es)); area = written (coverBytes long (suc t) es) area; scratch = cleared scratchArea scratch }
+        go (yes J) = ap (λ (l : List Entry). record { answer = accepted (length (coverBytes long (suc t) l)); area = written (coverBytes long (suc t) l) area; scratch = cleared scratchArea scratch }) (same J)
         go (no n) = absurd (n K)
 
     -- **Where there is none, map says 12.**
-    pub map-refuses : ¬ Key N k (suc t) → mapOutcome bytes k (suc t) area scratch ≡ record { answer = turnedBack 12; area = area; scratch = cleared scratchArea scratch }
+    pub map-refuses : ¬ Key N k (suc t) → mapOutcome long bytes k (suc t) area scratch ≡ record { answer = turnedBack 12; area = area; scratch = cleared scratchArea scratch }
     unfolding mapped mapWritten forTarget
     map-refuses n = outcome-is bytes area scratch k (suc t) N Q sizes (net-passes .1) ∙ go (key? Q (suc-le-suc zero-le))
       where
         Q : Passed N k
         Q = net-passes .0
 
-        go : (d : Dec (Key N k (suc t))) → mapWritten (forTarget N k (suc t) d) area scratch ≡ record { answer = turnedBack 12; area = area; scratch = cleared scratchArea scratch }
+        go : (d : Dec (Key N k (suc t))) → mapWritten long (forTarget N k (suc t) d) area scratch ≡ record { answer = turnedBack 12; area = area; scratch = cleared scratchArea scratch }
         go (yes K) = absurd (n K)
         go (no m) = refl
 
 -- ---- examples by computation
 
-pub sizes-pass : (k target : ℕ) (area scratch : List ℕ) → between leastK mostK k ≡ true → ltb mostPeriod target ≡ false → Room area scratch → mapSizes k target area scratch ≡ 0
+pub sizes-pass : (k target : ℕ) (area scratch : List ℕ) → between leastK mostK k ≡ true → ltb mostPeriod target ≡ false → Room area scratch → mapSizes long k target area scratch ≡ 0
 unfolding mapSizes
 sizes-pass k target area scratch a b r = rw (a, b, le-ltb (length area) coverArea (r .cover), le-ltb (length scratch) scratchArea (r .work)) refl
 
 -- the net passes the checks and reads; k and the target are in range
 abbrev pub InRange : List ℕ → Net → ℕ → ℕ → Type 0
-InRange net N k target = T (isYes (passed? N k)) × (netReader k net ≡ got N []) × (between leastK mostK k ≡ true) × (ltb mostPeriod target ≡ false)
+InRange net N k target = T (isYes (passed? N k)) × (netReader long k net ≡ got N []) × (between leastK mostK k ≡ true) × (ltb mostPeriod target ≡ false)
 
 -- **A lower bound `zs` of the labels that does not meet an output: refused with 12.**
 pub refuses : (net : List ℕ) (N : Net) (k t : ℕ) (zs : List ℤ) → (Passed N k → LowerBound N k (suc t) (labels N zs)) → InRange net N k (suc t)

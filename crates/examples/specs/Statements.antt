@@ -12,6 +12,7 @@ use Rattle.net_model.specs.Copies.{Copy}
 use Rattle.label_theory.specs.Labels.{LowCut}
 use Rattle.cover_theory.specs.Key.{Key, Entry, entries}
 use Rattle.limits.specs.Limits.{coverArea, scratchArea}
+use Rattle.limits.specs.Courses.{long}
 use Rattle.net_bytes.specs.Reading.{got}
 use Rattle.net_bytes.specs.Walk.{netReader}
 use Rattle.cover_records.specs.CoverBytes.{coverBytes}
@@ -33,16 +34,16 @@ pub record Room (area scratch : List ℕ) : Type 0 where
 -- Map refuses net, k and target with n: the area is kept, the scratch cleared.
 abbrev pub Refuses : List ℕ → ℕ → ℕ → ℕ → Type 0
 Refuses net k target n =
-    (area scratch : List ℕ) → Room area scratch → mapOutcome net k target area scratch ≡ record { answer = turnedBack n; area = area; scratch = cleared scratchArea scratch }
+    (area scratch : List ℕ) → Room area scratch → mapOutcome long net k target area scratch ≡ record { answer = turnedBack n; area = area; scratch = cleared scratchArea scratch }
 
 -- For net, which reads as N, k and target: the least labels of the gates in order, the LUTs of the written cover, and map writes their record.
 pub record Maps (net : List ℕ) (N : Net) (k target : ℕ) (zs : List ℤ) (luts : List Entry) : Type 0 where
-  pub reads : netReader k net ≡ got N []
+  pub reads : netReader long k net ≡ got N []
   pub key : Key N k target
   pub label : (K : Key N k target) (v : ℕ) → IsGate N v → K .label v ≡ labels N zs v
   pub cover : (K : Key N k target) → entries K ≡ luts
-  pub outcome : (area scratch : List ℕ) → Room area scratch → mapOutcome net k target area scratch
-      ≡ record { answer = accepted (length (coverBytes target luts)); area = written (coverBytes target luts) area; scratch = cleared scratchArea scratch }
+  pub outcome : (area scratch : List ℕ) → Room area scratch → mapOutcome long net k target area scratch
+      ≡ record { answer = accepted (length (coverBytes long target luts)); area = written (coverBytes long target luts) area; scratch = cleared scratchArea scratch }
 
 -- Another cut of gate v, no higher than its label: it has the leaves L, as many as the chosen cut, and a larger cone.
 pub record Tie {N : Net} {k φ : ℕ} (K : Key N k φ) (v : ℕ) (L : List Copy) : Type 0 where

@@ -7,6 +7,7 @@ use native.Mathlib.Nat.{zero-add}
 use lib.ListN.{length, getD, take, drop, replicate, length-drop, drop-of-length-le}
 use lib.Seq.{take-all, drop-length, drop-drop}
 use Rattle.limits.specs.Limits.{scratchArea}
+use Rattle.limits.specs.Courses.{long}
 use Rattle.net_bytes.specs.Walk.{first, rest}
 use Rattle.cover_records.specs.Listing.{refusalText, excessText}
 use Rattle.cover_records.specs.Outcomes.{Answer, accepted, turnedBack, MarkOutcome, markOutcome}
@@ -39,7 +40,7 @@ graded-parts l net bytes k n at end e f b d g h =
 
 -- ---- the answer as text
 
-module _ (net bytes : List ℕ) (k : ℕ) {s : List ℕ} {a : Answer} (e : markOutcome net k bytes (replicate scratchArea 0) ≡ record { answer = a; scratch = s }) where
+module _ (net bytes : List ℕ) (k : ℕ) {s : List ℕ} {a : Answer} (e : markOutcome long net k bytes (replicate scratchArea 0) ≡ record { answer = a; scratch = s }) where
   pub marking-excess : {n : ℕ} → a ≡ accepted n → marking k net bytes ≡ excessText n
   unfolding marking
   marking-excess q = ap (λ (o : MarkOutcome). answerText (o .answer)) e ∙ ap answerText q

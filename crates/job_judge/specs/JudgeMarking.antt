@@ -7,6 +7,7 @@ use Rattle.net_model.specs.Net.{size}
 use Rattle.net_model.specs.Arrays.{netIn}
 use Rattle.net_model.specs.Checks.{Passed}
 use Rattle.limits.specs.Limits.{mostPeriod, mostLuts, scratchArea}
+use Rattle.limits.specs.declared.Rules.{Rules}
 use Rattle.net_bytes.specs.Reading.{got}
 use Rattle.net_bytes.specs.Walk.{netReader}
 use Rattle.cover_theory.specs.Covers.{LeastPeriod}
@@ -47,15 +48,15 @@ pub record HeldFor (k : ℕ) (w : Wiring) (c : Candidate) : Type 0 where
   pub high : c .period ≤ mostPeriod
   pub few : c .luts ≤ mostLuts
 
--- the answer of mark after checks 1 and 3
-pub record MarksTo (k : ℕ) (net bytes : List ℕ) (answer : Answer) : Type 0 where
+-- the answer of mark under rules R after checks 1 and 3
+pub record MarksTo (R : Rules) (k : ℕ) (net bytes : List ℕ) (answer : Answer) : Type 0 where
   pub small : InRange answer
-  pub outcome : markChecked k (checkNet k net) bytes ≡ answer
+  pub outcome : markChecked R k (checkNet R k net) bytes ≡ answer
 
 -- the same, for all bytes that hold the net read
-pub record MarksNet (k : ℕ) (w : Wiring) (bytes : List ℕ) (answer : Answer) : Type 0 where
-  pub marks : (net : List ℕ) → netReader k net ≡ got (netIn (arraysOf w)) [] → MarksTo k net bytes answer
+pub record MarksNet (R : Rules) (k : ℕ) (w : Wiring) (bytes : List ℕ) (answer : Answer) : Type 0 where
+  pub marks : (net : List ℕ) → netReader R k net ≡ got (netIn (arraysOf w)) [] → MarksTo R k net bytes answer
 
--- the same, for all bytes that hold the record read
+-- the same, for all rules and all bytes that hold the record read under them
 pub record MarksRead (k : ℕ) (w : Wiring) (c : Candidate) (answer : Answer) : Type 0 where
-  pub marks : (bytes : List ℕ) → coverReader (netIn (arraysOf w)) k bytes ≡ got (recordOf c) [] → MarksNet k w bytes answer
+  pub marks : (R : Rules) (bytes : List ℕ) → coverReader R (netIn (arraysOf w)) k bytes ≡ got (recordOf c) [] → MarksNet R k w bytes answer

@@ -12,6 +12,9 @@ use Rattle.net_model.specs.WiredLaws.{netIn-wired}
 use Rattle.net_model.specs.Checks.{Passed}
 use Rattle.net_model.specs.Copies.{copy}
 use Rattle.limits.specs.Limits.{mostPeriod}
+use Rattle.limits.specs.Courses.{Offered}
+use Rattle.limits.specs.CourseLaws.{offered-within}
+use Rattle.limits.specs.declared.Rules.{Rules}
 use Rattle.net_bytes.specs.Reading.{Result, got, refused}
 use Rattle.net_bytes.specs.Walk.{netReader}
 use Rattle.cone_theory.specs.Ranks.{ranked}
@@ -41,19 +44,19 @@ use Rattle.job_judge.specs.JudgeMarking.{Judging, HeldFor, LeastOf, Mark
 use Rattle.job_judge.specs.Judged.{Cuts, Links, cuts-sure, links-sure, cuts-small, links-small, read-cuts, read-links, read-right}
 
 -- a check of the net failed
-pub marks-fails : (k n : ℕ) (net bytes : List ℕ) → n < 256 → checkNet k net ≡ fails n → MarksTo k net bytes (turnedBack n)
+pub marks-fails : (R : Rules) (k n : ℕ) (net bytes : List ℕ) → n < 256 → checkNet R k net ≡ fails n → MarksTo R k net bytes (turnedBack n)
 unfolding markChecked
-marks-fails k n net bytes h e = record { small = h; outcome = ap (λ (c : Checked k). markChecked k c bytes) e }
+marks-fails R k n net bytes h e = record { small = h; outcome = ap (λ (c : Checked k). markChecked R k c bytes) e }
 
-pub marks-refused : (k n : ℕ) (net bytes : List ℕ) → n < 256 → netReader k net ≡ refused n → MarksTo k net bytes (turnedBack n)
-marks-refused k n net bytes h e = marks-fails k n net bytes h (check-refused k net n e)
+pub marks-refused : (R : Rules) (k n : ℕ) (net bytes : List ℕ) → n < 256 → netReader R k net ≡ refused n → MarksTo R k net bytes (turnedBack n)
+marks-refused R k n net bytes h e = marks-fails R k n net bytes h (check-refused R k net n e)
 
-module _ {k : ℕ} {w : Wiring} (bytes : List ℕ) where
+module _ (R : Rules) {k : ℕ} {w : Wiring} (bytes : List ℕ) where
   -- **9, 10 and 11**
-  pub net-refused : {a : Kept} {r n : ℕ} → SettledAs k 0 w a r → 0 < r → n ≡ r → MarksNet k w bytes (turnedBack n)
-  net-refused {n = n} (settling.loops e q) h f = record { marks = λ net i. marks-fails k n net bytes (omega arith) (check-loop k net (netIn (arraysOf w)) [] i q ∙ ap fails (sym (f ∙ e))) }
-  net-refused {n = n} (settling.cutOff e l q) h f = record { marks = λ net i. marks-fails k n net bytes (omega arith) (check-unreached k net (netIn (arraysOf w)) [] i l q ∙ ap fails (sym (f ∙ e))) }
-  net-refused {n = n} (settling.idle e l t q) h f = record { marks = λ net i. marks-fails k n net bytes (omega arith) (check-unled k net (netIn (arraysOf w)) [] i l t q ∙ ap fails (sym (f ∙ e))) }
+  pub net-refused : {a : Kept} {r n : ℕ} → SettledAs k 0 w a r → 0 < r → n ≡ r → MarksNet R k w bytes (turnedBack n)
+  net-refused {n = n} (settling.loops e q) h f = record { marks = λ net i. marks-fails R k n net bytes (omega arith) (check-loop R k net (netIn (arraysOf w)) [] i q ∙ ap fails (sym (f ∙ e))) }
+  net-refused {n = n} (settling.cutOff e l q) h f = record { marks = λ net i. marks-fails R k n net bytes (omega arith) (check-unreached R k net (netIn (arraysOf w)) [] i l q ∙ ap fails (sym (f ∙ e))) }
+  net-refused {n = n} (settling.idle e l t q) h f = record { marks = λ net i. marks-fails R k n net bytes (omega arith) (check-unled R k net (netIn (arraysOf w)) [] i l t q ∙ ap fails (sym (f ∙ e))) }
   net-refused (settling.unreachable e P h′ q) h f = absurd (none h′)
     where
       none : 1 ≤ 0 → ⊥
@@ -64,12 +67,12 @@ module _ {k : ℕ} {w : Wiring} (bytes : List ℕ) where
       none e h = omega arith
 
   -- a net that passes: the answer of the record's reading
-  pub net-marks : Passed (netIn (arraysOf w)) k → {y : Answer} → InRange y → ((Q : Passed (netIn (arraysOf w)) k) → markRead (netIn (arraysOf w)) k Q (coverReader (netIn (arraysOf w)) k bytes) ≡ y) → MarksNet k w bytes y
+  pub net-marks : Passed (netIn (arraysOf w)) k → {y : Answer} → InRange y → ((Q : Passed (netIn (arraysOf w)) k) → markRead (netIn (arraysOf w)) k Q (coverReader R (netIn (arraysOf w)) k bytes) ≡ y) → MarksNet R k w bytes y
   unfolding markChecked
   net-marks P {y} h f = record {
     marks = λ net q.
-        let t = check-passes k net (netIn (arraysOf w)) [] q (P .loopless) (P .reached) (P .leading) in
-        record { small = h; outcome = ap (λ (c : Checked k). markChecked k c bytes) (t .1) ∙ f (t .0) };
+        let t = check-passes R k net (netIn (arraysOf w)) [] q (P .loopless) (P .reached) (P .leading) in
+        record { small = h; outcome = ap (λ (c : Checked k). markChecked R k c bytes) (t .1) ∙ f (t .0) };
   }
 
 -- the least period
@@ -83,9 +86,9 @@ module _ {k : ℕ} {w : Wiring} {least : ℕ} (j : Judging k w least) where
   N = netIn (arraysOf w)
 
   -- **13**
-  pub judged-broken : (bytes : List ℕ) → coverReader N k bytes ≡ refused 13 → MarksNet k w bytes (turnedBack 13)
+  pub judged-broken : (R : Rules) (bytes : List ℕ) → coverReader R N k bytes ≡ refused 13 → MarksNet R k w bytes (turnedBack 13)
   unfolding markRead
-  judged-broken bytes e = net-marks bytes (j .passed) (omega arith) (λ Q. ap (markRead N k Q) e)
+  judged-broken R bytes e = net-marks R bytes (j .passed) (omega arith) (λ Q. ap (markRead N k Q) e)
 
   module _ (c : Candidate) where
     -- what 14 and 15 tell of the record
@@ -99,7 +102,7 @@ module _ {k : ℕ} {w : Wiring} {least : ℕ} (j : Judging k w least) where
     linked-as t = t .tells N (inputs-netIn (arraysOf w)) (size-netIn (arraysOf w)) (outputs-netIn (arraysOf w)) (c .tables)
 
     read-marks : {y : Answer} → InRange y → ((Q : Passed N k) → markRead N k Q (got (recordOf c) []) ≡ y) → MarksRead k w c y
-    read-marks h f = record { marks = λ bytes e. net-marks bytes (j .passed) h (λ Q. ap (markRead N k Q) e ∙ f Q) }
+    read-marks h f = record { marks = λ R bytes e. net-marks R bytes (j .passed) h (λ Q. ap (markRead N k Q) e ∙ f Q) }
 
     -- **14, 15**
     pub judged-cuts : {r n : ℕ} → CutAs N k ((recordOf c) .entries) r → 0 < r → n ≡ r → MarksRead k w c (turnedBack n)
@@ -152,5 +155,11 @@ module _ {k : ℕ} {w : Wiring} {c : Candidate} (h : HeldFor k w c) (l : Lengths
   }
 
 -- a record that was read is held
-pub read-held : {k : ℕ} {w : Wiring} {c : Candidate} {bytes : List ℕ} → settling.Settling k 0 w → CoverRead bytes (w .inputs) (w .gates) k c → c .fine ≡ true → HeldFor k w c
-read-held g r e = record { settling = g; well = r .well e; low = r .lowPeriod e; high = r .highPeriod e; few = r .few e }
+pub read-held : {R : Rules} {k : ℕ} {w : Wiring} {c : Candidate} {bytes : List ℕ} → Offered R → settling.Settling k 0 w → CoverRead R bytes (w .inputs) (w .gates) k c → c .fine ≡ true → HeldFor k w c
+read-held o g r e =
+    let most = offered-within o in
+    let high = r .highPeriod e in
+    let few = r .few e in
+    let period = most .period in
+    let luts = most .luts in
+    record { settling = g; well = r .well e; low = r .lowPeriod e; high = omega arith; few = omega arith }

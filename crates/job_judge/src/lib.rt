@@ -4,7 +4,9 @@ use cover_links::check_links;
 use cover_reader::Candidate;
 use cover_reader::read_cover;
 use inputs::narrow;
+use limits::Rules;
 use net_reader::Wiring;
+ghost use Rattle.limits.specs.Courses.{Offered};
 ghost use Rattle.cover_cuts.specs.Cuts.{CutsTold};
 ghost use Rattle.cover_links.specs.Links.{LinksTold};
 ghost use Rattle.job_judge.specs.MarkAnswers.{answerOf};
@@ -92,11 +94,12 @@ fn judge_read(net: Wiring, c: Candidate, k: usize, least: usize) -> Grade
 }
 
 // Checks 13 to 18 of a record, and its excess over the least period.
-pub fn judge(net: Wiring, k: usize, cover: &[u8], least: usize) -> Grade
+pub fn judge(net: Wiring, k: usize, cover: &[u8], least: usize, rules: Rules) -> Grade
+    requires { ⌜ Offered rules ⌝ }
     requires { ⌜ Judging k net least ⌝ }
-    ensures { λ r. ⌜ MarksNet k net (now (cover .entry)) (answerOf r) ⌝ }
+    ensures { λ r. ⌜ MarksNet rules k net (now (cover .entry)) (answerOf r) ⌝ }
 {
-    let c = read_cover(cover, net.inputs, net.gates, k);
+    let c = read_cover(cover, net.inputs, net.gates, k, rules);
     if c.fine {
         return judge_read(net, c, k, least);
     }

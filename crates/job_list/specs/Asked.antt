@@ -12,6 +12,7 @@ use Rattle.net_reader.specs.ReadAnswer.{arraysOf}
 use Rattle.net_reader.specs.declared.Wiring.{Wiring}
 use Rattle.cover_writer.specs.Writing.{Wrote}
 use Rattle.limits.specs.Limits.{textRoom}
+use Rattle.limits.specs.Courses.{long}
 use Rattle.job_settle.specs.Settling.{Settling}
 
 -- a net read, with room for its text
@@ -21,4 +22,4 @@ pub record Listing (k target : ℕ) (w : Wiring) (out : List ℕ) : Type 0 where
 
 -- the text, for all bytes that hold the net read
 pub record ListsNet (k target : ℕ) (w : Wiring) (before after : List ℕ) (r : ℕ) : Type 0 where
-  pub lists : (net : List ℕ) → netReader k net ≡ got (netIn (arraysOf w)) [] → Wrote (listChecked k target (checkNet k net)) before after r
+  pub lists : (net : List ℕ) → netReader long k net ≡ got (netIn (arraysOf w)) [] → Wrote (listChecked k target (checkNet long k net)) before after r

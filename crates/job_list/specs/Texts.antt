@@ -10,7 +10,8 @@ use Rattle.net_model.specs.Net.{Net}
 use Rattle.net_model.specs.Arrays.{netIn}
 use Rattle.net_model.specs.ArrayLaws.{outputs-netIn}
 use Rattle.net_model.specs.Checks.{Passed}
-use Rattle.limits.specs.Limits.{leastK, mostK, mostPeriod, coverArea, textRoom}
+use Rattle.limits.specs.Limits.{coverArea, textRoom}
+use Rattle.limits.specs.Courses.{long, is-long}
 use Rattle.net_bytes.specs.Reading.{Result, got, refused}
 use Rattle.net_bytes.specs.Walk.{netReader}
 use Rattle.net_bytes.specs.Sound.{walk-facts, walk-sound, walk-fits}
@@ -30,6 +31,7 @@ use Rattle.net_reader.specs.declared.Wiring.{Wiring}
 use Rattle.cover_writer.specs.Writing.{Wrote}
 use Rattle.cover_records.specs.CheckLaws.{check-refused, check-loop, check-unreached, check-unled, check-passes}
 use Rattle.net_reader.specs.Lengths.{Lengths}
+use Rattle.job_sizes.specs.Sizes.{Fit}
 use Rattle.job_settle.specs.Settling.{Settling, SettledAs}
 use Rattle.job_settle.specs.Settling as settling
 use Rattle.text_digits.specs.PutLaws.{wrote-as}
@@ -40,23 +42,23 @@ use Rattle.job_list.specs.Asked.{Listing, ListsNet}
 use Rattle.job_list.specs.Lines.{listed-cover, listed-none}
 
 -- a check failed
-pub list-fails : (k target n : ℕ) (net : List ℕ) → checkNet k net ≡ fails n → listChecked k target (checkNet k net) ≡ refusalText n
+pub list-fails : (k target n : ℕ) (net : List ℕ) → checkNet long k net ≡ fails n → listChecked k target (checkNet long k net) ≡ refusalText n
 unfolding listChecked
 list-fails k target n net e = ap (λ (c : Checked k). listChecked k target c) e
 
 -- all passed
-list-passes : (k target : ℕ) (net : List ℕ) (N : Net) (P : Passed N k) → checkNet k net ≡ passes N P → listChecked k target (checkNet k net) ≡ listMapped (mapped N k target P)
+list-passes : (k target : ℕ) (net : List ℕ) (N : Net) (P : Passed N k) → checkNet long k net ≡ passes N P → listChecked k target (checkNet long k net) ≡ listMapped (mapped N k target P)
 unfolding listChecked
 list-passes k target net N P e = ap (λ (c : Checked k). listChecked k target c) e
 
 module _ {k target : ℕ} {w : Wiring} where
   -- the number of the refusal
-  refused-text : {a : Kept} {r : ℕ} → SettledAs k target w a r → 0 < r → (net : List ℕ) → netReader k net ≡ got (netIn (arraysOf w)) [] → listChecked k target (checkNet k net) ≡ refusalText r
-  refused-text (settling.loops e n) h net q = list-fails k target 9 net (check-loop k net (netIn (arraysOf w)) [] q n) ∙ ap refusalText (sym e)
-  refused-text (settling.cutOff e l n) h net q = list-fails k target 10 net (check-unreached k net (netIn (arraysOf w)) [] q l n) ∙ ap refusalText (sym e)
-  refused-text (settling.idle e l t n) h net q = list-fails k target 11 net (check-unled k net (netIn (arraysOf w)) [] q l t n) ∙ ap refusalText (sym e)
+  refused-text : {a : Kept} {r : ℕ} → SettledAs k target w a r → 0 < r → (net : List ℕ) → netReader long k net ≡ got (netIn (arraysOf w)) [] → listChecked k target (checkNet long k net) ≡ refusalText r
+  refused-text (settling.loops e n) h net q = list-fails k target 9 net (check-loop long k net (netIn (arraysOf w)) [] q n) ∙ ap refusalText (sym e)
+  refused-text (settling.cutOff e l n) h net q = list-fails k target 10 net (check-unreached long k net (netIn (arraysOf w)) [] q l n) ∙ ap refusalText (sym e)
+  refused-text (settling.idle e l t n) h net q = list-fails k target 11 net (check-unled long k net (netIn (arraysOf w)) [] q l t n) ∙ ap refusalText (sym e)
   refused-text (settling.unreachable e P h′ n) h net q =
-      let t = check-passes k net (netIn (arraysOf w)) [] q (P .loopless) (P .reached) (P .leading) in
+      let t = check-passes long k net (netIn (arraysOf w)) [] q (P .loopless) (P .reached) (P .leading) in
       list-passes k target net (netIn (arraysOf w)) (t .0) (t .1) ∙ listed-none (t .0) target h′ n ∙ ap refusalText (sym e)
   refused-text (settling.covered e P c) h net q = absurd (none e h)
     where
@@ -68,9 +70,9 @@ module _ {k target : ℕ} {w : Wiring} where
   lists-refused s h t = record { lists = λ net q. wrote-as (refused-text s h net q) t }
 
   -- what feeds the cover are nodes of the net
-  cover-fed : {a : Kept} → CoverSettled k target w a → (net : List ℕ) → netReader k net ≡ got (netIn (arraysOf w)) [] → FedBy (netIn (arraysOf w)) (entriesIn a)
+  cover-fed : {a : Kept} → CoverSettled k target w a → (net : List ℕ) → netReader long k net ≡ got (netIn (arraysOf w)) [] → FedBy (netIn (arraysOf w)) (entriesIn a)
   cover-fed u net q = record {
-    few = let f = walk-facts k net (netIn (arraysOf w)) [] q .0 in omega arith;
+    few = let f = walk-facts long k net (netIn (arraysOf w)) [] q .0 in omega arith;
     nodes = λ t m. key-sources (u .passed .sound) (u .cover .key) t (subst (λ (es : List Entry). t ∈ entryTaps (netIn (arraysOf w)) es) (sym (u .cover .same)) m);
   }
 
@@ -79,15 +81,15 @@ module _ {k target : ℕ} {w : Wiring} where
   lists-covered {a} u l = record {
     lists = λ net q.
         let P = u .passed in
-        let t = check-passes k net (netIn (arraysOf w)) [] q (P .loopless) (P .reached) (P .leading) in
+        let t = check-passes long k net (netIn (arraysOf w)) [] q (P .loopless) (P .reached) (P .leading) in
         wrote-as (list-passes k target net (netIn (arraysOf w)) (t .0) (t .1) ∙ listed-cover (t .0) target (u .cover)) (l .each (netIn (arraysOf w)) (outputs-netIn (arraysOf w)) (cover-fed u net q));
   }
 
   -- what the text asks
   pub cover-listable : {a : Kept} {out : List ℕ} → Listing k target w out → a .inputs ≡ w .inputs → a .gates ≡ w .gates → Long a → Lengths w → CoverSettled k target w a
       → Listable a (w .outs) (w .delays) (w .outputs) out
-  cover-listable {a} {out} s i g long l u =
-      let x = cover-writable (s .settling) i g long (u .passed) (u .cover) out (let h = s .room in omega arith) in
+  cover-listable {a} {out} s i g sizes l u =
+      let x = cover-writable (s .settling) i g sizes (u .passed) (u .cover) out (let h = s .room in omega arith) in
       let f = s .settling .facts in
       record {
         arrays = x .arrays;
@@ -99,25 +101,25 @@ module _ {k target : ℕ} {w : Wiring} where
         room = s .room;
       }
 
-module _ (k target : ℕ) (net : List ℕ) (r : Walk) (e : netReader k net ≡ resultOf r) where
+module _ (k target : ℕ) (net : List ℕ) (r : Walk) (e : netReader long k net ≡ resultOf r) where
   -- **refusals 4 to 8**
-  pub walk-refused : {n m c : ℕ} {before after : List ℕ} → r .verdict ≡ Refused n → m ≡ n → Wrote (refusalText m) before after c → Wrote (listChecked k target (checkNet k net)) before after c
+  pub walk-refused : {n m c : ℕ} {before after : List ℕ} → r .verdict ≡ Refused n → m ≡ n → Wrote (refusalText m) before after c → Wrote (listChecked k target (checkNet long k net)) before after c
   walk-refused {n} v d t =
-      wrote-as (list-fails k target n net (check-refused k net n (e ∙ ap (λ (x : Verdict). outcome x (netIn (arraysOf (r .net))) []) v)) ∙ ap refusalText (sym d)) t
+      wrote-as (list-fails k target n net (check-refused long k net n (e ∙ ap (λ (x : Verdict). outcome x (netIn (arraysOf (r .net))) []) v)) ∙ ap refusalText (sym d)) t
 
   module _ (v : r .verdict ≡ Read) {k′ target′ : ℕ} (a : k′ ≡ k) (b : target′ ≡ target) where
-    pub walk-listing : leastK ≤ k → k ≤ mostK → target ≤ mostPeriod → {out : List ℕ} → textRoom ≤ length out → Listing k′ target′ (r .net) out
-    walk-listing low high near {out} room = subst₂ (λ (x y : ℕ). Listing x y (r .net) out) (sym a) (sym b) (record {
+    pub walk-listing : {area scratch : ℕ} → Fit long k target area scratch → {out : List ℕ} → textRoom ≤ length out → Listing k′ target′ (r .net) out
+    walk-listing fit {out} room = subst₂ (λ (x y : ℕ). Listing x y (r .net) out) (sym a) (sym b) (record {
       settling = record {
-        facts = read-facts k net r e v;
-        sound = walk-sound k net (netIn (arraysOf (r .net))) [] (read-gives k net r e v);
-        fits = walk-fits k net (netIn (arraysOf (r .net))) [] (read-gives k net r e v);
-        low = low;
-        high = high;
-        near = near;
+        facts = read-facts long k net r e v is-long;
+        sound = walk-sound long k net (netIn (arraysOf (r .net))) [] (read-gives long k net r e v);
+        fits = walk-fits long k net (netIn (arraysOf (r .net))) [] (read-gives long k net r e v);
+        low = fit .low;
+        high = fit .high;
+        near = fit .near;
       };
       room = room;
     })
 
-    pub walk-lists : {before after : List ℕ} {c : ℕ} → ListsNet k′ target′ (r .net) before after c → Wrote (listChecked k target (checkNet k net)) before after c
-    walk-lists {before} {after} {c} m = subst₂ (λ (x y : ℕ). ListsNet x y (r .net) before after c) a b m .lists net (read-gives k net r e v)
+    pub walk-lists : {before after : List ℕ} {c : ℕ} → ListsNet k′ target′ (r .net) before after c → Wrote (listChecked k target (checkNet long k net)) before after c
+    walk-lists {before} {after} {c} m = subst₂ (λ (x y : ℕ). ListsNet x y (r .net) before after c) a b m .lists net (read-gives long k net r e v)

@@ -11,6 +11,7 @@ use limits::PLACES;
 use limits::SCRATCH;
 use limits::TABLE;
 use limits::TEXT;
+use limits::long_course;
 use net_fields::Verdict;
 use net_reader::Wiring;
 use net_reader::read_net;
@@ -23,7 +24,9 @@ ghost use Rattle.net_bytes.specs.Walk.{rest};
 ghost use Rattle.cover_records.specs.Outcomes.{checkNet};
 ghost use Rattle.cover_records.specs.Program.{listChecked, listing, listingProgram};
 ghost use Rattle.cover_writer.specs.Writing.{Wrote};
-ghost use Rattle.limits.specs.Limits.{leastK, mostK, mostPeriod, textRoom};
+ghost use Rattle.limits.specs.Limits.{coverArea, scratchArea, textRoom};
+ghost use Rattle.limits.specs.Courses.{long};
+ghost use Rattle.job_sizes.specs.Sizes.{Fit};
 ghost use Rattle.job_list.specs.Asked.{Listing, ListsNet};
 
 // Checks 9 to 12 and the cover of a net read.
@@ -75,10 +78,10 @@ fn list_read(net: Wiring, k: usize, target: usize, out: &mut [u8]) -> usize
 
 // Checks 4 to 12 and the cover.
 fn list_net(net: &[u8], k: u32, target: u32, out: &mut [u8]) -> usize
-    requires { ⌜ (leastK ≤ k) × (k ≤ mostK) × (target ≤ mostPeriod) × (textRoom ≤ length (now out)) ⌝ }
-    ensures { λ r. ⌜ Wrote (listChecked k target (checkNet k (now (net .entry)))) (now (out .entry)) (now (out .exit)) r ⌝ }
+    requires { ⌜ Fit long k target coverArea scratchArea × (textRoom ≤ length (now out)) ⌝ }
+    ensures { λ r. ⌜ Wrote (listChecked k target (checkNet long k (now (net .entry)))) (now (out .entry)) (now (out .exit)) r ⌝ }
 {
-    let w = read_net(net, k);
+    let w = read_net(net, k, long_course());
     let v = w.verdict;
     if let Verdict::Refused(n) = v {
         return write_refusal(wide(n), out);
@@ -91,7 +94,7 @@ fn list_parts(k: u32, target: u32, net: &[u8], out: &mut [u8]) -> usize
     requires { ⌜ textRoom ≤ length (now out) ⌝ }
     ensures { λ r. ⌜ Wrote (listing k target (now (net .entry))) (now (out .entry)) (now (out .exit)) r ⌝ }
 {
-    let r = check_sizes(k, target, AREA, SCRATCH);
+    let r = check_sizes(k, target, AREA, SCRATCH, long_course());
     if r > 0 {
         return write_refusal(wide(r), out);
     }

@@ -1,26 +1,35 @@
-// Map: the key of the examination. A net, k and a target; a cover in the cover area, or a refusal.
+// Map: the key of the examination. A net, k and a target; a cover in the cover area, or a refusal. The work is done under rules; map itself takes document 01's.
 use inputs::word;
 use job_record::Answer;
 use job_record::map_read;
 use job_scratch::clear_first;
 use job_sizes::check_sizes;
-use limits::SCRATCH;
+use limits::Rules;
+use limits::long_course;
 use net_fields::Verdict;
 use net_reader::read_net;
 ghost use mathlib.Core.Path.{_≡_};
-ghost use Prim.Native.Nat.{_≤_};
 ghost use lib.ListN.{length};
-ghost use Rattle.limits.specs.Limits.{coverArea, leastK, mostK, mostPeriod, scratchArea};
+ghost use Rattle.limits.specs.Courses.{long, Offered};
 ghost use Rattle.cover_records.specs.Outcomes.{mapOutcome};
+ghost use Rattle.job_sizes.specs.Sizes.{Fit};
 ghost use Rattle.job_record.specs.MapAnswers.{answerOf, InRange};
 ghost use Rattle.job_record.specs.Mapping.{MapsTo};
 
 // Checks 4 to 12 and the cover.
-fn map_bytes(net: &[u8], k: u32, target: u32, area: &mut [u8], work: &mut [u8]) -> Answer
-    requires { ⌜ (leastK ≤ k) × (k ≤ mostK) × (target ≤ mostPeriod) × (coverArea ≤ length (now area)) × (scratchArea ≤ length (now work)) ⌝ }
-    ensures { λ r. ⌜ MapsTo k target (now (net .entry)) (now (area .entry)) (now (area .exit)) (answerOf r) ⌝ }
+fn map_bytes(
+    net: &[u8],
+    k: u32,
+    target: u32,
+    area: &mut [u8],
+    work: &mut [u8],
+    rules: Rules,
+) -> Answer
+    requires { ⌜ Offered rules ⌝ }
+    requires { ⌜ Fit rules k target (length (now area)) (length (now work)) ⌝ }
+    ensures { λ r. ⌜ MapsTo rules k target (now (net .entry)) (now (area .entry)) (now (area .exit)) (answerOf r) ⌝ }
 {
-    let w = read_net(net, k);
+    let w = read_net(net, k, rules);
     let v = w.verdict;
     if let Verdict::Refused(n) = v {
         return Answer::Refused(n);
@@ -28,16 +37,33 @@ fn map_bytes(net: &[u8], k: u32, target: u32, area: &mut [u8], work: &mut [u8]) 
     map_read(w.net, word(k), word(target), area, work)
 }
 
-// Map, for every input.
-pub fn map(net: &[u8], k: u32, target: u32, area: &mut [u8], scratch: &mut [u8]) -> Answer
-    ensures outcome { λ r. ⌜ mapOutcome (now (net .entry)) k target (now (area .entry)) (now (scratch .entry)) ≡ record { answer = answerOf r; area = now (area .exit); scratch = now (scratch .exit) } ⌝ }
+// Map under rules, for every input.
+pub fn map_under(
+    net: &[u8],
+    k: u32,
+    target: u32,
+    area: &mut [u8],
+    scratch: &mut [u8],
+    rules: Rules,
+) -> Answer
+    requires { ⌜ Offered rules ⌝ }
+    ensures outcome { λ r. ⌜ mapOutcome rules (now (net .entry)) k target (now (area .entry)) (now (scratch .entry)) ≡ record { answer = answerOf r; area = now (area .exit); scratch = now (scratch .exit) } ⌝ }
     ensures small { λ r. ⌜ InRange (answerOf r) ⌝ }
 {
-    let r = check_sizes(k, target, area.len(), scratch.len());
+    let r = check_sizes(k, target, area.len(), scratch.len(), rules);
     if r > 0 {
         return Answer::Refused(r);
     }
-    let answer = map_bytes(net, k, target, area, &mut scratch[..SCRATCH]);
-    clear_first(scratch, SCRATCH);
+    let end = rules.scratch;
+    let answer = map_bytes(net, k, target, area, &mut scratch[..end], rules);
+    clear_first(scratch, end);
     answer
+}
+
+// Map, for every input.
+pub fn map(net: &[u8], k: u32, target: u32, area: &mut [u8], scratch: &mut [u8]) -> Answer
+    ensures outcome { λ r. ⌜ mapOutcome long (now (net .entry)) k target (now (area .entry)) (now (scratch .entry)) ≡ record { answer = answerOf r; area = now (area .exit); scratch = now (scratch .exit) } ⌝ }
+    ensures small { λ r. ⌜ InRange (answerOf r) ⌝ }
+{
+    map_under(net, k, target, area, scratch, long_course())
 }

@@ -1,4 +1,4 @@
-// Mark: the marks of the examination. A net, k and a candidate's record; its excess over the least period, or a refusal.
+// Mark: the marks of the examination. A net, k and a candidate's record; its excess over the least period, or a refusal. The work is done under rules; mark itself takes document 01's.
 use inputs::narrow;
 use inputs::word;
 use job_judge::Grade;
@@ -7,19 +7,19 @@ use job_scratch::clear_first;
 use job_settle::Settled;
 use job_settle::settle;
 use job_sizes::check_sizes;
-use limits::AREA;
 use limits::GATES;
 use limits::NODES;
 use limits::PLACES;
-use limits::SCRATCH;
+use limits::Rules;
+use limits::long_course;
 use net_fields::Verdict;
 use net_reader::Wiring;
 use net_reader::read_net;
 ghost use mathlib.Core.Path.{_≡_};
-ghost use Prim.Native.Nat.{_≤_};
 ghost use lib.ListN.{length};
-ghost use Rattle.limits.specs.Limits.{leastK, mostK, scratchArea};
+ghost use Rattle.limits.specs.Courses.{long, Offered};
 ghost use Rattle.cover_records.specs.Outcomes.{markOutcome};
+ghost use Rattle.job_sizes.specs.Sizes.{Fit};
 ghost use Rattle.job_judge.specs.MarkAnswers.{answerOf, InRange};
 ghost use Rattle.job_judge.specs.JudgeMarking.{Marking, MarksTo, MarksNet, LeastOf};
 
@@ -49,41 +49,53 @@ fn least_of(net: Wiring, k: usize, work: &mut [u8]) -> Settled
 }
 
 // Checks 9 to 18 of a net read.
-fn mark_read(net: Wiring, k: usize, cover: &[u8], work: &mut [u8]) -> Grade
+fn mark_read(net: Wiring, k: usize, cover: &[u8], work: &mut [u8], rules: Rules) -> Grade
+    requires { ⌜ Offered rules ⌝ }
     requires { ⌜ Marking k net (now work) ⌝ }
-    ensures { λ r. ⌜ MarksNet k net (now (cover .entry)) (answerOf r) ⌝ }
+    ensures { λ r. ⌜ MarksNet rules k net (now (cover .entry)) (answerOf r) ⌝ }
 {
     let s = least_of(net, k, work);
     let refusal = s.refusal;
     if refusal > 0 {
         return Grade::Refused(narrow(refusal));
     }
-    judge(net, k, cover, s.period)
+    judge(net, k, cover, s.period, rules)
 }
 
 // Checks 4 to 18.
-fn mark_bytes(net: &[u8], k: u32, cover: &[u8], work: &mut [u8]) -> Grade
-    requires { ⌜ (leastK ≤ k) × (k ≤ mostK) × (scratchArea ≤ length (now work)) ⌝ }
-    ensures { λ r. ⌜ MarksTo k (now (net .entry)) (now (cover .entry)) (answerOf r) ⌝ }
+fn mark_bytes(net: &[u8], k: u32, cover: &[u8], work: &mut [u8], rules: Rules) -> Grade
+    requires { ⌜ Offered rules ⌝ }
+    requires { ⌜ Fit rules k 0 (rules .area) (length (now work)) ⌝ }
+    ensures { λ r. ⌜ MarksTo rules k (now (net .entry)) (now (cover .entry)) (answerOf r) ⌝ }
 {
-    let w = read_net(net, k);
+    let w = read_net(net, k, rules);
     let v = w.verdict;
     if let Verdict::Refused(n) = v {
         return Grade::Refused(n);
     }
-    mark_read(w.net, word(k), cover, work)
+    mark_read(w.net, word(k), cover, work, rules)
+}
+
+// Mark under rules, for every input.
+pub fn mark_under(net: &[u8], k: u32, cover: &[u8], scratch: &mut [u8], rules: Rules) -> Grade
+    requires { ⌜ Offered rules ⌝ }
+    ensures outcome { λ r. ⌜ markOutcome rules (now (net .entry)) k (now (cover .entry)) (now (scratch .entry)) ≡ record { answer = answerOf r; scratch = now (scratch .exit) } ⌝ }
+    ensures small { λ r. ⌜ InRange (answerOf r) ⌝ }
+{
+    let r = check_sizes(k, 0, rules.area, scratch.len(), rules);
+    if r > 0 {
+        return Grade::Refused(r);
+    }
+    let end = rules.scratch;
+    let answer = mark_bytes(net, k, cover, &mut scratch[..end], rules);
+    clear_first(scratch, end);
+    answer
 }
 
 // Mark, for every input.
 pub fn mark(net: &[u8], k: u32, cover: &[u8], scratch: &mut [u8]) -> Grade
-    ensures outcome { λ r. ⌜ markOutcome (now (net .entry)) k (now (cover .entry)) (now (scratch .entry)) ≡ record { answer = answerOf r; scratch = now (scratch .exit) } ⌝ }
+    ensures outcome { λ r. ⌜ markOutcome long (now (net .entry)) k (now (cover .entry)) (now (scratch .entry)) ≡ record { answer = answerOf r; scratch = now (scratch .exit) } ⌝ }
     ensures small { λ r. ⌜ InRange (answerOf r) ⌝ }
 {
-    let r = check_sizes(k, 0, AREA, scratch.len());
-    if r > 0 {
-        return Grade::Refused(r);
-    }
-    let answer = mark_bytes(net, k, cover, &mut scratch[..SCRATCH]);
-    clear_first(scratch, SCRATCH);
-    answer
+    mark_under(net, k, cover, scratch, long_course())
 }

@@ -7,7 +7,9 @@ use lib.ListN.{length, drop, replicate}
 use Rattle.net_model.specs.Net.{Net}
 use Rattle.net_model.specs.Arrays.{netIn}
 use Rattle.net_model.specs.Checks.{Passed}
-use Rattle.limits.specs.Limits.{scratchArea, coverArea, mostGates, mostPlaces}
+use Rattle.limits.specs.Limits.{coverArea}
+use Rattle.limits.specs.Courses.{long, Offered, is-long}
+use Rattle.limits.specs.declared.Rules.{Rules}
 use Rattle.net_bytes.specs.Reading.{Result, got, refused}
 use Rattle.net_bytes.specs.Walk.{netReader}
 use Rattle.label_theory.specs.Labels.{Reachable}
@@ -28,54 +30,66 @@ use Rattle.job_settle.specs.Settling as settling
 use Rattle.job_record.specs.Mapping.{MapsTo, MapsNet}
 
 -- the outcome of a refusal, and of a cover
-abbrev refusing : ℕ → List ℕ → List ℕ → MapOutcome
-refusing n area s = record { answer = turnedBack n; area = area; scratch = cleared scratchArea s }
+abbrev refusing : Rules → ℕ → List ℕ → List ℕ → MapOutcome
+refusing R n area s = record { answer = turnedBack n; area = area; scratch = cleared (R .scratch) s }
+
+abbrev writing : Rules → List ℕ → List ℕ → List ℕ → MapOutcome
+writing R bytes area s = record { answer = accepted (length bytes); area = written bytes area; scratch = cleared (R .scratch) s }
+
+-- the rules that are offered write a cover alike
+offered-bytes : {R : Rules} → Offered R → (φ : ℕ) (es : List Entry) → coverBytes R φ es ≡ coverBytes long φ es
+offered-bytes is-long φ es = refl
 
 -- a check failed
-pub maps-fails : (k target n : ℕ) (net area : List ℕ) → n < 256 → checkNet k net ≡ fails n → MapsTo k target net area area (turnedBack n)
+pub maps-fails : (R : Rules) (k target n : ℕ) (net area : List ℕ) → n < 256 → checkNet R k net ≡ fails n → MapsTo R k target net area area (turnedBack n)
 unfolding mapChecked
-maps-fails k target n net area h e = record { small = h; outcome = λ s. ap (λ (c : Checked k). mapChecked k target c area s) e }
+maps-fails R k target n net area h e = record { small = h; outcome = λ s. ap (λ (c : Checked k). mapChecked R k target c area s) e }
 
-pub maps-refused : (k target n : ℕ) (net area : List ℕ) → n < 256 → netReader k net ≡ refused n → MapsTo k target net area area (turnedBack n)
-maps-refused k target n net area h e = maps-fails k target n net area h (check-refused k net n e)
+pub maps-refused : (R : Rules) (k target n : ℕ) (net area : List ℕ) → n < 256 → netReader R k net ≡ refused n → MapsTo R k target net area area (turnedBack n)
+maps-refused R k target n net area h e = maps-fails R k target n net area h (check-refused R k net n e)
 
 -- ---- a net that passes
 
-module _ {N : Net} {k : ℕ} (P : Passed N k) where
+module _ (R : Rules) {N : Net} {k : ℕ} (P : Passed N k) where
   -- **the definition's record is the one of the arrays**
   pub written-cover : (target : ℕ) {a : Kept} → Covered N k target a → (area s : List ℕ)
-      → mapWritten (mapped N k target P) area s
-      ≡ record { answer = accepted (length (coverBytes (a .period) (entriesIn a))); area = written (coverBytes (a .period) (entriesIn a)) area; scratch = cleared scratchArea s }
+      → mapWritten R (mapped N k target P) area s ≡ writing R (coverBytes R (a .period) (entriesIn a)) area s
   unfolding mapWritten
   written-cover target {a} c area s =
       let f = mapped-some P target c in
       let e : entries (f .key) ≡ entriesIn a = entries-unique P (f .key) (c .key) ∙ c .same in
-      ap (λ (m : Mapped N k). mapWritten m area s) (f .is)
-      ∙ ap (λ (es : List Entry). record { answer = accepted (length (coverBytes (a .period) es)); area = written (coverBytes (a .period) es) area; scratch = cleared scratchArea s }) e
+      ap (λ (m : Mapped N k). mapWritten R m area s) (f .is) ∙ ap (λ (es : List Entry). writing R (coverBytes R (a .period) es) area s) e
 
-  pub written-none : (target : ℕ) → 1 ≤ target → ¬ Reachable N k target → (area s : List ℕ) → mapWritten (mapped N k target P) area s ≡ refusing 12 area s
+  pub written-none : (target : ℕ) → 1 ≤ target → ¬ Reachable N k target → (area s : List ℕ) → mapWritten R (mapped N k target P) area s ≡ refusing R 12 area s
   unfolding mapWritten
-  written-none target h n area s = ap (λ (m : Mapped N k). mapWritten m area s) (mapped-none P target h n)
+  written-none target h n area s = ap (λ (m : Mapped N k). mapWritten R m area s) (mapped-none P target h n)
 
 -- the outcome for a net that passes
-passes-as : (k target : ℕ) (net area : List ℕ) (N : Net) (P : Passed N k) → checkNet k net ≡ passes N P → {o : List ℕ → MapOutcome} → ((s : List ℕ) → mapWritten (mapped N k target P) area s ≡ o s)
-    → (s : List ℕ) → mapChecked k target (checkNet k net) area s ≡ o s
+passes-as : (R : Rules) (k target : ℕ) (net area : List ℕ) (N : Net) (P : Passed N k) → checkNet R k net ≡ passes N P → {o : List ℕ → MapOutcome}
+    → ((s : List ℕ) → mapWritten R (mapped N k target P) area s ≡ o s) → (s : List ℕ) → mapChecked R k target (checkNet R k net) area s ≡ o s
 unfolding mapChecked
-passes-as k target net area N P e f s = ap (λ (c : Checked k). mapChecked k target c area s) e ∙ f s
+passes-as R k target net area N P e f s = ap (λ (c : Checked k). mapChecked R k target c area s) e ∙ f s
+
+-- a refusal's number may be named by any equal one
+refused-as : {R : Rules} {k target n r : ℕ} {net area : List ℕ} → r ≡ n → MapsTo R k target net area area (turnedBack n) → MapsTo R k target net area area (turnedBack r)
+refused-as {R} {k} {target} {net = net} {area = area} e m = subst (λ (x : ℕ). MapsTo R k target net area area (turnedBack x)) (sym e) m
+
+abbrev net-of : Wiring → Net
+net-of w = netIn (arraysOf w)
 
 module _ {k target : ℕ} {w : Wiring} (area : List ℕ) where
   -- **a refusal**
   pub net-refused : {a : Kept} {r : ℕ} → SettledAs k target w a r → 0 < r → MapsNet k target w area area (turnedBack r)
-  net-refused (settling.loops e n) h = record { maps = λ net q. subst (λ (x : ℕ). MapsTo k target net area area (turnedBack x)) (sym e) (maps-fails k target 9 net area (omega arith) (check-loop k net (netIn (arraysOf w)) [] q n)) }
+  net-refused (settling.loops e n) h =
+      record { maps = λ R o net q. refused-as e (maps-fails R k target 9 net area (omega arith) (check-loop R k net (net-of w) [] q n)) }
   net-refused (settling.cutOff e l n) h =
-      record { maps = λ net q. subst (λ (x : ℕ). MapsTo k target net area area (turnedBack x)) (sym e) (maps-fails k target 10 net area (omega arith) (check-unreached k net (netIn (arraysOf w)) [] q l n)) }
+      record { maps = λ R o net q. refused-as e (maps-fails R k target 10 net area (omega arith) (check-unreached R k net (net-of w) [] q l n)) }
   net-refused (settling.idle e l t n) h =
-      record { maps = λ net q. subst (λ (x : ℕ). MapsTo k target net area area (turnedBack x)) (sym e) (maps-fails k target 11 net area (omega arith) (check-unled k net (netIn (arraysOf w)) [] q l t n)) }
+      record { maps = λ R o net q. refused-as e (maps-fails R k target 11 net area (omega arith) (check-unled R k net (net-of w) [] q l t n)) }
   net-refused (settling.unreachable e P h′ n) h = record {
-    maps = λ net q.
-        let t = check-passes k net (netIn (arraysOf w)) [] q (P .loopless) (P .reached) (P .leading) in
-        subst (λ (x : ℕ). MapsTo k target net area area (turnedBack x)) (sym e)
-        (record { small = omega arith; outcome = passes-as k target net area (netIn (arraysOf w)) (t .0) (t .1) (written-none (t .0) target h′ n area) });
+    maps = λ R o net q.
+        let t = check-passes R k net (net-of w) [] q (P .loopless) (P .reached) (P .leading) in
+        refused-as e (record { small = omega arith; outcome = passes-as R k target net area (net-of w) (t .0) (t .1) (written-none R (t .0) target h′ n area) });
   }
   net-refused (settling.covered e P c) h = absurd (none e h)
     where
@@ -87,15 +101,16 @@ module _ {k target : ℕ} {w : Wiring} (area : List ℕ) where
   net-refused-as t h e = subst (λ (x : ℕ). MapsNet k target w area area (turnedBack x)) (sym e) (net-refused t h)
 
   -- **a cover**
-  pub net-covered : {a : Kept} {area′ : List ℕ} {n : ℕ} → CoverSettled k target w a → length (coverBytes (a .period) (entriesIn a)) ≤ coverArea → n ≡ length (coverBytes (a .period) (entriesIn a)) → area′ ≡ written (coverBytes (a .period) (entriesIn a)) area
-      → MapsNet k target w area area′ (accepted n)
+  pub net-covered : {a : Kept} {area′ : List ℕ} {n : ℕ} → CoverSettled k target w a → length (coverBytes long (a .period) (entriesIn a)) ≤ coverArea
+      → n ≡ length (coverBytes long (a .period) (entriesIn a)) → area′ ≡ written (coverBytes long (a .period) (entriesIn a)) area → MapsNet k target w area area′ (accepted n)
   net-covered {a} {area′} {n} u few d e = record {
-    maps = λ net q.
+    maps = λ R o net q.
         let P = u .passed in
-        let t = check-passes k net (netIn (arraysOf w)) [] q (P .loopless) (P .reached) (P .leading) in
+        let t = check-passes R k net (net-of w) [] q (P .loopless) (P .reached) (P .leading) in
         record {
           small = omega arith;
-          outcome = λ s. passes-as k target net area (netIn (arraysOf w)) (t .0) (t .1) (written-cover (t .0) target (u .cover) area) s
-              ∙ ap₂ (λ (m : ℕ) (l : List ℕ). record { answer = accepted m; area = l; scratch = cleared scratchArea s }) (sym d) (sym e);
+          outcome = λ s. passes-as R k target net area (net-of w) (t .0) (t .1) (written-cover R (t .0) target (u .cover) area) s
+              ∙ ap (λ (bytes : List ℕ). writing R bytes area s) (offered-bytes o (a .period) (entriesIn a))
+              ∙ ap₂ (λ (m : ℕ) (l : List ℕ). record { answer = accepted m; area = l; scratch = cleared (R .scratch) s }) (sym d) (sym e);
         };
   }

@@ -5,6 +5,8 @@ use Prim.Native.Nat.{ℕ, _≤_}
 use lib.ListN.{length}
 use Rattle.net_model.specs.Arrays.{netIn}
 use Rattle.limits.specs.Limits.{coverArea, scratchArea}
+use Rattle.limits.specs.Courses.{Offered}
+use Rattle.limits.specs.declared.Rules.{Rules}
 use Rattle.net_bytes.specs.Reading.{got}
 use Rattle.net_bytes.specs.Walk.{netReader}
 use Rattle.cover_records.specs.Outcomes.{Answer, MapOutcome, checkNet, mapChecked, cleared}
@@ -19,11 +21,11 @@ pub record Mapping (k target : ℕ) (w : Wiring) (area work : List ℕ) : Type 0
   pub room : coverArea ≤ length area
   pub space : scratchArea ≤ length work
 
--- the outcome of map after checks 1 to 3
-pub record MapsTo (k target : ℕ) (net area area′ : List ℕ) (answer : Answer) : Type 0 where
+-- the outcome of map under rules R after checks 1 to 3
+pub record MapsTo (R : Rules) (k target : ℕ) (net area area′ : List ℕ) (answer : Answer) : Type 0 where
   pub small : InRange answer
-  pub outcome : (s : List ℕ) → mapChecked k target (checkNet k net) area s ≡ record { answer = answer; area = area′; scratch = cleared scratchArea s }
+  pub outcome : (s : List ℕ) → mapChecked R k target (checkNet R k net) area s ≡ record { answer = answer; area = area′; scratch = cleared (R .scratch) s }
 
--- the same, for all bytes that hold the net read
+-- the same, for all rules that are offered and all bytes that hold the net read under them
 pub record MapsNet (k target : ℕ) (w : Wiring) (area area′ : List ℕ) (answer : Answer) : Type 0 where
-  pub maps : (net : List ℕ) → netReader k net ≡ got (netIn (arraysOf w)) [] → MapsTo k target net area area′ answer
+  pub maps : (R : Rules) → Offered R → (net : List ℕ) → netReader R k net ≡ got (netIn (arraysOf w)) [] → MapsTo R k target net area area′ answer

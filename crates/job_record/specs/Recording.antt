@@ -18,13 +18,14 @@ use Rattle.net_model.specs.Wired.{Wired}
 use Rattle.net_model.specs.WiredLaws.{netIn-wired, wired-gate, gate-wired, pin-wired}
 use Rattle.net_model.specs.Checks.{Passed}
 use Rattle.limits.specs.Limits.{mostNodes, mostGates, mostPlaces, mostPeriod, coverArea}
+use Rattle.limits.specs.Courses.{long, is-long}
 use Rattle.cover_theory.specs.Key.{Entry, entries}
 use Rattle.cover_theory.specs.Period.{leastPeriod, leastPeriod-is, leastPeriod-unique, leastPeriod-bound}
 use Rattle.cover_records.specs.CoverBytes.{coverBytes}
 use Rattle.cover_records.specs.Kept.{Kept, entryAt, entriesFrom, entriesIn}
 use Rattle.cover_records.specs.RoundTrip.{SmallLag, AllWritable, none, next}
 use Rattle.cover_records.specs.RoundTrip as trip
-use Rattle.cover_records.specs.KeyRecord.{WithinLimits, key-lag, key-writable, key-length}
+use Rattle.cover_records.specs.KeyRecord.{WithinLimits, roomy, key-lag, key-writable, key-length}
 use Rattle.net_reader.specs.ReadAnswer.{arraysOf}
 use Rattle.net_reader.specs.declared.Wiring.{Wiring}
 use Rattle.cover_writer.specs.Writing.{ArraysHeld, Below, LutHeld, LutsHeld, Writable}
@@ -48,9 +49,9 @@ entry-in a g (suc n) h p q m = go (λ d. entry-in a (suc g) n h (omega arith) (o
     go later false z (no d) = there (later d)
 
 -- each LUT of a list that can be written can be
-writable-at : {nodes k least : ℕ} {es : List Entry} {e : Entry} → AllWritable nodes k least es → e ∈ es → (l : ℕ) × trip.Writable nodes k l e
+writable-at : {wide : Bool} {nodes k least : ℕ} {es : List Entry} {e : Entry} → AllWritable wide nodes k least es → e ∈ es → (l : ℕ) × trip.Writable wide nodes k l e
 writable-at none m = absurd (not-in-nil m)
-writable-at {nodes} {k} {least} (next w ws) (here e) = (least, subst (trip.Writable nodes k least) (sym e) w)
+writable-at {wide} {nodes} {k} {least} (next w ws) (here e) = (least, subst (trip.Writable wide nodes k least) (sym e) w)
 writable-at (next w ws) (there m) = writable-at ws m
 
 -- the lengths of the arrays
@@ -70,7 +71,7 @@ module _ {k target : ℕ} {w : Wiring} (s : Settling k target w) {a : Kept} (i :
   wired : Wired N (w .inputs) (w .gates) (w .pins) (w .sources) (w .counts)
   wired = netIn-wired (arraysOf w)
 
-  pub within : WithinLimits N k
+  pub within : WithinLimits long N k
   within = record {
     gate = let e = wired .gates in let h = s .facts .gates-low in omega arith;
     gates = let e = wired .gates in let h = s .facts .gates-high in omega arith;
@@ -110,7 +111,7 @@ module _ {k target : ℕ} {w : Wiring} (s : Settling k target w) {a : Kept} (i :
   lut-held : (x : ℕ) → x < a .gates → ¬ (getD (a .marks) x 0 ≡ 0) → LutHeld a x
   unfolding entryAt entriesIn
   lut-held x h m =
-      let all = subst (AllWritable (size N) k (N .inputs)) (c .same) (key-writable P within (c .positive) (c .key)) in
+      let all = subst (AllWritable false (size N) k (N .inputs)) (c .same) (key-writable (roomy is-long) P within (c .positive) (c .key)) in
       let t = writable-at all (entry-in a 0 (a .gates) x (omega arith) (omega (arith, h)) m) .1 in
       let v : IsGate N (a .inputs + x) = subst (IsGate N) (ap (λ (n : ℕ). n + x) (sym i)) (wired-gate wired x (omega (arith, h, g))) in
       let in-at : (j : ℕ) → j < getD (a .sizes) x 0 → copyAt (a .nodes) (a .backs) (stride * x + j) ∈ entryAt a x .leaves
@@ -120,11 +121,11 @@ module _ {k target : ℕ} {w : Wiring} (s : Settling k target w) {a : Kept} (i :
         nodes = record { each = λ j q. let b = t .inside (copyAt (a .nodes) (a .backs) (stride * x + j)) (in-at j q) in let e = wired .gates in let d = wired .inputs in let y = s .facts .gates-high in let z = s .facts .inputs-high in omega arith };
         backs = record { each = λ j q. t .depth (copyAt (a .nodes) (a .backs) (stride * x + j)) (in-at j q) };
         label = c .small x h;
-        smallLag = subst (λ (z : ℤ). SmallLag (lag (a .period) z)) (c .labels (a .inputs + x) v) (key-lag P within (c .positive) (c .key) (a .inputs + x) v);
+        smallLag = subst (λ (z : ℤ). SmallLag false (lag (a .period) z)) (c .labels (a .inputs + x) v) (key-lag (roomy is-long) P within (c .positive) (c .key) (a .inputs + x) v);
       }
 
-  pub cover-small : length (coverBytes (a .period) (entriesIn a)) ≤ coverArea
-  cover-small = let e = ap (λ (es : List Entry). length (coverBytes (a .period) es)) (c .same) in let b = key-length P within (c .positive) (c .key) in omega arith
+  pub cover-small : length (coverBytes long (a .period) (entriesIn a)) ≤ coverArea
+  cover-small = let e = ap (λ (es : List Entry). length (coverBytes long (a .period) es)) (c .same) in let b = key-length (roomy is-long) P within (c .positive) (c .key) in omega arith
 
   -- **the cover can be written**
   pub cover-writable : (area : List ℕ) → coverArea ≤ length area → Writable a area

@@ -8,6 +8,9 @@ use borrow.Author.Tests.{lt-ltb, le-ltb, ltb-false}
 use lib.Dec.{ltb}
 use lib.ListN.{length}
 use Rattle.limits.specs.Limits.{coverArea, leastK, mostK, mostPeriod, scratchArea}
+use Rattle.limits.specs.Courses.{long}
+use Rattle.limits.specs.CourseLaws.{Within}
+use Rattle.limits.specs.declared.Rules.{Rules}
 use Rattle.net_bytes.specs.Reading.{between}
 use Rattle.net_bytes.specs.Sound.{between-true}
 use Rattle.cover_records.specs.Outcomes.{mapSizes, markSizes, checkNet}
@@ -18,40 +21,40 @@ use Rattle.job_sizes.specs.Sizes.{sizesOf, Fit}
 
 -- ---- one law for each way out
 
-module _ (k target area scratch : ℕ) where
-  sizes-k : (t : Bool) → between leastK mostK k ≡ t → sizesOf k target area scratch ≡ cond (not t) 1 (cond (ltb mostPeriod target) 2 (cond (ltb area coverArea || ltb scratch scratchArea) 3 0))
+module _ (R : Rules) (k target area scratch : ℕ) where
+  sizes-k : (t : Bool) → between leastK (R .most) k ≡ t → sizesOf R k target area scratch ≡ cond (not t) 1 (cond (ltb (R .period) target) 2 (cond (ltb area (R .area) || ltb scratch (R .scratch)) 3 0))
   unfolding sizesOf
-  sizes-k t e = ap (λ (x : Bool). cond (not x) 1 (cond (ltb mostPeriod target) 2 (cond (ltb area coverArea || ltb scratch scratchArea) 3 0))) e
+  sizes-k t e = ap (λ (x : Bool). cond (not x) 1 (cond (ltb (R .period) target) 2 (cond (ltb area (R .area) || ltb scratch (R .scratch)) 3 0))) e
 
-  pub size-low : k < leastK → 1 ≡ sizesOf k target area scratch
-  size-low h = sym (sizes-k false (sym (below-range leastK mostK k h)))
+  pub size-low : k < leastK → 1 ≡ sizesOf R k target area scratch
+  size-low h = sym (sizes-k false (sym (below-range leastK (R .most) k h)))
 
-  pub size-high : leastK ≤ k → mostK < k → 1 ≡ sizesOf k target area scratch
-  size-high l h = sym (sizes-k false (sym (above-range leastK mostK k l h)))
+  pub size-high : leastK ≤ k → R .most < k → 1 ≡ sizesOf R k target area scratch
+  size-high l h = sym (sizes-k false (sym (above-range leastK (R .most) k l h)))
 
-  module _ (low : leastK ≤ k) (high : k ≤ mostK) where
-    sizes-target : (t : Bool) → ltb mostPeriod target ≡ t → sizesOf k target area scratch ≡ cond t 2 (cond (ltb area coverArea || ltb scratch scratchArea) 3 0)
-    sizes-target t e = sizes-k true (sym (in-range leastK mostK k low high)) ∙ ap (λ (x : Bool). cond x 2 (cond (ltb area coverArea || ltb scratch scratchArea) 3 0)) e
+  module _ (low : leastK ≤ k) (high : k ≤ R .most) where
+    sizes-target : (t : Bool) → ltb (R .period) target ≡ t → sizesOf R k target area scratch ≡ cond t 2 (cond (ltb area (R .area) || ltb scratch (R .scratch)) 3 0)
+    sizes-target t e = sizes-k true (sym (in-range leastK (R .most) k low high)) ∙ ap (λ (x : Bool). cond x 2 (cond (ltb area (R .area) || ltb scratch (R .scratch)) 3 0)) e
 
-    pub size-target : mostPeriod < target → 2 ≡ sizesOf k target area scratch
-    size-target h = sym (sizes-target true (lt-ltb mostPeriod target h))
+    pub size-target : R .period < target → 2 ≡ sizesOf R k target area scratch
+    size-target h = sym (sizes-target true (lt-ltb (R .period) target h))
 
-    module _ (near : target ≤ mostPeriod) where
-      sizes-room : (s t : Bool) → ltb area coverArea ≡ s → ltb scratch scratchArea ≡ t → sizesOf k target area scratch ≡ cond (s || t) 3 0
-      sizes-room s t e f = sizes-target false (le-ltb mostPeriod target near) ∙ ap₂ (λ (x y : Bool). cond (x || y) 3 0) e f
+    module _ (near : target ≤ R .period) where
+      sizes-room : (s t : Bool) → ltb area (R .area) ≡ s → ltb scratch (R .scratch) ≡ t → sizesOf R k target area scratch ≡ cond (s || t) 3 0
+      sizes-room s t e f = sizes-target false (le-ltb (R .period) target near) ∙ ap₂ (λ (x y : Bool). cond (x || y) 3 0) e f
 
-      pub size-area : area < coverArea → 3 ≡ sizesOf k target area scratch
-      size-area h = sym (sizes-room true (ltb scratch scratchArea) (lt-ltb area coverArea h) refl)
+      pub size-area : area < R .area → 3 ≡ sizesOf R k target area scratch
+      size-area h = sym (sizes-room true (ltb scratch (R .scratch)) (lt-ltb area (R .area) h) refl)
 
-      pub size-scratch : coverArea ≤ area → scratch < scratchArea → 3 ≡ sizesOf k target area scratch
-      size-scratch l h = sym (sizes-room false true (le-ltb area coverArea l) (lt-ltb scratch scratchArea h))
+      pub size-scratch : R .area ≤ area → scratch < R .scratch → 3 ≡ sizesOf R k target area scratch
+      size-scratch l h = sym (sizes-room false true (le-ltb area (R .area) l) (lt-ltb scratch (R .scratch) h))
 
-      pub size-none : coverArea ≤ area → scratchArea ≤ scratch → 0 ≡ sizesOf k target area scratch
-      size-none l h = sym (sizes-room false false (le-ltb area coverArea l) (le-ltb scratch scratchArea h))
+      pub size-none : R .area ≤ area → R .scratch ≤ scratch → 0 ≡ sizesOf R k target area scratch
+      size-none l h = sym (sizes-room false false (le-ltb area (R .area) l) (le-ltb scratch (R .scratch) h))
 
   -- what passed checks give
-  pub fit : sizesOf k target area scratch ≡ 0 → Fit k target area scratch
-  fit e = go (between leastK mostK k) refl (ltb mostPeriod target) refl (ltb area coverArea) refl (ltb scratch scratchArea) refl
+  pub fit : sizesOf R k target area scratch ≡ 0 → Fit R k target area scratch
+  fit e = go (between leastK (R .most) k) refl (ltb (R .period) target) refl (ltb area (R .area)) refl (ltb scratch (R .scratch)) refl
     where
       no-one : _≡_ {A = ℕ} 1 0 → ⊥
       no-one q = omega arith
@@ -62,22 +65,22 @@ module _ (k target area scratch : ℕ) where
       no-three : _≡_ {A = ℕ} 3 0 → ⊥
       no-three q = omega arith
 
-      range : between leastK mostK k ≡ true → (leastK ≤ k) × (k ≤ mostK)
-      range q = between-true leastK mostK k q
+      range : between leastK (R .most) k ≡ true → (leastK ≤ k) × (k ≤ R .most)
+      range q = between-true leastK (R .most) k q
 
-      go : (a : Bool) → between leastK mostK k ≡ a → (b : Bool) → ltb mostPeriod target ≡ b → (c : Bool) → ltb area coverArea ≡ c → (d : Bool) → ltb scratch scratchArea ≡ d → Fit k target area scratch
+      go : (a : Bool) → between leastK (R .most) k ≡ a → (b : Bool) → ltb (R .period) target ≡ b → (c : Bool) → ltb area (R .area) ≡ c → (d : Bool) → ltb scratch (R .scratch) ≡ d → Fit R k target area scratch
       go false p b q c r d s = absurd (no-one (sym (sizes-k false p) ∙ e))
       go true p true q c r d s = let t = range p in absurd (no-two (sym (sizes-target (t .0) (t .1) true q) ∙ e))
-      go true p false q true r d s = let t = range p in absurd (no-three (sym (sizes-room (t .0) (t .1) (ltb-false mostPeriod target q) true d r s) ∙ e))
-      go true p false q false r true s = let t = range p in absurd (no-three (sym (sizes-room (t .0) (t .1) (ltb-false mostPeriod target q) false true r s) ∙ e))
+      go true p false q true r d s = let t = range p in absurd (no-three (sym (sizes-room (t .0) (t .1) (ltb-false (R .period) target q) true d r s) ∙ e))
+      go true p false q false r true s = let t = range p in absurd (no-three (sym (sizes-room (t .0) (t .1) (ltb-false (R .period) target q) false true r s) ∙ e))
       go true p false q false r false s =
           let t = range p in
-          record { low = t .0; high = t .1; near = ltb-false mostPeriod target q; room = ltb-false area coverArea r; space = ltb-false scratch scratchArea s }
+          record { low = t .0; high = t .1; near = ltb-false (R .period) target q; room = ltb-false area (R .area) r; space = ltb-false scratch (R .scratch) s }
 
   -- the numbers are bytes
-  pub sizes-small : sizesOf k target area scratch < 256
+  pub sizes-small : sizesOf R k target area scratch < 256
   unfolding sizesOf
-  sizes-small = go (between leastK mostK k) (ltb mostPeriod target) (ltb area coverArea || ltb scratch scratchArea)
+  sizes-small = go (between leastK (R .most) k) (ltb (R .period) target) (ltb area (R .area) || ltb scratch (R .scratch))
     where
       go : (a b c : Bool) → cond (not a) 1 (cond b 2 (cond c 3 0)) < 256
       go false b c = omega arith
@@ -85,34 +88,50 @@ module _ (k target area scratch : ℕ) where
       go true false true = omega arith
       go true false false = omega arith
 
+-- what fits under rules within the limits fits under document 01's
+pub fit-within : {R : Rules} {k target area scratch : ℕ} → Within R → Fit R k target area scratch → Fit long k target area scratch
+fit-within w f =
+    let high = f .high in
+    let near = f .near in
+    let room = f .room in
+    let space = f .space in
+    let most = w .most in
+    let period = w .period in
+    let large = w .area in
+    let long = w .scratch in
+    record { low = f .low; high = omega arith; near = omega arith; room = omega arith; space = omega arith }
+
 -- a number that is 0
 pub zero-of : {r n : ℕ} → r ≡ n → r ≤ 0 → n ≡ 0
 zero-of e h = omega arith
 
 -- ---- the checks of the three jobs
 
-pub map-sizes-are : (k target : ℕ) (area scratch : List ℕ) → mapSizes k target area scratch ≡ sizesOf k target (length area) (length scratch)
+pub map-sizes-are : (R : Rules) (k target : ℕ) (area scratch : List ℕ) → mapSizes R k target area scratch ≡ sizesOf R k target (length area) (length scratch)
 unfolding mapSizes sizesOf
-map-sizes-are k target area scratch = refl
+map-sizes-are R k target area scratch = refl
 
-pub mark-sizes-are : (k : ℕ) (scratch : List ℕ) → markSizes k scratch ≡ sizesOf k 0 coverArea (length scratch)
+pub mark-sizes-are : (R : Rules) (k : ℕ) (scratch : List ℕ) → markSizes R k scratch ≡ sizesOf R k 0 (R .area) (length scratch)
 unfolding markSizes sizesOf
-mark-sizes-are k scratch = refl
+mark-sizes-are R k scratch =
+    let s : Bool = ltb (length scratch) (R .scratch) in
+    ap₂ (λ (x y : Bool). cond (not (between leastK (R .most) k)) 1 (cond x 2 (cond (y || s) 3 0)))
+    (sym (le-ltb (R .period) 0 (omega arith))) (sym (le-ltb (R .area) (R .area) (omega arith)))
 
 -- the listing lends areas that are large enough
 module _ (k target : ℕ) (net : List ℕ) where
   listed : (a b : Bool) (r : ℕ) → r ≡ cond (not a) 1 (cond b 2 0)
-      → cond (not a) (refusalText 1) (cond b (refusalText 2) (listChecked k target (checkNet k net))) ≡ cond (ltb 0 r) (refusalText r) (listChecked k target (checkNet k net))
+      → cond (not a) (refusalText 1) (cond b (refusalText 2) (listChecked k target (checkNet long k net))) ≡ cond (ltb 0 r) (refusalText r) (listChecked k target (checkNet long k net))
   listed false b r e = rw e refl
   listed true true r e = rw e refl
   listed true false r e = rw e refl
 
-  list-sizes : (r : ℕ) → r ≡ sizesOf k target coverArea scratchArea → listing k target net ≡ cond (ltb 0 r) (refusalText r) (listChecked k target (checkNet k net))
+  list-sizes : (r : ℕ) → r ≡ sizesOf long k target coverArea scratchArea → listing k target net ≡ cond (ltb 0 r) (refusalText r) (listChecked k target (checkNet long k net))
   unfolding listing sizesOf
   list-sizes r e = listed (between leastK mostK k) (ltb mostPeriod target) r e
 
-  pub list-refused : (r : ℕ) → r ≡ sizesOf k target coverArea scratchArea → 0 < r → listing k target net ≡ refusalText r
-  list-refused r e h = list-sizes r e ∙ ap (λ (t : Bool). cond t (refusalText r) (listChecked k target (checkNet k net))) (lt-ltb 0 r h)
+  pub list-refused : (r : ℕ) → r ≡ sizesOf long k target coverArea scratchArea → 0 < r → listing k target net ≡ refusalText r
+  list-refused r e h = list-sizes r e ∙ ap (λ (t : Bool). cond t (refusalText r) (listChecked k target (checkNet long k net))) (lt-ltb 0 r h)
 
-  pub list-passed : (r : ℕ) → r ≡ sizesOf k target coverArea scratchArea → r ≤ 0 → listing k target net ≡ listChecked k target (checkNet k net)
-  list-passed r e h = list-sizes r e ∙ ap (λ (t : Bool). cond t (refusalText r) (listChecked k target (checkNet k net))) (le-ltb 0 r h)
+  pub list-passed : (r : ℕ) → r ≡ sizesOf long k target coverArea scratchArea → r ≤ 0 → listing k target net ≡ listChecked k target (checkNet long k net)
+  list-passed r e h = list-sizes r e ∙ ap (λ (t : Bool). cond t (refusalText r) (listChecked k target (checkNet long k net))) (le-ltb 0 r h)

@@ -11,6 +11,7 @@ use signed::minus;
 use signed::whole;
 ghost use mathlib.Core.Path.{_≡_};
 ghost use lib.ListN.{getD};
+ghost use Rattle.limits.specs.Courses.{long};
 ghost use Rattle.lutclass.specs.Classes.{IsClass};
 ghost use Rattle.lutclass.specs.ClassTable.{shipped};
 ghost use Rattle.cover_records.specs.Outcomes.{mapOutcome, markOutcome};
@@ -26,9 +27,9 @@ pub extern "C" fn kamfelu_map(
     cover: &mut [u8],
     scratch: &mut [u8],
 ) -> i64
-    ensures answer { λ r. ⌜ r ≡ coded (mapOutcome (now (net .entry)) k target (now (cover .entry)) (now (scratch .entry)) .answer) ⌝ }
-    ensures area { λ _. ⌜ now (cover .exit) ≡ mapOutcome (now (net .entry)) k target (now (cover .entry)) (now (scratch .entry)) .area ⌝ }
-    ensures scratch { λ _. ⌜ now (scratch .exit) ≡ mapOutcome (now (net .entry)) k target (now (cover .entry)) (now (scratch .entry)) .scratch ⌝ }
+    ensures answer { λ r. ⌜ r ≡ coded (mapOutcome long (now (net .entry)) k target (now (cover .entry)) (now (scratch .entry)) .answer) ⌝ }
+    ensures area { λ _. ⌜ now (cover .exit) ≡ mapOutcome long (now (net .entry)) k target (now (cover .entry)) (now (scratch .entry)) .area ⌝ }
+    ensures scratch { λ _. ⌜ now (scratch .exit) ≡ mapOutcome long (now (net .entry)) k target (now (cover .entry)) (now (scratch .entry)) .scratch ⌝ }
 {
     let answer = map(net, k, target, cover, scratch);
     match answer {
@@ -40,8 +41,8 @@ pub extern "C" fn kamfelu_map(
 // The excess, or minus the number of the refusal.
 #[no_mangle]
 pub extern "C" fn kamfelu_mark(net: &[u8], k: u32, cover: &[u8], scratch: &mut [u8]) -> i64
-    ensures answer { λ r. ⌜ r ≡ coded (markOutcome (now (net .entry)) k (now (cover .entry)) (now (scratch .entry)) .answer) ⌝ }
-    ensures scratch { λ _. ⌜ now (scratch .exit) ≡ markOutcome (now (net .entry)) k (now (cover .entry)) (now (scratch .entry)) .scratch ⌝ }
+    ensures answer { λ r. ⌜ r ≡ coded (markOutcome long (now (net .entry)) k (now (cover .entry)) (now (scratch .entry)) .answer) ⌝ }
+    ensures scratch { λ _. ⌜ now (scratch .exit) ≡ markOutcome long (now (net .entry)) k (now (cover .entry)) (now (scratch .entry)) .scratch ⌝ }
 {
     let m = mark(net, k, cover, scratch);
     match m {

@@ -2,6 +2,7 @@
 // specs/Limits.antt has the same numbers as definitions; `agree` is proved, so the two cannot part.
 ghost use mathlib.Core.Path.{_≡_};
 ghost use Prim.Native.Nat.{_≤_};
+ghost use Rattle.limits.specs.Courses.{long};
 ghost use Rattle.limits.specs.Limits.{mostInputs, mostGates, mostOutputs, leastK, mostK, mostCount, mostPeriod, mostLuts, coverArea, scratchArea, mostPins, mostItems, mostNodes, mostPlaces, mostLeaves, mostCopies, mostReach, mostBeyond, mostTable, mostList, textRoom, refusalRoom, lineRoom, inputRoom};
 
 pub const INPUTS: usize = 16;
@@ -53,18 +54,15 @@ pub const ANSWER: usize = 32;
 
 pub const LINE: usize = 68;
 
-// The limits of one byte of a net or a record.
+// The limits of one byte of a net.
 pub const INPUTS_BYTE: u8 = INPUTS as u8;
-
-pub const GATES_BYTE: u8 = GATES as u8;
 
 pub const OUTPUTS_BYTE: u8 = OUTPUTS as u8;
 
 pub const COUNT_BYTE: u8 = COUNT as u8;
 
-pub const PERIOD_BYTE: u8 = PERIOD as u8;
-
-pub const LUTS_BYTE: u8 = LUTS as u8;
+// The greatest period as a number of a record.
+pub const PERIOD_NUMBER: usize = PERIOD as usize;
 
 // The constants in their order.
 pub struct Limits {
@@ -146,5 +144,32 @@ pub fn agree() -> Limits
         answer: ANSWER,
         line: LINE,
         input: INPUT,
+    }
+}
+
+// The rules of a course: whether numbers take two bytes, the most gates, the greatest k and period, the most LUTs, the bytes of cover area and scratch.
+// By value; specs/Courses.antt names the values that are offered.
+pub struct Rules {
+    pub wide: bool,
+    pub gates: usize,
+    pub most: u32,
+    pub period: u32,
+    pub luts: usize,
+    pub area: usize,
+    pub scratch: usize,
+}
+
+// Document 01's own.
+pub fn long_course() -> Rules
+    ensures { λ r. ⌜ r ≡ long ⌝ }
+{
+    Rules {
+        wide: false,
+        gates: GATES,
+        most: MOST_K,
+        period: PERIOD,
+        luts: LUTS,
+        area: AREA,
+        scratch: SCRATCH,
     }
 }

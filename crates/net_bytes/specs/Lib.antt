@@ -1,5 +1,6 @@
 pub mod Reading
 pub mod Walk
+pub mod Long
 pub mod Readers
 pub mod Stages
 pub mod Maps

@@ -2,11 +2,11 @@
 use mathlib.Core.Path.{_≡_, refl, sym, ap, _∙_}
 use mathlib.Core.Bool.{Bool, true, false}
 use mathlib.Core.List.{List, [], _∷_, _++_, append-assoc, append-nil}
-use Prim.Native.Nat.{ℕ, zero, suc, _+_, _-_, _≤_, _<_}
+use Prim.Native.Nat.{ℕ, zero, suc, _+_, _-_, _*_, _≤_, _<_}
 use native.Mathlib.Omega.{arith}
 use lib.ListN.{length}
 use Rattle.sequences.specs.Member.{_∈_, here, there, not-in-nil}
-use Rattle.net_bytes.specs.Reading.{Result, Reader, andThen, check, byte, times, atEnd, got, refused}
+use Rattle.net_bytes.specs.Reading.{Result, Reader, andThen, check, byte, number, times, atEnd, got, refused}
 
 pub refused-not-got : {A : Type 0} (n : ℕ) (a : A) (s : List ℕ) → refused n ≡ got a s → ⊥
 refused-not-got n a s e = let z : _≡_ {A = ℕ} 0 1 = cc in omega arith
@@ -41,6 +41,21 @@ pub byte-got : (early bad : ℕ) (ok : ℕ → Bool) (s : List ℕ) (b : ℕ) (r
 byte-got early bad ok [] b r e = absurd (refused-not-got early b r e)
 byte-got early bad ok (c ∷ s) b r e =
     let h = check-got (ok c) bad c s b r e in
+    sym (ap ok (h .1)) ∙ h .0
+
+-- a number of two bytes: its test behind both, and what comes behind the first
+abbrev pub fromHigh : ℕ → (ℕ → Bool) → ℕ → ℕ → Reader ℕ
+fromHigh bad ok low high = check (ok (low + 256 * high)) bad (low + 256 * high)
+
+abbrev pub fromLow : ℕ → ℕ → (ℕ → Bool) → ℕ → Reader ℕ
+fromLow early bad ok low s = andThen (byte early bad (λ b. true) s) (fromHigh bad ok low)
+
+pub number-got : (wide : Bool) (early bad : ℕ) (ok : ℕ → Bool) (s : List ℕ) (b : ℕ) (r : List ℕ) → number wide early bad ok s ≡ got b r → ok b ≡ true
+number-got false early bad ok s b r e = byte-got early bad ok s b r e
+number-got true early bad ok s b r e =
+    let x = then-got (byte early bad (λ b. true) s) (fromLow early bad ok) b r e in
+    let y = then-got (byte early bad (λ b. true) (x .1)) (fromHigh bad ok (x .0)) b r (x .3) in
+    let h = check-got (ok (x .0 + 256 * y .0)) bad (x .0 + 256 * y .0) (y .1) b r (y .3) in
     sym (ap ok (h .1)) ∙ h .0
 
 pub atEnd-got : {A : Type 0} (n : ℕ) (a : A) (s : List ℕ) (b : A) (r : List ℕ) → atEnd n a s ≡ got b r → (a ≡ b) × (r ≡ [])

@@ -1,7 +1,7 @@
 -- Definitions: reading bytes from the front, each tested when read.
 use mathlib.Core.Bool.{Bool, true, false, cond, _&&_}
 use mathlib.Core.List.{List, [], _∷_}
-use Prim.Native.Nat.{ℕ, zero, suc}
+use Prim.Native.Nat.{ℕ, zero, suc, _+_, _*_}
 use lib.Dec.{leb}
 
 -- What a reader gives: a value and the bytes behind it, or the number of a refusal.
@@ -32,6 +32,14 @@ check false n a s = refused n
 abbrev pub byte : ℕ → ℕ → (ℕ → Bool) → Reader ℕ
 byte early bad ok [] = refused early
 byte early bad ok (b ∷ rest) = check (ok b) bad b rest
+
+-- One number: of one byte, or of two bytes, low first, tested when the second is there.
+abbrev pub number : Bool → ℕ → ℕ → (ℕ → Bool) → Reader ℕ
+number false early bad ok = byte early bad ok
+number true early bad ok = do
+  low ← byte early bad (λ b. true)
+  high ← byte early bad (λ b. true)
+  check (ok (low + 256 * high)) bad (low + 256 * high)
 
 -- n things, one after the other
 unfoldable pub times : {A : Type 0} → ℕ → Reader A → Reader (List A)

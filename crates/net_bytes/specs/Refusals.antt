@@ -2,13 +2,14 @@
 use mathlib.Core.Path.{_≡_, refl, sym, subst}
 use mathlib.Core.Bool.{Bool, true, false}
 use mathlib.Core.List.{List, [], _∷_}
-use Prim.Native.Nat.{ℕ, zero, suc, _+_, _≤_}
+use Prim.Native.Nat.{ℕ, zero, suc, _+_, _*_, _≤_}
 use native.Mathlib.Omega.{arith}
 use lib.Count.{ones}
 use lib.Dec.{leb}
-use Rattle.net_bytes.specs.Reading.{Result, Reader, andThen, check, byte, times, atEnd, got, refused}
+use Rattle.limits.specs.declared.Rules.{Rules}
+use Rattle.net_bytes.specs.Reading.{Result, Reader, andThen, check, byte, number, times, atEnd, got, refused}
 use Rattle.net_bytes.specs.Readers.{refused-not-got}
-use Rattle.net_bytes.specs.Walk.{gateReader, outputReader, netReader}
+use Rattle.net_bytes.specs.Walk.{gateReader, outputReader, bodyReader, netReader}
 
 module _ (P : ℕ → Type 0) where
   -- no other number
@@ -38,6 +39,12 @@ module _ (P : ℕ → Type 0) where
   only-byte early bad ok [] p q = only-refused early p
   only-byte early bad ok (b ∷ s) p q = only-check (ok b) bad b s q
 
+  pub only-number : (wide : Bool) (early bad : ℕ) (ok : ℕ → Bool) (s : List ℕ) → P early → P bad → Only (number wide early bad ok s)
+  only-number false early bad ok s p q = only-byte early bad ok s p q
+  only-number true early bad ok s p q =
+      only-then _ _ (only-byte early bad _ s p q) λ low t.
+      only-then _ _ (only-byte early bad _ t p q) λ high u. only-check (ok (low + 256 * high)) bad (low + 256 * high) u q
+
   pub only-times : {A : Type 0} (m : Reader A) → ((s : List ℕ) → Only (m s)) → (k : ℕ) (s : List ℕ) → Only (times k m s)
   unfolding times
   only-times m h zero s = only-got [] s
@@ -58,28 +65,36 @@ byte-6 ok s = walk-byte 6 ok s (omega arith, omega arith)
 byte-5 : (ok : ℕ → Bool) (s : List ℕ) → Only OfWalk (byte 4 5 ok s)
 byte-5 ok s = walk-byte 5 ok s (omega arith, omega arith)
 
-only-gate : (k nodes : ℕ) (s : List ℕ) → Only OfWalk (gateReader k nodes s)
+number-6 : (wide : Bool) (ok : ℕ → Bool) (s : List ℕ) → Only OfWalk (number wide 4 6 ok s)
+number-6 wide ok s = only-number OfWalk wide 4 6 ok s (omega arith, omega arith) (omega arith, omega arith)
+
+only-gate : (wide : Bool) (k nodes : ℕ) (s : List ℕ) → Only OfWalk (gateReader wide k nodes s)
 unfolding gateReader
-only-gate k nodes s =
+only-gate wide k nodes s =
     only-then OfWalk _ _ (byte-6 _ s) λ p s1.
     only-then OfWalk _ _ (only-check OfWalk (leb (ones p) k) 7 (ones p) s1 (omega arith, omega arith)) λ m s2.
     only-then OfWalk _ _ (byte-6 _ s2) λ r s3.
-    only-then OfWalk _ _ (only-times OfWalk _ (byte-6 _) m s3) λ so s4.
+    only-then OfWalk _ _ (only-times OfWalk _ (number-6 wide _) m s3) λ so s4.
     only-then OfWalk _ _ (only-times OfWalk _ (byte-6 _) _ s4) λ co s5.
     only-then OfWalk _ _ (only-times OfWalk _ (byte-6 _) _ s5) λ t s6. only-got OfWalk _ s6
 
-only-output : (nodes : ℕ) (s : List ℕ) → Only OfWalk (outputReader nodes s)
+only-output : (wide : Bool) (nodes : ℕ) (s : List ℕ) → Only OfWalk (outputReader wide nodes s)
 unfolding outputReader
-only-output nodes s =
+only-output wide nodes s =
     only-then OfWalk _ _ (byte-6 _ s) λ m s1.
-    only-then OfWalk _ _ (byte-6 _ s1) λ so s2.
+    only-then OfWalk _ _ (number-6 wide _ s1) λ so s2.
     only-then OfWalk _ _ (only-times OfWalk _ (byte-6 _) m s2) λ co s3. only-got OfWalk _ s3
 
-pub only-net : (k : ℕ) (s : List ℕ) → Only OfWalk (netReader k s)
+pub only-body : (R : Rules) (k i : ℕ) (s : List ℕ) → Only OfWalk (bodyReader R k i s)
+unfolding bodyReader
+only-body R k i s =
+    only-then OfWalk _ _ (only-number OfWalk (R .wide) 4 5 _ s (omega arith, omega arith) (omega arith, omega arith)) λ g s1.
+    only-then OfWalk _ _ (byte-5 _ s1) λ o s2.
+    only-then OfWalk _ _ (only-times OfWalk _ (only-gate (R .wide) k (i + g)) g s2) λ gs s3.
+    only-then OfWalk _ _ (only-times OfWalk _ (only-output (R .wide) (i + g)) o s3) λ os s4. only-got OfWalk _ s4
+
+pub only-net : (R : Rules) (k : ℕ) (s : List ℕ) → Only OfWalk (netReader R k s)
 unfolding netReader
-only-net k s =
+only-net R k s =
     only-then OfWalk _ _ (byte-5 _ s) λ i s1.
-    only-then OfWalk _ _ (byte-5 _ s1) λ g s2.
-    only-then OfWalk _ _ (byte-5 _ s2) λ o s3.
-    only-then OfWalk _ _ (only-times OfWalk _ (only-gate k (i + g)) g s3) λ gs s4.
-    only-then OfWalk _ _ (only-times OfWalk _ (only-output (i + g)) o s4) λ os s5. only-end OfWalk 8 _ s5 (omega arith, omega arith)
+    only-then OfWalk _ _ (only-body R k i s1) λ N s2. only-end OfWalk 8 N s2 (omega arith, omega arith)

@@ -1,6 +1,6 @@
 -- Laws of readers that look at a limited number of bytes: what follows more bytes than that changes nothing. The reader of a net record looks at no more than 755.
 use mathlib.Core.Path.{_≡_, refl, sym, _∙_}
-use mathlib.Core.Bool.{Bool, true, false}
+use mathlib.Core.Bool.{Bool, true, false, cond}
 use mathlib.Core.List.{List, [], _∷_, _++_}
 use Prim.Native.Nat.{ℕ, zero, suc, _+_, _*_, _≤_, _<_}
 use native.Mathlib.Nat.{zero-mul, suc-mul, mul-le-mul-right}
@@ -11,10 +11,12 @@ use lib.Count.{ones, ones-le}
 use lib.Dec.{leb}
 use lib.ListN.{length}
 use lib.Pow.{pow-mono}
-use Rattle.limits.specs.Limits.{mostGateBytes, mostGates, mostNetBytes, mostOutputBytes, mostOutputs, mostPins}
+use Rattle.limits.specs.Limits.{mostItems, mostNetBytes, mostOutputs, mostPins}
+use Rattle.limits.specs.Courses.{long}
+use Rattle.limits.specs.declared.Rules.{Rules}
 use Rattle.sequences.specs.Member.{here, there}
-use Rattle.net_bytes.specs.Reading.{Result, Reader, _>>=_, andThen, give, check, byte, times, atEnd, got, refused}
-use Rattle.net_bytes.specs.Walk.{netReader, gateReader, outputReader, onlyBits, tableBytes}
+use Rattle.net_bytes.specs.Reading.{Result, Reader, _>>=_, andThen, give, check, byte, number, times, atEnd, got, refused}
+use Rattle.net_bytes.specs.Walk.{netReader, bodyReader, gateReader, outputReader, onlyBits, tableBytes}
 use Rattle.net_bytes.specs.Readers.{Each}
 use Rattle.net_bytes.specs.Maps.{only-mask}
 use Rattle.net_bytes.specs.Sound.{between-true}
@@ -81,6 +83,13 @@ module _ {A : Type 0} {P : A → Type 0} where
   pub short-most : {c d : ℕ} {m : Reader A} → c ≤ d → Short c P m → Short d P m
   short-most h x = record { steady = λ n s b l. x .steady n s b (omega arith) }
 
+  pub short-known : {Q : A → Type 0} {c : ℕ} {m : Reader A} → ((a : A) → P a → Q a) → Short c P m → Short c Q m
+  short-known {Q} f x = record { steady = λ n s b l. go n (x .steady n s b l) }
+    where
+      go : (n : ℕ) {q : List ℕ → Result A} → Steady P n q → Steady Q n q
+      go n (stops e) = stops e
+      go n (goes {a} p b l) = goes (f a p) b l
+
   pub short-then : {B : Type 0} {Q : B → Type 0} {c d : ℕ} {m : Reader A} {f : A → Reader B} → Short c P m → ((a : A) → P a → Short d Q (f a)) → Short (c + d) Q (m >>= f)
   short-then {B} {Q} {c} {d} {m} {f} x y = record { steady = λ n s b l. go n (x .steady (d + n) s b (omega arith)) }
     where
@@ -98,6 +107,20 @@ module _ {A : Type 0} {P : A → Type 0} where
   pub short-times : {c n most : ℕ} {m : Reader A} → n ≤ most → Short c P m → Short (most * c) Anything (times n m)
   short-times {c} {n} h x = short-most (mul-le-mul-right c h) (short-all n x)
 
+-- a number is one byte, or two
+abbrev pub numberBytes : Bool → ℕ
+numberBytes wide = cond wide 2 1
+
+pub short-number : (wide : Bool) (early bad : ℕ) (ok : ℕ → Bool) → Short (numberBytes wide) (λ n. ok n ≡ true) (number wide early bad ok)
+short-number false early bad ok = short-known (λ n h. h .1) (short-byte early bad ok)
+short-number true early bad ok =
+    short-then (short-byte early bad _) λ low hl.
+    short-then (short-byte early bad _) λ high hh. test (low + 256 * high) (ok (low + 256 * high)) refl
+  where
+    test : (n : ℕ) (t : Bool) → ok n ≡ t → Short 0 (λ m. ok m ≡ true) (check t bad n)
+    test n true e = short-check true bad n e
+    test n false e = record { steady = λ m s b l. stops bad }
+
 pub tableBytes-most : {m n : ℕ} → m ≤ n → tableBytes m ≤ tableBytes n
 tableBytes-most h = omega (arith, pow-mono h)
 
@@ -107,30 +130,50 @@ map-most p r h l e = ones-le mostPins r (omega (arith, and-le-r r p, eqb-true _ 
 
 -- ---- the net
 
-short-gate : (k nodes : ℕ) → Short mostGateBytes Anything (gateReader k nodes)
+-- bytes of a gate, of an output, of a net: as `limits/Limits` counts them, node numbers of one byte or two
+abbrev pub gateBytes : Bool → ℕ
+gateBytes wide = 2 + (mostPins * numberBytes wide + (mostPins + mostItems))
+
+abbrev pub outputBytes : Bool → ℕ
+outputBytes wide = 1 + (numberBytes wide + 1)
+
+abbrev pub bodyBytes : Rules → ℕ
+bodyBytes R = numberBytes (R .wide) + (1 + (R .gates * gateBytes (R .wide) + mostOutputs * outputBytes (R .wide)))
+
+abbrev pub netBytes : Rules → ℕ
+netBytes R = 1 + bodyBytes R
+
+short-gate : (wide : Bool) (k nodes : ℕ) → Short (gateBytes wide) Anything (gateReader wide k nodes)
 unfolding gateReader
-short-gate k nodes =
-    short-then (short-byte 4 6 _) λ p hp.
+short-gate wide k nodes =
+    short-most (omega arith) (short-then (short-byte 4 6 _) λ p hp.
     let high = between-true 1 63 p (hp .1) .1 in
     short-then (short-check {P = λ m. m ≤ mostPins} (leb (ones p) k) 7 (ones p) (ones-le mostPins p (omega arith))) λ m few.
     short-then (short-byte 4 6 _) λ r hr.
-    short-then (short-times few (short-byte 4 6 _)) λ s hs.
+    short-then (short-times few (short-number wide 4 6 _)) λ s hs.
     short-then (short-times (map-most p r high (hr .0) (hr .1)) (short-byte 4 6 _)) λ c hc.
-    short-then (short-times (tableBytes-most few) (short-byte 4 6 _)) λ t ht. short-give
+    short-then (short-times (tableBytes-most few) (short-byte 4 6 _)) λ t ht. short-give)
 
-short-output : (nodes : ℕ) → Short mostOutputBytes Anything (outputReader nodes)
+short-output : (wide : Bool) (nodes : ℕ) → Short (outputBytes wide) Anything (outputReader wide nodes)
 unfolding outputReader
-short-output nodes =
+short-output wide nodes =
     short-then (short-byte 4 6 _) λ m hm.
-    short-then (short-byte 4 6 _) λ s hs.
+    short-then (short-number wide 4 6 _) λ s hs.
     short-then (short-times (leb-true m 1 (hm .1)) (short-byte 4 6 _)) λ c hc. short-give
 
--- **A net record has at most 755 bytes.**
-pub short-net : (k : ℕ) → Short mostNetBytes Nothing (netReader k)
-unfolding netReader
-short-net k =
-    short-then (short-byte 4 5 _) λ i hi.
-    short-then (short-byte 4 5 _) λ g hg.
+short-body : (R : Rules) (k i : ℕ) → Short (bodyBytes R) Anything (bodyReader R k i)
+unfolding bodyReader
+short-body R k i =
+    short-most (omega arith) (short-then (short-number (R .wide) 4 5 _) λ g hg.
     short-then (short-byte 4 5 _) λ o ho.
-    short-then (short-times (between-true 1 mostGates g (hg .1) .1) (short-gate k (i + g))) λ gs hgs.
-    short-then (short-times (between-true 1 mostOutputs o (ho .1) .1) (short-output (i + g))) λ os hos. short-end 8 _
+    short-then (short-times (between-true 1 (R .gates) g hg .1) (short-gate (R .wide) k (i + g))) λ gs hgs.
+    short-then (short-times (between-true 1 mostOutputs o (ho .1) .1) (short-output (R .wide) (i + g))) λ os hos. short-give)
+
+-- **A net record has at most so many bytes under rules R**,
+pub short-net : (R : Rules) (k : ℕ) → Short (netBytes R) Nothing (netReader R k)
+unfolding netReader
+short-net R k = short-most (omega arith) (short-then (short-byte 4 5 _) λ i hi. short-then (short-body R k i) λ N hN. short-end 8 N)
+
+-- **755 under document 01's.**
+pub net-bytes-long : netBytes long ≡ mostNetBytes
+net-bytes-long = refl

@@ -9,14 +9,15 @@ use lib.Count.{ones, ones-le, onesIn}
 use lib.Dec.{leb, ltb, lit≤}
 use lib.ListN.{length, getD}
 use borrow.Author.Tests.{ltb-true, leb-true}
-use Rattle.limits.specs.Limits.{mostCount, mostGates, mostInputs, mostOutputs, mostPins}
+use Rattle.limits.specs.Limits.{mostCount, mostInputs, mostOutputs, mostPins}
+use Rattle.limits.specs.declared.Rules.{Rules}
 use Rattle.sequences.specs.Member.{_∈_, in-getD}
 use Rattle.net_model.specs.Net.{Net, Pin, Gate, size, gate, pins, nothing, IsGate, IsNode}
 use Rattle.net_model.specs.Checks.{Sound, Fits}
-use Rattle.net_bytes.specs.Reading.{between, got, times, check}
-use Rattle.net_bytes.specs.Walk.{netReader, gateReader, outputReader, netByte, onlyBits, tableByte, tableBytes, pinsFrom, fromBytes, first}
-use Rattle.net_bytes.specs.Readers.{Gives, Each, got-value, then-got, check-got, byte-got, atEnd-got, times-got}
-use Rattle.net_bytes.specs.Stages.{madeGate, fromPinMap, fromWidth, fromMaps, fromSources, fromCounts, fromTable, gate-stages, fromOutMap, fromOutSource, fromOutCounts, output-stages, fromInputs, fromGates, fromSizes, fromGateList, fromOutputList, net-stages}
+use Rattle.net_bytes.specs.Reading.{between, got, times, check, atEnd}
+use Rattle.net_bytes.specs.Walk.{netReader, headReader, bodyReader, gateReader, outputReader, netByte, netNumber, onlyBits, tableByte, tableBytes, pinsFrom, fromBytes, first}
+use Rattle.net_bytes.specs.Readers.{Gives, Each, got-value, then-got, check-got, byte-got, number-got, atEnd-got, times-got}
+use Rattle.net_bytes.specs.Stages.{madeGate, fromPinMap, fromWidth, fromMaps, fromSources, fromCounts, fromTable, gate-stages, fromOutMap, fromOutSource, fromOutCounts, output-stages, fromGates, fromSizes, fromGateList, fromOutputList, body-stages, fromInputs, net-stages}
 use Rattle.net_bytes.specs.Maps.{ones-in, some-one, length-pinsFrom, each-pinsFrom, first-each, table-lt}
 
 pub between-true : (low high b : ℕ) → between low high b ≡ true → (low ≤ b) × (b ≤ high)
@@ -38,17 +39,17 @@ pub record GateFacts (k nodes : ℕ) (g : Gate) : Type 0 where
   pub table : g .table < 2 ^ (2 ^ length (g .pins))
 
 -- what the walk guarantees of a net
-pub record NetFacts (k : ℕ) (N : Net) : Type 0 where
+pub record NetFacts (R : Rules) (k : ℕ) (N : Net) : Type 0 where
   pub inputs-low : 1 ≤ N .inputs
   pub inputs-high : N .inputs ≤ mostInputs
   pub gates-low : 1 ≤ length (N .gates)
-  pub gates-high : length (N .gates) ≤ mostGates
+  pub gates-high : length (N .gates) ≤ R .gates
   pub outputs-low : 1 ≤ length (N .outputs)
   pub outputs-high : length (N .outputs) ≤ mostOutputs
   pub gate : Each (GateFacts k (size N)) (N .gates)
   pub output : Each (PinFacts (size N)) (N .outputs)
 
-module _ (k nodes : ℕ) (pos : 0 < nodes) where
+module _ (wide : Bool) (k nodes : ℕ) (pos : 0 < nodes) where
   gate-made : (p r m : ℕ) (s c t : List ℕ) → ones p ≡ m → between 1 63 p ≡ true → leb (ones p) k ≡ true
       → Each (λ (b : ℕ). ltb b nodes ≡ true) s → Each (λ (b : ℕ). between 1 mostCount b ≡ true) c
       → length t ≡ tableBytes m → Each (λ (b : ℕ). tableByte m b ≡ true) t
@@ -73,59 +74,58 @@ module _ (k nodes : ℕ) (pos : 0 < nodes) where
       pinFacts : (q : Pin) → (q .src < nodes) × (q .count ≤ mostCount) → PinFacts nodes q
       pinFacts q h = record { source = h .0; count = h .1 }
 
-  pub gate-facts : Gives (gateReader k nodes) (GateFacts k nodes)
+  pub gate-facts : Gives (gateReader wide k nodes) (GateFacts k nodes)
   gate-facts s g end e =
-      let x1 = then-got (netByte 6 (between 1 63) s) (fromPinMap k nodes) g end (sym (gate-stages k nodes s) ∙ e) in
+      let x1 = then-got (netByte 6 (between 1 63) s) (fromPinMap wide k nodes) g end (sym (gate-stages wide k nodes s) ∙ e) in
       let p = x1 .0 in
-      let x2 = then-got (check (leb (ones p) k) 7 (ones p) (x1 .1)) (fromWidth nodes p) g end (x1 .3) in
+      let x2 = then-got (check (leb (ones p) k) 7 (ones p) (x1 .1)) (fromWidth wide nodes p) g end (x1 .3) in
       let m = x2 .0 in
-      let x3 = then-got (netByte 6 (onlyBits 8 p) (x2 .1)) (fromMaps nodes p m) g end (x2 .3) in
+      let x3 = then-got (netByte 6 (onlyBits 8 p) (x2 .1)) (fromMaps wide nodes p m) g end (x2 .3) in
       let r = x3 .0 in
-      let x4 = then-got (times m (netByte 6 (λ b. ltb b nodes)) (x3 .1)) (fromSources m p r) g end (x3 .3) in
+      let x4 = then-got (times m (netNumber wide 6 (λ b. ltb b nodes)) (x3 .1)) (fromSources m p r) g end (x3 .3) in
       let x5 = then-got (times (ones r) (netByte 6 (between 1 mostCount)) (x4 .1)) (fromCounts m p r (x4 .0)) g end (x4 .3) in
       let x6 = then-got (times (tableBytes m) (netByte 6 (tableByte m)) (x5 .1)) (fromTable p r (x4 .0) (x5 .0)) g end (x5 .3) in
       let w = check-got (leb (ones p) k) 7 (ones p) (x1 .1) m (x2 .1) (x2 .2) in
-      let ss = times-got (λ (b : ℕ). ltb b nodes ≡ true) m (netByte 6 (λ b. ltb b nodes)) (byte-got 4 6 (λ b. ltb b nodes)) (x3 .1) (x4 .0) (x4 .1) (x4 .2) in
+      let ss = times-got (λ (b : ℕ). ltb b nodes ≡ true) m (netNumber wide 6 (λ b. ltb b nodes)) (number-got wide 4 6 (λ b. ltb b nodes)) (x3 .1) (x4 .0) (x4 .1) (x4 .2) in
       let cs = times-got (λ (b : ℕ). between 1 mostCount b ≡ true) (ones r) (netByte 6 (between 1 mostCount)) (byte-got 4 6 (between 1 mostCount)) (x4 .1) (x5 .0) (x5 .1) (x5 .2) in
       let ts = times-got (λ (b : ℕ). tableByte m b ≡ true) (tableBytes m) (netByte 6 (tableByte m)) (byte-got 4 6 (tableByte m)) (x5 .1) (x6 .0) (x6 .1) (x6 .2) in
       let same = got-value (madeGate p r (x4 .0) (x5 .0) (x6 .0)) (x6 .1) g end (x6 .3) in
       rw (← same) (gate-made p r m (x4 .0) (x5 .0) (x6 .0) (w .1) (byte-got 4 6 (between 1 63) s p (x1 .1) (x1 .2)) (w .0) (ss .1) (cs .1)
       (ts .0) (ts .1))
 
-  pub output-facts : Gives (outputReader nodes) (PinFacts nodes)
+  pub output-facts : Gives (outputReader wide nodes) (PinFacts nodes)
   output-facts s o end e =
-      let x1 = then-got (netByte 6 (λ b. leb b 1) s) (fromOutMap nodes) o end (sym (output-stages nodes s) ∙ e) in
+      let x1 = then-got (netByte 6 (λ b. leb b 1) s) (fromOutMap wide nodes) o end (sym (output-stages wide nodes s) ∙ e) in
       let m = x1 .0 in
-      let x2 = then-got (netByte 6 (λ b. ltb b nodes) (x1 .1)) (fromOutSource m) o end (x1 .3) in
+      let x2 = then-got (netNumber wide 6 (λ b. ltb b nodes) (x1 .1)) (fromOutSource m) o end (x1 .3) in
       let x3 = then-got (times m (netByte 6 (between 1 mostCount)) (x2 .1)) (fromOutCounts (x2 .0)) o end (x2 .3) in
       let cs = times-got (λ (b : ℕ). between 1 mostCount b ≡ true) m (netByte 6 (between 1 mostCount)) (byte-got 4 6 (between 1 mostCount)) (x2 .1) (x3 .0) (x3 .1) (x3 .2) in
       let same = got-value (record { src = x2 .0; count = first (x3 .0) }) (x3 .1) o end (x3 .3) in
       rw (← same) (record {
-        source = ltb-true (x2 .0) nodes (byte-got 4 6 (λ b. ltb b nodes) (x1 .1) (x2 .0) (x2 .1) (x2 .2));
+        source = ltb-true (x2 .0) nodes (number-got wide 4 6 (λ b. ltb b nodes) (x1 .1) (x2 .0) (x2 .1) (x2 .2));
         count = first-each (λ (b : ℕ). b ≤ mostCount) (x3 .0) (lit≤ tt) (λ b h. between-true 1 mostCount b (cs .1 b h) .1);
       })
 
--- what the walk guarantees of the net, and no byte is left
-pub walk-facts : (k : ℕ) (s : List ℕ) (N : Net) (end : List ℕ) → netReader k s ≡ got N end → NetFacts k N × (end ≡ [])
-walk-facts k s N end e =
-    let x1 = then-got (netByte 5 (between 1 mostInputs) s) (fromInputs k) N end (sym (net-stages k s) ∙ e) in
-    let i = x1 .0 in
-    let x2 = then-got (netByte 5 (between 1 mostGates) (x1 .1)) (fromGates k i) N end (x1 .3) in
+-- what the body guarantees behind a head that passed its test
+pub body-facts : (R : Rules) (k i : ℕ) → between 1 mostInputs i ≡ true → Gives (bodyReader R k i) (NetFacts R k)
+body-facts R k i hi s N end e =
+    let w = R .wide in
+    let x2 = then-got (netNumber w 5 (between 1 (R .gates)) s) (fromGates w k i) N end (sym (body-stages R k i s) ∙ e) in
     let g = x2 .0 in
-    let x3 = then-got (netByte 5 (between 1 mostOutputs) (x2 .1)) (fromSizes k i g) N end (x2 .3) in
+    let x3 = then-got (netByte 5 (between 1 mostOutputs) (x2 .1)) (fromSizes w k i g) N end (x2 .3) in
     let o = x3 .0 in
-    let x4 = then-got (times g (gateReader k (i + g)) (x3 .1)) (fromGateList i g o) N end (x3 .3) in
-    let x5 = then-got (times o (outputReader (i + g)) (x4 .1)) (fromOutputList i (x4 .0)) N end (x4 .3) in
-    let x6 = atEnd-got 8 (record { inputs = i; gates = x4 .0; outputs = x5 .0 }) (x5 .1) N end (x5 .3) in
-    let is = between-true 1 mostInputs i (byte-got 4 5 (between 1 mostInputs) s i (x1 .1) (x1 .2)) in
-    let gr = between-true 1 mostGates g (byte-got 4 5 (between 1 mostGates) (x1 .1) g (x2 .1) (x2 .2)) in
+    let x4 = then-got (times g (gateReader w k (i + g)) (x3 .1)) (fromGateList w i g o) N end (x3 .3) in
+    let x5 = then-got (times o (outputReader w (i + g)) (x4 .1)) (fromOutputList i (x4 .0)) N end (x4 .3) in
+    let same = got-value (record { inputs = i; gates = x4 .0; outputs = x5 .0 }) (x5 .1) N end (x5 .3) in
+    let is = between-true 1 mostInputs i hi in
+    let gr = between-true 1 (R .gates) g (number-got w 4 5 (between 1 (R .gates)) s g (x2 .1) (x2 .2)) in
     let or = between-true 1 mostOutputs o (byte-got 4 5 (between 1 mostOutputs) (x2 .1) o (x3 .1) (x3 .2)) in
     let il = is .0 in
     let pos : 0 < i + g = omega arith in
-    let gs = times-got (GateFacts k (i + g)) g (gateReader k (i + g)) (gate-facts k (i + g) pos) (x3 .1) (x4 .0) (x4 .1) (x4 .2) in
-    let os = times-got (PinFacts (i + g)) o (outputReader (i + g)) (output-facts k (i + g) pos) (x4 .1) (x5 .0) (x5 .1) (x5 .2) in
+    let gs = times-got (GateFacts k (i + g)) g (gateReader w k (i + g)) (gate-facts w k (i + g) pos) (x3 .1) (x4 .0) (x4 .1) (x4 .2) in
+    let os = times-got (PinFacts (i + g)) o (outputReader w (i + g)) (output-facts w k (i + g) pos) (x4 .1) (x5 .0) (x5 .1) (x5 .2) in
     let all : i + length (x4 .0) ≡ i + g = ap (λ (n : ℕ). i + n) (gs .0) in
-    let facts : NetFacts k (record { inputs = i; gates = x4 .0; outputs = x5 .0 }) = record {
+    let facts : NetFacts R k (record { inputs = i; gates = x4 .0; outputs = x5 .0 }) = record {
       inputs-low = is .0;
       inputs-high = is .1;
       gates-low = rw (gs .0) (gr .0);
@@ -135,26 +135,36 @@ walk-facts k s N end e =
       gate = rw all (gs .1);
       output = rw all (os .1);
     } in
-    (subst (NetFacts k) (x6 .0) facts, x6 .1)
+    subst (NetFacts R k) same facts
 
-module _ (k : ℕ) (s : List ℕ) (N : Net) (end : List ℕ) (e : netReader k s ≡ got N end) where
+-- what the walk guarantees of the net, and no byte is left
+pub walk-facts : (R : Rules) (k : ℕ) (s : List ℕ) (N : Net) (end : List ℕ) → netReader R k s ≡ got N end → NetFacts R k N × (end ≡ [])
+walk-facts R k s N end e =
+    let x1 = then-got (headReader s) (fromInputs R k) N end (sym (net-stages R k s) ∙ e) in
+    let i = x1 .0 in
+    let x2 = then-got (bodyReader R k i (x1 .1)) (atEnd 8) N end (x1 .3) in
+    let x3 = atEnd-got 8 (x2 .0) (x2 .1) N end (x2 .3) in
+    let hi = byte-got 4 5 (between 1 mostInputs) s i (x1 .1) (x1 .2) in
+    (subst (NetFacts R k) (x3 .0) (body-facts R k i hi (x1 .1) (x2 .0) (x2 .1) (x2 .2)), x3 .1)
+
+module _ (R : Rules) (k : ℕ) (s : List ℕ) (N : Net) (end : List ℕ) (e : netReader R k s ≡ got N end) where
   -- the gate with number v
   pub walk-gate : (v : ℕ) → IsGate N v → GateFacts k (size N) (gate N v)
   unfolding gate
   walk-gate v h =
       let low = h .low in
       let high = h .high in
-      walk-facts k s N end e .0 .gate (getD (N .gates) (v - N .inputs) nothing) (in-getD (N .gates) (v - N .inputs) nothing (omega arith))
+      walk-facts R k s N end e .0 .gate (getD (N .gates) (v - N .inputs) nothing) (in-getD (N .gates) (v - N .inputs) nothing (omega arith))
 
   -- check 6, as far as it speaks of sources, and check 7 hold of the net that the walk gives
   pub walk-sound : Sound N
   walk-sound = record {
     pin = λ v h p m. walk-gate v h .pin p m .source;
-    output = λ o m. walk-facts k s N end e .0 .output o m .source;
+    output = λ o m. walk-facts R k s N end e .0 .output o m .source;
   }
 
   pub walk-fits : Fits N k
   walk-fits v h = walk-gate v h .fits
 
   pub walk-ends : end ≡ []
-  walk-ends = walk-facts k s N end e .1
+  walk-ends = walk-facts R k s N end e .1

@@ -1,4 +1,4 @@
--- Definitions: the net record (document 01, "The net") and the walk over it that gives the net or the first of the refusals 4 to 8.
+-- Definitions: the net record (document 01, "The net") and the walk over it, under rules R, that gives the net or the first of the refusals 4 to 8.
 use mathlib.Core.Bool.{Bool, true, false, cond, not, _||_, _&&_}
 use mathlib.Core.List.{List, [], _∷_}
 use Prim.Native.Nat.{ℕ, zero, suc, _+_, _-_, _*_, _/_, _^_}
@@ -7,8 +7,9 @@ use lib.Dec.{leb, ltb}
 use lib.ListN.{length}
 use Rattle.net_model.specs.Net.{Net, Pin, Gate}
 use Rattle.net_model.specs.Tables.{bit}
-use Rattle.limits.specs.Limits.{mostCount, mostGates, mostInputs, mostOutputs, mostPins}
-use Rattle.net_bytes.specs.Reading.{Result, Reader, _>>=_, andThen, give, check, byte, times, atEnd, between, got, refused}
+use Rattle.limits.specs.Limits.{mostCount, mostInputs, mostOutputs, mostPins}
+use Rattle.limits.specs.declared.Rules.{Rules}
+use Rattle.net_bytes.specs.Reading.{Result, Reader, _>>=_, andThen, give, check, byte, number, times, atEnd, between, got, refused}
 
 -- each of the low n bits that r has, p has
 abbrev pub onlyBits : ℕ → ℕ → ℕ → Bool
@@ -18,6 +19,10 @@ onlyBits (suc n) p r = (not (bit r n) || bit p n) && onlyBits n p r
 -- "4. The net ends where a byte is still due", "6. A map, source, register count or table byte has a value its place forbids."
 abbrev pub netByte : ℕ → (ℕ → Bool) → Reader ℕ
 netByte = byte 4
+
+-- G and node numbers: one byte each, two where the layout is wide
+abbrev pub netNumber : Bool → ℕ → (ℕ → Bool) → Reader ℕ
+netNumber wide = number wide 4
 
 -- "With m pins the table has 2^m bits ... low byte first, at least one byte"
 abbrev pub tableBytes : ℕ → ℕ
@@ -51,30 +56,41 @@ pinsFrom (suc n) j pinMap regMap sources counts =
 
 -- "Gate: pin map (bits 0..5, at least one; holes allowed; the number of pins is its count of ones), register map (only bits of the pin map), one source byte per pin
 -- rising, one count byte 1..3 per register bit rising, table." 7 is "told after its pin map passed 6".
-unfoldable pub gateReader : ℕ → ℕ → Reader Gate
-gateReader k nodes = do
+unfoldable pub gateReader : Bool → ℕ → ℕ → Reader Gate
+gateReader wide k nodes = do
   pinMap ← netByte 6 (between 1 63)
   m ← check (leb (ones pinMap) k) 7 (ones pinMap)
   regMap ← netByte 6 (onlyBits 8 pinMap)
-  sources ← times m (netByte 6 (λ b. ltb b nodes))
+  sources ← times m (netNumber wide 6 (λ b. ltb b nodes))
   counts ← times (ones regMap) (netByte 6 (between 1 mostCount))
   table ← times (tableBytes m) (netByte 6 (tableByte m))
   give (record { pins = pinsFrom mostPins 0 pinMap regMap sources counts; table = fromBytes table })
 
 -- "Output: map (0 or 1), source byte, and a count 1..3 if the map is 1."
-unfoldable pub outputReader : ℕ → Reader Pin
-outputReader nodes = do
+unfoldable pub outputReader : Bool → ℕ → Reader Pin
+outputReader wide nodes = do
   map ← netByte 6 (λ b. leb b 1)
-  source ← netByte 6 (λ b. ltb b nodes)
+  source ← netNumber wide 6 (λ b. ltb b nodes)
   counts ← times map (netByte 6 (between 1 mostCount))
   give (record { src = source; count = first counts })
 
--- "Net record, bytes: I, G, O; then the gates; then the outputs." and "8. Bytes follow the last output."
-unfoldable pub netReader : ℕ → Reader Net
-netReader k = do
-  inputs ← netByte 5 (between 1 mostInputs)
-  gates ← netByte 5 (between 1 mostGates)
+-- "Net record, bytes: I, G, O; then the gates; then the outputs." The head is I,
+abbrev pub headReader : Reader ℕ
+headReader = netByte 5 (between 1 mostInputs)
+
+-- the body all behind it.
+unfoldable pub bodyReader : Rules → ℕ → ℕ → Reader Net
+bodyReader R k inputs = do
+  gates ← netNumber (R .wide) 5 (between 1 (R .gates))
   outputs ← netByte 5 (between 1 mostOutputs)
-  gateList ← times gates (gateReader k (inputs + gates))
-  outputList ← times outputs (outputReader (inputs + gates))
-  atEnd 8 (record { inputs = inputs; gates = gateList; outputs = outputList })
+  gateList ← times gates (gateReader (R .wide) k (inputs + gates))
+  outputList ← times outputs (outputReader (R .wide) (inputs + gates))
+  give (record { inputs = inputs; gates = gateList; outputs = outputList })
+
+-- "8. Bytes follow the last output."
+unfoldable pub netReader : Rules → ℕ → Reader Net
+unfolding bodyReader
+netReader R k = do
+  inputs ← headReader
+  net ← bodyReader R k inputs
+  atEnd 8 net

@@ -1,4 +1,4 @@
--- Laws of one byte: its tests, reading it at a place of the bytes, and what a verdict tells.
+-- Laws of one byte and of one number: their tests, reading them at a place of the bytes, and what a verdict tells.
 use mathlib.Core.Path.{_≡_, refl, sym, ap, ap₂, _∙_}
 use mathlib.Core.Bool.{Bool, true, false, not, _&&_}
 use mathlib.Core.List.{List, []}
@@ -9,7 +9,8 @@ use lib.Dec.{leb, ltb, eqb}
 use lib.ListN.{length, getD, drop, drop-of-length-le}
 use lib.Seq.{drop-cons}
 use borrow.Author.Tests.{le-leb, lt-leb, lt-ltb, le-ltb, eq-eqb, ne-eqb}
-use Rattle.net_bytes.specs.Reading.{Result, atEnd, between, byte, check, got, refused}
+use Rattle.net_bytes.specs.Reading.{Result, atEnd, between, byte, number, check, got, refused}
+use Rattle.net_bytes.specs.Readers.{fromHigh, fromLow, then-goes, then-stops}
 use Rattle.net_bytes.specs.Walk.{tableByte}
 use Rattle.net_fields.specs.declared.Verdict.{Verdict}
 use Rattle.net_fields.specs.declared.Verdict.the-variants.{Read, Refused}
@@ -64,7 +65,7 @@ module _ (early bad : ℕ) (ok : ℕ → Bool) (s : List ℕ) (at : ℕ) where
   pub byte-end : length s ≤ at → byte early bad ok (drop at s) ≡ refused early
   byte-end h = ap (byte early bad ok) (drop-of-length-le s h)
 
-  byte-here : at < length s → byte early bad ok (drop at s) ≡ check (ok (getD s at 0)) bad (getD s at 0) (drop (at + 1) s)
+  pub byte-here : at < length s → byte early bad ok (drop at s) ≡ check (ok (getD s at 0)) bad (getD s at 0) (drop (at + 1) s)
   byte-here h = rw (add-one, drop-cons s at 0 h) refl
 
   pub byte-ok : at < length s → ok (getD s at 0) ≡ true → byte early bad ok (drop at s) ≡ got (getD s at 0) (drop (at + 1) s)
@@ -72,6 +73,21 @@ module _ (early bad : ℕ) (ok : ℕ → Bool) (s : List ℕ) (at : ℕ) where
 
   pub byte-bad : at < length s → ok (getD s at 0) ≡ false → byte early bad ok (drop at s) ≡ refused bad
   byte-bad h e = byte-here h ∙ ap (λ (t : Bool). check t bad (getD s at 0) (drop (at + 1) s)) e
+
+-- a number of two bytes at a place: past the end before either byte, or tested behind both
+module _ (early bad : ℕ) (ok : ℕ → Bool) (s : List ℕ) (at : ℕ) where
+  pub two-end : length s ≤ at → number true early bad ok (drop at s) ≡ refused early
+  two-end h = then-stops (fromLow early bad ok) (byte-end early bad (λ b. true) s at h)
+
+  pub two-cut : at < length s → length s ≤ at + 1 → number true early bad ok (drop at s) ≡ refused early
+  two-cut h l =
+      then-goes (fromLow early bad ok) (byte-here early bad (λ b. true) s at h) ∙ then-stops (fromHigh bad ok (getD s at 0)) (byte-end early bad (λ b. true) s (at + 1) l)
+
+  pub two-here : at + 1 < length s
+      → number true early bad ok (drop at s) ≡ fromHigh bad ok (getD s at 0) (getD s (at + 1) 0) (drop (at + 1 + 1) s)
+  two-here h =
+      then-goes (fromLow early bad ok) (byte-here early bad (λ b. true) s at (omega arith))
+      ∙ then-goes (fromHigh bad ok (getD s at 0)) (byte-here early bad (λ b. true) s (at + 1) h)
 
 -- no byte is left, or some
 pub end-done : {A : Type 0} (n : ℕ) (a : A) (s : List ℕ) (at : ℕ) → length s ≤ at → atEnd n a (drop at s) ≡ got a []

@@ -1,15 +1,19 @@
 -- Laws of lists of bytes: the first and the rest, lists that end in zeros, and the number of eight bytes.
 use mathlib.Core.Path.{_≡_, refl, sym, ap, _∙_}
+use mathlib.Core.Bool.{Bool, true, false}
 use mathlib.Core.List.{List, [], _∷_}
 use Prim.Native.Nat.{ℕ, zero, suc, _+_, _-_, _*_, _^_, _≤_, _<_, zero-le, suc-le-suc}
 use native.Mathlib.Omega.{arith}
-use lib.ListN.{length, getD, take, drop, length-drop, drop-of-length-le}
-use lib.Seq.{drop-cons, getD-drop}
+use native.Mathlib.Decide.{ℕ-discrete}
+use lib.ListN.{length, getD, take, drop, set, replicate, length-drop, drop-of-length-le}
+use lib.Seq.{drop-cons, getD-drop, getD-set-same, getD-set-other}
 use Rattle.limits.specs.Limits.{mostItems}
 use Rattle.sequences.specs.Member.{getD-in}
+use Rattle.sequences.specs.Zeros.{zeros}
 use Rattle.net_bytes.specs.Walk.{first, rest, fromBytes}
 use Rattle.net_bytes.specs.Readers.{Each}
 use Rattle.net_bytes.specs.Maps.{fromBytes-lt}
+use Rattle.net_fields.specs.ItemsRead.{numberRoom, Small}
 
 pub first-drop : (l : List ℕ) (j : ℕ) → first (drop j l) ≡ getD l j 0
 first-drop [] zero = refl
@@ -106,3 +110,18 @@ module _ (l : List ℕ) where
   bytes-all n i w h =
       let none : i ≡ 0 = omega arith in
       w .is ∙ ap (λ (k : ℕ). fromBytes (drop k l)) none
+
+-- zeros are numbers of at most two bytes, and one more stays so
+pub some-room : (two : Bool) → 0 < numberRoom two
+some-room true = omega arith
+some-room false = omega arith
+
+pub small-none : (two : Bool) (n : ℕ) → Small two (replicate n 0)
+small-none two n i = let z = zeros n i in let r = some-room two in omega arith
+
+pub small-set : (two : Bool) (l : List ℕ) (i b : ℕ) → i < length l → Small two l → b < numberRoom two → Small two (set l i b)
+small-set two l i b long h small j = go (ℕ-discrete j i)
+  where
+    go : Dec (j ≡ i) → getD (set l i b) j 0 < numberRoom two
+    go (yes e) = rw e (rw (getD-set-same l i b 0 long) small)
+    go (no n) = rw (getD-set-other l i j b 0 n) (h j)

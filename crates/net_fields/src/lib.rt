@@ -1,24 +1,28 @@
-// The fields of a net record and of a cover record, and the bytes that may stand in them: each byte tested when read.
+// The fields of a net record and of a cover record, the bytes that may stand in them and the numbers of one or two bytes: each tested when read.
 use inputs::wide;
 use limits::COUNT_BYTE;
-use limits::GATES_BYTE;
+use limits::GATES;
 use limits::INPUTS_BYTE;
 use limits::ITEMS;
-use limits::LUTS_BYTE;
+use limits::LUTS;
 use limits::OUTPUTS_BYTE;
-use limits::PERIOD_BYTE;
+use limits::PERIOD_NUMBER;
+use limits::Rules;
 ghost use mathlib.Core.Path.{_≡_};
-ghost use mathlib.Core.Bool.{_&&_};
-ghost use Prim.Native.Nat.{_+_, _*_, _^_, _≤_, _<_};
+ghost use mathlib.Core.Bool.{Bool, true, false, _&&_};
+ghost use mathlib.Core.List.{List};
+ghost use Prim.Native.Nat.{ℕ, _+_, _*_, _^_, _≤_, _<_};
 ghost use lib.Count.{ones};
 ghost use lib.Dec.{leb, ltb};
 ghost use lib.ListN.{drop};
-ghost use Rattle.limits.specs.Limits.{mostItems, mostPins};
+ghost use Rattle.limits.specs.Limits.{depthRoom, mostItems, mostPins};
+ghost use Rattle.limits.specs.Courses.{Offered};
 ghost use Rattle.net_model.specs.Tables.{bit};
-ghost use Rattle.net_bytes.specs.Walk.{fromBytes, tableByte};
-ghost use Rattle.net_fields.specs.Fields.{allowedOf, refusalOf, earlyOf, fieldByte};
+ghost use Rattle.net_bytes.specs.Reading.{between, check, number};
+ghost use Rattle.net_bytes.specs.Walk.{fromBytes, netNumber, tableByte};
+ghost use Rattle.net_fields.specs.Fields.{allowedOf, refusalOf, earlyOf, fieldByte, allowedNumber, numberRefusal, numberEarly, fieldNumber};
 ghost use Rattle.net_fields.specs.Verdicts.{outcome};
-ghost use Rattle.net_fields.specs.ItemsRead.{ItemsRead, TableBytes, Count};
+ghost use Rattle.net_fields.specs.ItemsRead.{ItemsRead, NumberRead, NumbersRead, TableBytes, Count};
 
 // How the walk ended: the record was read, or it was refused with this number.
 pub enum Verdict {
@@ -26,33 +30,37 @@ pub enum Verdict {
     Refused(u8),
 }
 
-// What may stand at a place of a net record.
+// What a byte of a net record may be.
 pub enum NetField {
     Inputs,
-    Gates,
     Outputs,
     PinMap,
     RegisterMap,
-    Source,
     Count,
     Table,
     OutputMap,
 }
 
-// What may stand at a place of a cover record. A root has the least one allowed.
-pub enum CoverField {
+// What a number of a net record or of a cover record may be. A root has the least one allowed.
+pub enum NumberField {
+    Gates,
+    Source,
     Period,
     Luts,
     Root(usize),
-    Size,
-    Map,
     Leaf,
     Depth,
     Lag,
+}
+
+// What a byte of a cover record may be.
+pub enum CoverField {
+    Size,
+    Map,
     Table,
 }
 
-// What may stand at a place of a record.
+// What a byte of a record may be.
 pub enum Field {
     Net(NetField),
     Cover(CoverField),
@@ -72,6 +80,20 @@ pub struct Items {
     pub values: [u8; ITEMS],
 }
 
+// One number as read, and the place behind it.
+pub struct Numeral {
+    pub verdict: Verdict,
+    pub at: usize,
+    pub value: usize,
+}
+
+// At most ITEMS numbers of one field, and the place behind them; the values that are not read are 0.
+pub struct Numerals {
+    pub verdict: Verdict,
+    pub at: usize,
+    pub values: [usize; ITEMS],
+}
+
 // The number of pins of a pin map, and of count bytes of a register map.
 pub fn ones_of(map: u8) -> u32
     ensures { λ r. ⌜ r ≡ ones map ⌝ }
@@ -79,18 +101,14 @@ pub fn ones_of(map: u8) -> u32
     u8::count_ones(map)
 }
 
-// Whether a byte may stand in a field of a net. The limit is the pin map for a register map, the number of nodes for a source and the
-// number of pins for a table; no other field looks at it.
+// Whether a byte may stand in a field of a net. The limit is the pin map for a register map and the number of pins for a table; no other
+// field looks at it.
 fn net_allowed(field: NetField, byte: u8, limit: usize) -> bool
     ensures { λ r. ⌜ r ≡ allowedOf (Field.Net field) limit byte ⌝ }
 {
     match field {
         NetField::Inputs => match byte {
             1..=INPUTS_BYTE => true,
-            _ => false,
-        },
-        NetField::Gates => match byte {
-            1..=GATES_BYTE => true,
             _ => false,
         },
         NetField::Outputs => match byte {
@@ -102,7 +120,6 @@ fn net_allowed(field: NetField, byte: u8, limit: usize) -> bool
             _ => false,
         },
         NetField::RegisterMap => within(byte, limit),
-        NetField::Source => wide(byte) < limit,
         NetField::Count => match byte {
             1..=COUNT_BYTE => true,
             _ => false,
@@ -115,32 +132,17 @@ fn net_allowed(field: NetField, byte: u8, limit: usize) -> bool
     }
 }
 
-// Whether a byte may stand in a field of a cover. The limit is the number of nodes for a root and a leaf, k for a size, 2 to the number of
-// leaves for a map and the number of leaves for a table; no other field looks at it.
+// Whether a byte may stand in a field of a cover. The limit is k for a size, 2 to the number of leaves for a map and the number of leaves
+// for a table.
 fn cover_allowed(field: CoverField, byte: u8, limit: usize) -> bool
     ensures { λ r. ⌜ r ≡ allowedOf (Field.Cover field) limit byte ⌝ }
 {
     match field {
-        CoverField::Period => match byte {
-            1..=PERIOD_BYTE => true,
-            _ => false,
-        },
-        CoverField::Luts => match byte {
-            1..=LUTS_BYTE => true,
-            _ => false,
-        },
-        CoverField::Root(least) => gate(byte, least, limit),
         CoverField::Size => match byte {
             0 => false,
             _ => wide(byte) <= limit,
         },
         CoverField::Map => leaf_map(byte, limit),
-        CoverField::Leaf => wide(byte) < limit,
-        CoverField::Depth => true,
-        CoverField::Lag => match byte {
-            0 => false,
-            _ => true,
-        },
         CoverField::Table => table_byte(limit, byte),
     }
 }
@@ -163,15 +165,14 @@ fn within(map: u8, whole: usize) -> bool
     m & whole == m
 }
 
-// Whether a byte is a gate that is at least so high.
-fn gate(byte: u8, least: usize, nodes: usize) -> bool
-    ensures { λ r. ⌜ r ≡ (leb least byte && ltb byte nodes) ⌝ }
+// Whether a number is a gate that is at least so high.
+fn gate(value: usize, least: usize, nodes: usize) -> bool
+    ensures { λ r. ⌜ r ≡ (leb least value && ltb value nodes) ⌝ }
 {
-    let b = wide(byte);
-    if b < least {
+    if value < least {
         return false;
     }
-    b < nodes
+    value < nodes
 }
 
 // Whether a map byte has no bit 7 and its leaf bits are below the limit.
@@ -211,11 +212,9 @@ fn net_refusal(field: NetField) -> u8
 {
     match field {
         NetField::Inputs => 5,
-        NetField::Gates => 5,
         NetField::Outputs => 5,
         NetField::PinMap => 6,
         NetField::RegisterMap => 6,
-        NetField::Source => 6,
         NetField::Count => 6,
         NetField::Table => 6,
         NetField::OutputMap => 6,
@@ -292,6 +291,205 @@ pub fn read_items(bytes: &[u8], at: usize, n: usize, field: Field, limit: usize)
         i += 1;
     }
     Items {
+        verdict: Verdict::Read,
+        at: next,
+        values: values,
+    }
+}
+
+// Whether a number may stand in a field. The limit is the number of nodes for a source, a root and a leaf; no other field looks at it.
+fn number_allowed(field: NumberField, value: usize, limit: usize) -> bool
+    ensures { λ r. ⌜ r ≡ allowedNumber field limit value ⌝ }
+{
+    match field {
+        NumberField::Gates => match value {
+            1..=GATES => true,
+            _ => false,
+        },
+        NumberField::Source => value < limit,
+        NumberField::Period => match value {
+            1..=PERIOD_NUMBER => true,
+            _ => false,
+        },
+        NumberField::Luts => match value {
+            1..=LUTS => true,
+            _ => false,
+        },
+        NumberField::Root(least) => gate(value, least, limit),
+        NumberField::Leaf => value < limit,
+        NumberField::Depth => match value {
+            0 => false,
+            _ => true,
+        },
+        NumberField::Lag => match value {
+            0 => false,
+            _ => true,
+        },
+    }
+}
+
+// The number of the refusal where a number may not stand in a field.
+fn number_refusal(field: NumberField) -> u8
+    ensures { λ r. ⌜ r ≡ numberRefusal field ⌝ }
+{
+    match field {
+        NumberField::Gates => 5,
+        NumberField::Source => 6,
+        NumberField::Period => 13,
+        NumberField::Luts => 13,
+        NumberField::Root(_) => 13,
+        NumberField::Leaf => 13,
+        NumberField::Depth => 13,
+        NumberField::Lag => 13,
+    }
+}
+
+// The number of the refusal where the bytes end before a number or in it.
+fn number_early(field: NumberField) -> u8
+    ensures { λ r. ⌜ r ≡ numberEarly field ⌝ }
+{
+    match field {
+        NumberField::Gates => 4,
+        NumberField::Source => 4,
+        NumberField::Period => 13,
+        NumberField::Luts => 13,
+        NumberField::Root(_) => 13,
+        NumberField::Leaf => 13,
+        NumberField::Depth => 13,
+        NumberField::Lag => 13,
+    }
+}
+
+// The kind of G under these rules.
+pub fn gates_field(rules: Rules) -> NumberField
+    requires { ⌜ Offered rules ⌝ }
+    ensures { λ r. ⌜ ((two : Bool) (limit : ℕ) → fieldNumber two r limit ≡ netNumber two 5 (between 1 (rules .gates))) ⌝ }
+{
+    NumberField::Gates
+}
+
+// The kind of a record's period under these rules.
+pub fn period_field(rules: Rules) -> NumberField
+    requires { ⌜ Offered rules ⌝ }
+    ensures { λ r. ⌜ ((two : Bool) (limit : ℕ) → fieldNumber two r limit ≡ number two 13 13 (between 1 (rules .period))) ⌝ }
+{
+    NumberField::Period
+}
+
+// The kind of a record's LUT count under these rules.
+pub fn luts_field(rules: Rules) -> NumberField
+    requires { ⌜ Offered rules ⌝ }
+    ensures { λ r. ⌜ ((two : Bool) (limit : ℕ) → fieldNumber two r limit ≡ number two 13 13 (between 1 (rules .luts))) ⌝ }
+{
+    NumberField::Luts
+}
+
+fn no_number(n: u8) -> Numeral
+    ensures { λ r. ⌜ (r .verdict ≡ Verdict.Refused n) × (r .value ≡ 0) ⌝ }
+{
+    Numeral {
+        verdict: Verdict::Refused(n),
+        at: 0,
+        value: 0,
+    }
+}
+
+// A number behind its last byte, tested.
+fn tested(field: NumberField, value: usize, limit: usize, behind: usize) -> Numeral
+    ensures same { λ r. ⌜ ((s : List ℕ) → check (allowedNumber field limit value) (numberRefusal field) value (drop behind s) ≡ outcome (r .verdict) (r .value) (drop (r .at) s)) ⌝ }
+    ensures small { λ r. ⌜ r .value ≤ value ⌝ }
+{
+    if number_allowed(field, value, limit) {
+        Numeral {
+            verdict: Verdict::Read,
+            at: behind,
+            value: value,
+        }
+    } else {
+        no_number(number_refusal(field))
+    }
+}
+
+// A byte as a number.
+fn single(low: u8) -> usize
+    ensures { λ r. ⌜ (r ≡ low) × (r < 256) ⌝ }
+{
+    wide(low)
+}
+
+// Two bytes as a number, low first.
+fn paired(low: u8, high: u8) -> usize
+    ensures { λ r. ⌜ (r ≡ low + 256 * high) × (r < depthRoom) ⌝ }
+{
+    wide(low) + 256 * wide(high)
+}
+
+// The number of one byte at a place.
+fn read_one(bytes: &[u8], at: usize, field: NumberField, limit: usize) -> Numeral
+    ensures { λ r. ⌜ NumberRead false (now (bytes .entry)) at field limit r ⌝ }
+{
+    if bytes.len() <= at {
+        return no_number(number_early(field));
+    }
+    let value = single(bytes[at]);
+    tested(field, value, limit, at + 1)
+}
+
+// The number of two bytes at a place.
+fn read_two(bytes: &[u8], at: usize, field: NumberField, limit: usize) -> Numeral
+    ensures { λ r. ⌜ NumberRead true (now (bytes .entry)) at field limit r ⌝ }
+{
+    if bytes.len() <= at {
+        return no_number(number_early(field));
+    }
+    let second = at + 1;
+    if bytes.len() <= second {
+        return no_number(number_early(field));
+    }
+    let value = paired(bytes[at], bytes[second]);
+    tested(field, value, limit, second + 1)
+}
+
+// The number at a place, of one byte or of two: refused where the bytes end, or where it may not stand in the field.
+pub fn read_number(bytes: &[u8], at: usize, field: NumberField, limit: usize, two: bool) -> Numeral
+    ensures { λ r. ⌜ NumberRead two (now (bytes .entry)) at field limit r ⌝ }
+{
+    if two {
+        return read_two(bytes, at, field, limit);
+    }
+    read_one(bytes, at, field, limit)
+}
+
+// The next n numbers, each of one field; the first refusal ends it.
+pub fn read_numbers(
+    bytes: &[u8],
+    at: usize,
+    n: usize,
+    field: NumberField,
+    limit: usize,
+    two: bool,
+) -> Numerals
+    requires { ⌜ n ≤ mostItems ⌝ }
+    ensures { λ r. ⌜ NumbersRead two (now (bytes .entry)) at n field limit r ⌝ }
+{
+    let mut values = [0usize; ITEMS];
+    let mut next = at;
+    let mut i = 0;
+    while i < n {
+        let number = read_number(bytes, next, field, limit, two);
+        let v = number.verdict;
+        if let Verdict::Refused(m) = v {
+            return Numerals {
+                verdict: Verdict::Refused(m),
+                at: next,
+                values: values,
+            };
+        }
+        values[i] = number.value;
+        next = number.at;
+        i += 1;
+    }
+    Numerals {
         verdict: Verdict::Read,
         at: next,
         values: values,

@@ -1,111 +1,130 @@
--- Laws of reading the three numbers and the whole net, one for each way out.
-use mathlib.Core.Path.{_≡_, sym, ap, ap₂, _∙_}
+-- Laws of reading the head, the numbers of the body and the whole net, one for each way out.
+use mathlib.Core.Path.{_≡_, refl, sym, ap, ap₂, _∙_}
 use mathlib.Core.List.{List, []}
 use Prim.Native.Nat.{ℕ, _+_, _≤_, _<_}
 use native.Mathlib.Omega.{arith}
 use lib.ListN.{length, drop}
-use Rattle.limits.specs.Limits.{mostGates, mostInputs, mostOutputs}
-use Rattle.net_model.specs.Net.{Gate}
+use Rattle.limits.specs.Limits.{mostOutputs}
+use Rattle.limits.specs.Courses.{Offered}
+use Rattle.limits.specs.CourseLaws.{offered-within}
+use Rattle.limits.specs.declared.Rules.{Rules}
+use Rattle.net_model.specs.Net.{Net, Gate, Pin}
 use Rattle.net_model.specs.Arrays.{netIn, gatesIn}
 use Rattle.net_bytes.specs.Reading.{andThen, times, atEnd, between, got, refused}
-use Rattle.net_bytes.specs.Walk.{netReader, outputReader}
-use Rattle.net_bytes.specs.Readers.{then-goes, then-stops, byte-got}
+use Rattle.net_bytes.specs.Walk.{netReader, headReader, bodyReader, outputReader, netNumber}
+use Rattle.net_bytes.specs.Readers.{then-goes, then-stops, byte-got, number-got}
 use Rattle.net_bytes.specs.Sound.{between-true}
-use Rattle.net_bytes.specs.Stages.{fromInputs, fromGates, fromSizes, fromGateList, fromOutputList, net-stages}
-use Rattle.net_fields.specs.declared.Field.the-variants.{Net}
-use Rattle.net_fields.specs.declared.NetField.the-variants.{Inputs, Gates, Outputs}
+use Rattle.net_bytes.specs.Stages.{fromInputs, fromGates, fromSizes, fromGateList, fromOutputList, body-stages, net-stages}
+use Rattle.net_fields.specs.declared.Field.the-variants.{Net as OfNet}
+use Rattle.net_fields.specs.declared.NetField.the-variants.{Outputs}
+use Rattle.net_fields.specs.declared.Verdict.{Verdict}
 use Rattle.net_fields.specs.declared.Verdict.the-variants.{Read, Refused}
 use Rattle.net_fields.specs.Fields.{fieldByte}
 use Rattle.net_fields.specs.FieldLaws.{went, stopped, onward-stopping, end-done, end-over}
+use Rattle.net_fields.specs.Verdicts.{outcome}
 use Rattle.net_reader.specs.declared.Wiring.{Wiring}
-use Rattle.net_reader.specs.declared.NetHead.{NetHead}
+use Rattle.net_reader.specs.declared.BodySizes.{BodySizes}
 use Rattle.net_reader.specs.declared.Part.{Part}
 use Rattle.net_reader.specs.ReadAnswer.{arraysOf}
-use Rattle.net_reader.specs.NetStored.{gatesOf, outputsOf, GatesRead, OutputsRead, SizesRead}
+use Rattle.net_reader.specs.NetStored.{gatesOf, outputsOf, GatesRead, OutputsRead, SizesRead, BodyRead}
 
-module _ (s : List ℕ) where
-  stop-sizes : {n : ℕ} (r : NetHead) → ((k : ℕ) → netReader k s ≡ refused n)
-      → (r .verdict ≡ Refused n) × (r .inputs ≡ 0) × (r .gates ≡ 0) × (r .outputs ≡ 0) → SizesRead s r
+-- the numbers of the body, where G is tested as the rules say
+module _ (R : Rules) (s : List ℕ) (at : ℕ) where
+  stop-sizes : {n : ℕ} (r : BodySizes) → ((k i : ℕ) → bodyReader R k i (drop at s) ≡ refused n)
+      → (r .verdict ≡ Refused n) × (r .gates ≡ 0) × (r .outputs ≡ 0) → SizesRead R s at r
   stop-sizes r e v =
-      let i = v .1 in
-      let g = v .2 in
-      let o = v .3 in
+      let g = v .1 in
+      let o = v .2 in
       record {
-        result = λ k. onward-stopping (fromSizes k (r .inputs) (r .gates) (r .outputs) (drop (r .at) s)) (e k) (v .0);
-        inputs = omega arith;
+        result = λ k i. onward-stopping (fromSizes (R .wide) k i (r .gates) (r .outputs) (drop (r .at) s)) (e k i) (v .0);
         gates = omega arith;
         outputs = omega arith;
       }
 
-  pub inputs-stop : {n : ℕ} (r : NetHead) → fieldByte (Net Inputs) 0 s ≡ refused n
-      → (r .verdict ≡ Refused n) × (r .inputs ≡ 0) × (r .gates ≡ 0) × (r .outputs ≡ 0) → SizesRead s r
-  inputs-stop r e v = stop-sizes r (λ k. net-stages k s ∙ then-stops (fromInputs k) e) v
+  pub gates-number-stops : {n : ℕ} (r : BodySizes) → netNumber (R .wide) 5 (between 1 (R .gates)) (drop at s) ≡ refused n
+      → (r .verdict ≡ Refused n) × (r .gates ≡ 0) × (r .outputs ≡ 0) → SizesRead R s at r
+  gates-number-stops r e v = stop-sizes r (λ k i. body-stages R k i (drop at s) ∙ then-stops (fromGates (R .wide) k i) e) v
 
-  module _ (i : ℕ) (t : List ℕ) (e : fieldByte (Net Inputs) 0 s ≡ got i t) where
-    pub gates-number-stops : {n : ℕ} (r : NetHead) → fieldByte (Net Gates) 0 t ≡ refused n
-        → (r .verdict ≡ Refused n) × (r .inputs ≡ 0) × (r .gates ≡ 0) × (r .outputs ≡ 0) → SizesRead s r
-    gates-number-stops r f v = stop-sizes r (λ k. net-stages k s ∙ then-goes (fromInputs k) e ∙ then-stops (fromGates k i) f) v
+  module _ (g : ℕ) (t : List ℕ) (e : netNumber (R .wide) 5 (between 1 (R .gates)) (drop at s) ≡ got g t) where
+    pub outputs-number-stops : {n : ℕ} (r : BodySizes) → fieldByte (OfNet Outputs) 0 t ≡ refused n
+        → (r .verdict ≡ Refused n) × (r .gates ≡ 0) × (r .outputs ≡ 0) → SizesRead R s at r
+    outputs-number-stops r f v =
+        stop-sizes r (λ k i. body-stages R k i (drop at s) ∙ then-goes (fromGates (R .wide) k i) e ∙ then-stops (fromSizes (R .wide) k i g) f) v
 
-    module _ (g : ℕ) (u : List ℕ) (f : fieldByte (Net Gates) 0 t ≡ got g u) where
-      pub outputs-number-stops : {n : ℕ} (r : NetHead) → fieldByte (Net Outputs) 0 u ≡ refused n
-          → (r .verdict ≡ Refused n) × (r .inputs ≡ 0) × (r .gates ≡ 0) × (r .outputs ≡ 0) → SizesRead s r
-      outputs-number-stops r h v =
-          stop-sizes r (λ k. net-stages k s ∙ then-goes (fromInputs k) e ∙ then-goes (fromGates k i) f ∙ then-stops (fromSizes k i g) h) v
-
-      pub sizes-go : (o at : ℕ) → fieldByte (Net Outputs) 0 u ≡ got o (drop at s) → SizesRead s (record { verdict = Read; at = at; inputs = i; gates = g; outputs = o })
-      sizes-go o at h = record {
-        result = λ k. net-stages k s ∙ then-goes (fromInputs k) e ∙ then-goes (fromGates k i) f ∙ then-goes (fromSizes k i g) h;
-        inputs = between-true 1 mostInputs i (byte-got 4 5 (between 1 mostInputs) s i t e) .1;
-        gates = between-true 1 mostGates g (byte-got 4 5 (between 1 mostGates) t g u f) .1;
-        outputs = between-true 1 mostOutputs o (byte-got 4 5 (between 1 mostOutputs) u o (drop at s) h) .1;
-      }
+    pub sizes-go : Offered R → (o behind : ℕ) → fieldByte (OfNet Outputs) 0 t ≡ got o (drop behind s)
+        → SizesRead R s at (record { verdict = Read; at = behind; gates = g; outputs = o })
+    sizes-go offered o behind f =
+        let few = between-true 1 (R .gates) g (number-got (R .wide) 4 5 (between 1 (R .gates)) (drop at s) g t e) .1 in
+        let most = offered-within offered .gates in
+        record {
+          result = λ k i. body-stages R k i (drop at s) ∙ then-goes (fromGates (R .wide) k i) e ∙ then-goes (fromSizes (R .wide) k i g) f;
+          gates = omega arith;
+          outputs = between-true 1 mostOutputs o (byte-got 4 5 (between 1 mostOutputs) t o (drop behind s) f) .1;
+        }
 
 -- the arrays have the three numbers
-pub start-net : (k : ℕ) (s : List ℕ) (i g o : ℕ) (t : List ℕ) (w : Wiring) → netReader k s ≡ fromSizes k i g o t → w .inputs ≡ i → w .gates ≡ g → w .outputs ≡ o
-    → netReader k s ≡ fromSizes k (w .inputs) (w .gates) (w .outputs) t
-start-net k s i g o t w e ei eg eo =
-    e ∙ ap (λ (x : ℕ). fromSizes k x g o t) (sym ei) ∙ ap₂ (λ (x y : ℕ). fromSizes k (w .inputs) x y t) (sym eg) (sym eo)
+pub start-body : (R : Rules) (k i g o : ℕ) (s t : List ℕ) (w : Wiring) → bodyReader R k i s ≡ fromSizes (R .wide) k i g o t → w .inputs ≡ i → w .gates ≡ g → w .outputs ≡ o
+    → bodyReader R k i s ≡ fromSizes (R .wide) k (w .inputs) (w .gates) (w .outputs) t
+start-body R k i g o s t w e ei eg eo =
+    e ∙ ap (λ (x : ℕ). fromSizes (R .wide) k x g o t) (sym ei) ∙ ap₂ (λ (x y : ℕ). fromSizes (R .wide) k (w .inputs) x y t) (sym eg) (sym eo)
 
--- the whole net, from the arrays with its three numbers
-module _ (k : ℕ) (s : List ℕ) (at : ℕ) (w : Wiring) (e : netReader k s ≡ fromSizes k (w .inputs) (w .gates) (w .outputs) (drop at s)) (y : Part) (gr : GatesRead s at k w y) where
-  pub gates-refused : {n : ℕ} → y .verdict ≡ Refused n → netReader k s ≡ refused n
+-- the whole body, from the arrays with its three numbers
+module _ (R : Rules) (k i : ℕ) (s : List ℕ) (start at : ℕ) (w : Wiring)
+    (e : bodyReader R k i (drop start s) ≡ fromSizes (R .wide) k (w .inputs) (w .gates) (w .outputs) (drop at s)) (y : Part) (gr : GatesRead (R .wide) s at k w y) where
+  pub gates-refused : {n : ℕ} → y .verdict ≡ Refused n → bodyReader R k i (drop start s) ≡ refused n
   gates-refused v =
-      e ∙ then-stops (fromGateList (w .inputs) (w .gates) (w .outputs)) (stopped (gatesOf (y .net) (w .gates)) (drop (y .at) s) (gr .result) v)
+      e ∙ then-stops (fromGateList (R .wide) (w .inputs) (w .gates) (w .outputs)) (stopped (gatesOf (y .net) (w .gates)) (drop (y .at) s) (gr .result) v)
 
-  module _ (v : y .verdict ≡ Read) (x : Part) (or : OutputsRead s (y .at) (y .net) x) where
-    gates-read : netReader k s ≡ andThen (times (y .net .outputs) (outputReader (y .net .inputs + y .net .gates)) (drop (y .at) s))
+  module _ (v : y .verdict ≡ Read) (x : Part) (or : OutputsRead (R .wide) s (y .at) (y .net) x) where
+    gates-read : bodyReader R k i (drop start s) ≡ andThen (times (y .net .outputs) (outputReader (R .wide) (y .net .inputs + y .net .gates)) (drop (y .at) s))
         (fromOutputList (y .net .inputs) (gatesOf (y .net) (y .net .gates)))
     gates-read =
-        e ∙ then-goes (fromGateList (w .inputs) (w .gates) (w .outputs)) (went (gatesOf (y .net) (w .gates)) (drop (y .at) s) (gr .result) v)
-        ∙ ap (λ (i : ℕ). andThen (times (w .outputs) (outputReader (i + w .gates)) (drop (y .at) s)) (fromOutputList i (gatesOf (y .net) (w .gates)))) (sym (gr .same .inputs))
-        ∙ ap₂ (λ (g o : ℕ). andThen (times o (outputReader (y .net .inputs + g)) (drop (y .at) s)) (fromOutputList (y .net .inputs) (gatesOf (y .net) g)))
-        (sym (gr .same .gates)) (sym (gr .same .outputs))
+        let out : ℕ → ℕ → ℕ → _ = λ i g o. andThen (times o (outputReader (R .wide) (i + g)) (drop (y .at) s)) (fromOutputList i (gatesOf (y .net) g)) in
+        e ∙ then-goes (fromGateList (R .wide) (w .inputs) (w .gates) (w .outputs)) (went (gatesOf (y .net) (w .gates)) (drop (y .at) s) (gr .result) v)
+        ∙ ap (λ (i : ℕ). out i (w .gates) (w .outputs)) (sym (gr .same .inputs)) ∙ ap₂ (out (y .net .inputs)) (sym (gr .same .gates)) (sym (gr .same .outputs))
 
-    pub outputs-refused : {n : ℕ} → x .verdict ≡ Refused n → netReader k s ≡ refused n
-    outputs-refused r =
-        gates-read
-        ∙ then-stops (fromOutputList (y .net .inputs) (gatesOf (y .net) (y .net .gates))) (stopped (outputsOf (x .net) (y .net .outputs)) (drop (x .at) s) (or .result) r)
+    -- the arrays hold the gates that were read first
+    same-gates : gatesOf (y .net) (y .net .gates) ≡ gatesOf (x .net) (x .net .gates)
+    same-gates =
+        let q = or .kept in
+        ap₂ (λ (a : List ℕ) (b : List ℕ). gatesIn a b (y .net .counts) (y .net .tables) 0 (y .net .gates)) (sym (q .pins)) (sym (q .sources))
+        ∙ ap₂ (λ (a : List ℕ) (b : List ℕ). gatesIn (x .net .pins) (x .net .sources) a b 0 (y .net .gates)) (sym (q .counts)) (sym (q .tables))
+        ∙ ap (gatesOf (x .net)) (sym (q .same .gates))
 
-    module _ (r : x .verdict ≡ Read) where
-      -- the arrays hold the gates that were read first
-      same-gates : gatesOf (y .net) (y .net .gates) ≡ gatesOf (x .net) (x .net .gates)
-      same-gates =
-          let q = or .kept in
-          ap₂ (λ (a : List ℕ) (b : List ℕ). gatesIn a b (y .net .counts) (y .net .tables) 0 (y .net .gates)) (sym (q .pins)) (sym (q .sources))
-          ∙ ap₂ (λ (a : List ℕ) (b : List ℕ). gatesIn (x .net .pins) (x .net .sources) a b 0 (y .net .gates)) (sym (q .counts)) (sym (q .tables))
-          ∙ ap (gatesOf (x .net)) (sym (q .same .gates))
+    same-net : record { inputs = y .net .inputs; gates = gatesOf (y .net) (y .net .gates); outputs = outputsOf (x .net) (y .net .outputs) } ≡ netIn (arraysOf (x .net))
+    unfolding netIn
+    same-net =
+        let q = or .kept .same in
+        ap₂ (λ (i : ℕ) (g : List Gate). record { inputs = i; gates = g; outputs = outputsOf (x .net) (y .net .outputs) }) (sym (q .inputs)) same-gates
+        ∙ ap (λ (o : ℕ). record { inputs = x .net .inputs; gates = gatesOf (x .net) (x .net .gates); outputs = outputsOf (x .net) o }) (sym (q .outputs))
 
-      outputs-read : netReader k s ≡ atEnd 8 (netIn (arraysOf (x .net))) (drop (x .at) s)
-      unfolding netIn
-      outputs-read =
-          let q = or .kept .same in
-          gates-read
-          ∙ then-goes (fromOutputList (y .net .inputs) (gatesOf (y .net) (y .net .gates))) (went (outputsOf (x .net) (y .net .outputs)) (drop (x .at) s) (or .result) r)
-          ∙ ap₂ (λ (i : ℕ) (g : List Gate). atEnd 8 (record { inputs = i; gates = g; outputs = outputsOf (x .net) (y .net .outputs) }) (drop (x .at) s)) (sym (q .inputs)) same-gates
-          ∙ ap (λ (o : ℕ). atEnd 8 (record { inputs = x .net .inputs; gates = gatesOf (x .net) (x .net .gates); outputs = outputsOf (x .net) o }) (drop (x .at) s)) (sym (q .outputs))
+    listed : (i : ℕ) (gs : List Gate) (os : List Pin) (v : Verdict) (t : List ℕ)
+        → andThen (outcome v os t) (fromOutputList i gs) ≡ outcome v (record { inputs = i; gates = gs; outputs = os }) t
+    listed i gs os Read t = refl
+    listed i gs os (Refused n) t = refl
 
-      pub bytes-over : x .at < length s → netReader k s ≡ refused 8
-      bytes-over h = outputs-read ∙ end-over 8 (netIn (arraysOf (x .net))) s (x .at) h
+    pub body-read : BodyRead R s start k i x
+    body-read =
+        let gs : List Gate = gatesOf (y .net) (y .net .gates) in
+        gates-read ∙ ap (λ r. andThen r (fromOutputList (y .net .inputs) gs)) (or .result)
+        ∙ listed (y .net .inputs) gs (outputsOf (x .net) (y .net .outputs)) (x .verdict) (drop (x .at) s)
+        ∙ ap (λ (N : Net). outcome (x .verdict) N (drop (x .at) s)) same-net
 
-      pub net-read : length s ≤ x .at → netReader k s ≡ got (netIn (arraysOf (x .net))) []
-      net-read h = outputs-read ∙ end-done 8 (netIn (arraysOf (x .net))) s (x .at) h
+-- the whole net, behind its head
+module _ (R : Rules) (k : ℕ) (s : List ℕ) where
+  pub head-stops : {n : ℕ} → headReader s ≡ refused n → netReader R k s ≡ refused n
+  head-stops e = net-stages R k s ∙ then-stops (fromInputs R k) e
+
+  module _ (i at : ℕ) (e : headReader s ≡ got i (drop at s)) where
+    pub body-stops : {n : ℕ} → bodyReader R k i (drop at s) ≡ refused n → netReader R k s ≡ refused n
+    body-stops f = net-stages R k s ∙ then-goes (fromInputs R k) e ∙ then-stops (atEnd 8) f
+
+    module _ (N : Net) (behind : ℕ) (f : bodyReader R k i (drop at s) ≡ got N (drop behind s)) where
+      body-goes : netReader R k s ≡ atEnd 8 N (drop behind s)
+      body-goes = net-stages R k s ∙ then-goes (fromInputs R k) e ∙ then-goes (atEnd 8) f
+
+      pub bytes-over : behind < length s → netReader R k s ≡ refused 8
+      bytes-over h = body-goes ∙ end-over 8 N s behind h
+
+      pub net-read : length s ≤ behind → netReader R k s ≡ got N []
+      net-read h = body-goes ∙ end-done 8 N s behind h

@@ -1,5 +1,6 @@
 -- Laws of storing gates and outputs in the arrays, one after the other.
 use mathlib.Core.Path.{_≡_, refl, sym, ap, ap₂, _∙_}
+use mathlib.Core.Bool.{Bool}
 use mathlib.Core.List.{List, [], _∷_, _++_, append-nil}
 use Prim.Native.Nat.{ℕ, _+_, _-_, _*_, _≤_, _<_, zero-le}
 use native.Mathlib.Nat.{zero-add}
@@ -124,29 +125,29 @@ module _ (w : Wiring) (g : ℕ) (row : GateRow) (z : Wiring) (so : PinsStored w 
       }
 
 -- g of the gates are read and stored
-pub record GatesSoFar (s : List ℕ) (at k : ℕ) (w z : Wiring) (next g : ℕ) : Type 0 where
-  pub result : times (w .gates) (gateReader k (w .inputs + w .gates)) (drop at s)
-      ≡ behind (gatesOf z g) (times (w .gates - g) (gateReader k (w .inputs + w .gates)) (drop next s))
+pub record GatesSoFar (wide : Bool) (s : List ℕ) (at k : ℕ) (w z : Wiring) (next g : ℕ) : Type 0 where
+  pub result : times (w .gates) (gateReader wide k (w .inputs + w .gates)) (drop at s)
+      ≡ behind (gatesOf z g) (times (w .gates - g) (gateReader wide k (w .inputs + w .gates)) (drop next s))
   pub most : g ≤ w .gates
   pub same : Same w z
   pub few : narrow z g
 
-module _ (s : List ℕ) (at k : ℕ) (w : Wiring) where
-  pub gates-none : GatesSoFar s at k w w at 0
+module _ (wide : Bool) (s : List ℕ) (at k : ℕ) (w : Wiring) where
+  pub gates-none : GatesSoFar wide s at k w w at 0
   unfolding gatesIn
   gates-none = record {
-    result = turn-none (w .gates) (gateReader k (w .inputs + w .gates)) (drop at s);
+    result = turn-none (w .gates) (gateReader wide k (w .inputs + w .gates)) (drop at s);
     most = zero-le;
     same = same-refl w;
     few = λ i h. absurd (omega arith);
   }
 
-  module _ (z : Wiring) (next g : ℕ) (so : GatesSoFar s at k w z next g) where
+  module _ (z : Wiring) (next g : ℕ) (so : GatesSoFar wide s at k w z next g) where
     pub gates-one : (row : GateRow) (y : Wiring) → g < w .gates
-        → gateReader k (w .inputs + w .gates) (drop next s) ≡ outcome (row .verdict) (rowGate row) (drop (row .at) s) → row .verdict ≡ Read → GateStored z g row y
-        → GatesSoFar s at k w y (row .at) (g + 1)
+        → gateReader wide k (w .inputs + w .gates) (drop next s) ≡ outcome (row .verdict) (rowGate row) (drop (row .at) s) → row .verdict ≡ Read → GateStored z g row y
+        → GatesSoFar wide s at k w y (row .at) (g + 1)
     gates-one row y h e r st = record {
-      result = turn-one (w .gates) g (gatesOf z g) (gateReader k (w .inputs + w .gates)) (drop next s) (so .result) (rowGate row) (drop (row .at) s)
+      result = turn-one (w .gates) g (gatesOf z g) (gateReader wide k (w .inputs + w .gates)) (drop next s) (so .result) (rowGate row) (drop (row .at) s)
           (gatesOf y (g + 1)) h (went (rowGate row) (drop (row .at) s) e r) (st .gates);
       most = omega arith;
       same = same-trans (so .same) (st .same);
@@ -154,44 +155,44 @@ module _ (s : List ℕ) (at k : ℕ) (w : Wiring) where
     }
 
     pub gates-stop : {n : ℕ} (row : GateRow) → g < w .gates
-        → gateReader k (w .inputs + w .gates) (drop next s) ≡ outcome (row .verdict) (rowGate row) (drop (row .at) s) → row .verdict ≡ Refused n
-        → times (w .gates) (gateReader k (w .inputs + w .gates)) (drop at s) ≡ refused n
+        → gateReader wide k (w .inputs + w .gates) (drop next s) ≡ outcome (row .verdict) (rowGate row) (drop (row .at) s) → row .verdict ≡ Refused n
+        → times (w .gates) (gateReader wide k (w .inputs + w .gates)) (drop at s) ≡ refused n
     gates-stop row h e r =
-        turn-stops (w .gates) g (gatesOf z g) (gateReader k (w .inputs + w .gates)) (drop next s) (so .result) h (stopped (rowGate row) (drop (row .at) s) e r)
+        turn-stops (w .gates) g (gatesOf z g) (gateReader wide k (w .inputs + w .gates)) (drop next s) (so .result) h (stopped (rowGate row) (drop (row .at) s) e r)
 
-    pub gates-all : w .gates ≤ g → times (w .gates) (gateReader k (w .inputs + w .gates)) (drop at s) ≡ got (gatesOf z (w .gates)) (drop next s)
+    pub gates-all : w .gates ≤ g → times (w .gates) (gateReader wide k (w .inputs + w .gates)) (drop at s) ≡ got (gatesOf z (w .gates)) (drop next s)
     gates-all h =
         let most = so .most in
         let end : g ≡ w .gates = omega arith in
-        turn-ends (w .gates) g (gatesOf z g) (gateReader k (w .inputs + w .gates)) (drop next s) (so .result) h ∙ ap (λ (n : ℕ). got (gatesOf z n) (drop next s)) end
+        turn-ends (w .gates) g (gatesOf z g) (gateReader wide k (w .inputs + w .gates)) (drop next s) (so .result) h ∙ ap (λ (n : ℕ). got (gatesOf z n) (drop next s)) end
 
 pub kept-refl : (w : Wiring) → Kept w w
 kept-refl w = record { same = same-refl w; pins = refl; sources = refl; counts = refl; tables = refl }
 
 -- o of the outputs are read and stored
-pub record OutputsSoFar (s : List ℕ) (at : ℕ) (w z : Wiring) (next o : ℕ) : Type 0 where
-  pub result : times (w .outputs) (outputReader (w .inputs + w .gates)) (drop at s)
-      ≡ behind (outputsOf z o) (times (w .outputs - o) (outputReader (w .inputs + w .gates)) (drop next s))
+pub record OutputsSoFar (wide : Bool) (s : List ℕ) (at : ℕ) (w z : Wiring) (next o : ℕ) : Type 0 where
+  pub result : times (w .outputs) (outputReader wide (w .inputs + w .gates)) (drop at s)
+      ≡ behind (outputsOf z o) (times (w .outputs - o) (outputReader wide (w .inputs + w .gates)) (drop next s))
   pub most : o ≤ w .outputs
   pub kept : Kept w z
   pub sources-long : length (z .outs) ≡ mostOutputs
   pub counts-long : length (z .delays) ≡ mostOutputs
 
-module _ (s : List ℕ) (at : ℕ) (w : Wiring) where
-  pub outputs-none : length (w .outs) ≡ mostOutputs → length (w .delays) ≡ mostOutputs → OutputsSoFar s at w w at 0
+module _ (wide : Bool) (s : List ℕ) (at : ℕ) (w : Wiring) where
+  pub outputs-none : length (w .outs) ≡ mostOutputs → length (w .delays) ≡ mostOutputs → OutputsSoFar wide s at w w at 0
   unfolding pinsIn
   outputs-none ls lc = record {
-    result = turn-none (w .outputs) (outputReader (w .inputs + w .gates)) (drop at s);
+    result = turn-none (w .outputs) (outputReader wide (w .inputs + w .gates)) (drop at s);
     most = zero-le;
     kept = kept-refl w;
     sources-long = ls;
     counts-long = lc;
   }
 
-  module _ (z : Wiring) (next o : ℕ) (so : OutputsSoFar s at w z next o) (h : o < w .outputs) where
+  module _ (z : Wiring) (next o : ℕ) (so : OutputsSoFar wide s at w z next o) (h : o < w .outputs) where
     pub outputs-one : (v : Verdict) (source count after : ℕ) → w .outputs ≤ mostOutputs
-        → outputReader (w .inputs + w .gates) (drop next s) ≡ outcome v (record { src = source; count = count }) (drop after s) → v ≡ Read
-        → OutputsSoFar s at w (withOutput z o source count) after (o + 1)
+        → outputReader wide (w .inputs + w .gates) (drop next s) ≡ outcome v (record { src = source; count = count }) (drop after s) → v ≡ Read
+        → OutputsSoFar wide s at w (withOutput z o source count) after (o + 1)
     outputs-one v source count after high e r =
         let ls = so .sources-long in
         let lc = so .counts-long in
@@ -203,7 +204,7 @@ module _ (s : List ℕ) (at : ℕ) (w : Wiring) where
         (λ i b. ap₂ (λ (x y : ℕ). record { src = x; count = y }) (sym (getD-set-other S o i source 0 (omega arith))) (sym (getD-set-other C o i count 0 (omega arith))))
         (ap₂ (λ (x y : ℕ). record { src = x; count = y }) (sym (getD-set-same S o source 0 (omega arith))) (sym (getD-set-same C o count 0 (omega arith)))) in
         record {
-          result = turn-one (w .outputs) o (outputsOf z o) (outputReader (w .inputs + w .gates)) (drop next s) (so .result) (record { src = source; count = count }) (drop after s)
+          result = turn-one (w .outputs) o (outputsOf z o) (outputReader wide (w .inputs + w .gates)) (drop next s) (so .result) (record { src = source; count = count }) (drop after s)
               (pinsIn (set S o source) (set C o count) 0 (o + 1)) h (went (record { src = source; count = count }) (drop after s) e r)
               (sym (more ∙ append-nil (pinsIn (set S o source) (set C o count) 0 (o + 1))));
           most = omega arith;
@@ -219,14 +220,14 @@ module _ (s : List ℕ) (at : ℕ) (w : Wiring) where
         }
 
     pub outputs-stop : {n : ℕ} (v : Verdict) (p : Pin) (after : ℕ)
-        → outputReader (w .inputs + w .gates) (drop next s) ≡ outcome v p (drop after s) → v ≡ Refused n
-        → times (w .outputs) (outputReader (w .inputs + w .gates)) (drop at s) ≡ refused n
+        → outputReader wide (w .inputs + w .gates) (drop next s) ≡ outcome v p (drop after s) → v ≡ Refused n
+        → times (w .outputs) (outputReader wide (w .inputs + w .gates)) (drop at s) ≡ refused n
     outputs-stop v p after e r =
-        turn-stops (w .outputs) o (outputsOf z o) (outputReader (w .inputs + w .gates)) (drop next s) (so .result) h (stopped p (drop after s) e r)
+        turn-stops (w .outputs) o (outputsOf z o) (outputReader wide (w .inputs + w .gates)) (drop next s) (so .result) h (stopped p (drop after s) e r)
 
-  pub outputs-all : (z : Wiring) (next o : ℕ) → OutputsSoFar s at w z next o → w .outputs ≤ o
-      → times (w .outputs) (outputReader (w .inputs + w .gates)) (drop at s) ≡ got (outputsOf z (w .outputs)) (drop next s)
+  pub outputs-all : (z : Wiring) (next o : ℕ) → OutputsSoFar wide s at w z next o → w .outputs ≤ o
+      → times (w .outputs) (outputReader wide (w .inputs + w .gates)) (drop at s) ≡ got (outputsOf z (w .outputs)) (drop next s)
   outputs-all z next o so h =
       let most = so .most in
       let end : o ≡ w .outputs = omega arith in
-      turn-ends (w .outputs) o (outputsOf z o) (outputReader (w .inputs + w .gates)) (drop next s) (so .result) h ∙ ap (λ (n : ℕ). got (outputsOf z n) (drop next s)) end
+      turn-ends (w .outputs) o (outputsOf z o) (outputReader wide (w .inputs + w .gates)) (drop next s) (so .result) h ∙ ap (λ (n : ℕ). got (outputsOf z n) (drop next s)) end

@@ -5,6 +5,10 @@ use Prim.Native.Nat.{ℕ, _+_, _*_, _^_, _≤_, _<_}
 use native.Mathlib.Nat.{zero-add}
 use lib.ListN.{length, getD}
 use Rattle.limits.specs.Limits.{mostInputs, mostGates, mostOutputs, mostPins, mostCount}
+use Rattle.limits.specs.Courses.{Offered}
+use Rattle.limits.specs.CourseLaws.{offered-within}
+use Rattle.limits.specs.declared.Rules.{Rules}
+use native.Mathlib.Omega.{arith}
 use Rattle.sequences.specs.Member.{in-getD}
 use Rattle.net_model.specs.Net.{Gate, size, nothing}
 use Rattle.net_model.specs.Arrays.{netIn, pinsIn, gatesIn, stride}
@@ -36,7 +40,7 @@ pub record WalkFacts (k : ℕ) (w : Wiring) : Type 0 where
   pub out-source : (o : ℕ) → o < w .outputs → getD (w .outs) o 0 < w .inputs + w .gates
   pub out-count : (o : ℕ) → o < w .outputs → getD (w .delays) o 0 ≤ mostCount
 
-module _ (k : ℕ) (w : Wiring) (f : NetFacts k (netIn (arraysOf w))) where
+module _ (R : Rules) (within : R .gates ≤ mostGates) (k : ℕ) (w : Wiring) (f : NetFacts R k (netIn (arraysOf w))) where
   nodes : size (netIn (arraysOf w)) ≡ w .inputs + w .gates
   nodes = size-netIn (arraysOf w)
 
@@ -76,7 +80,7 @@ module _ (k : ℕ) (w : Wiring) (f : NetFacts k (netIn (arraysOf w))) where
     inputs-low = subst (λ (n : ℕ). 1 ≤ n) (inputs-netIn (arraysOf w)) (f .inputs-low);
     inputs-high = subst (λ (n : ℕ). n ≤ mostInputs) (inputs-netIn (arraysOf w)) (f .inputs-high);
     gates-low = subst (λ (n : ℕ). 1 ≤ n) gates-number (f .gates-low);
-    gates-high = subst (λ (n : ℕ). n ≤ mostGates) gates-number (f .gates-high);
+    gates-high = let high = f .gates-high in subst (λ (n : ℕ). n ≤ mostGates) gates-number (omega arith);
     outputs-low = subst (λ (n : ℕ). 1 ≤ n) outputs-number (f .outputs-low);
     outputs-high = subst (λ (n : ℕ). n ≤ mostOutputs) outputs-number (f .outputs-high);
     pins-low = λ g h. subst (λ (n : ℕ). 1 ≤ n) (pins-number g) (gate-of g h .some);
@@ -90,9 +94,9 @@ module _ (k : ℕ) (w : Wiring) (f : NetFacts k (netIn (arraysOf w))) where
   }
 
 -- where the verdict is Read, the reader gives the net of the arrays, and the facts hold of them
-module _ (k : ℕ) (s : List ℕ) (r : Walk) (e : netReader k s ≡ resultOf r) (v : r .verdict ≡ Read) where
-  pub read-gives : netReader k s ≡ got (netIn (arraysOf (r .net))) []
+module _ (R : Rules) (k : ℕ) (s : List ℕ) (r : Walk) (e : netReader R k s ≡ resultOf r) (v : r .verdict ≡ Read) where
+  pub read-gives : netReader R k s ≡ got (netIn (arraysOf (r .net))) []
   read-gives = e ∙ ap (λ (x : Verdict). outcome x (netIn (arraysOf (r .net))) []) v
 
-  pub read-facts : WalkFacts k (r .net)
-  read-facts = facts-of k (r .net) (walk-facts k s (netIn (arraysOf (r .net))) [] read-gives .0)
+  pub read-facts : Offered R → WalkFacts k (r .net)
+  read-facts offered = facts-of R (offered-within offered .gates) k (r .net) (walk-facts R k s (netIn (arraysOf (r .net))) [] read-gives .0)

@@ -1,22 +1,26 @@
-// The byte walk over a net record: one pass over any bytes, each byte tested when read.
+// The byte walk over a net record under rules: one pass over any bytes, head, body and end, each byte tested when read.
 use inputs::wide;
 use limits::GATES;
 use limits::OUTPUTS;
 use limits::PINS;
 use limits::PLACES;
+use limits::Rules;
 use net_fields::Field;
 use net_fields::NetField;
 use net_fields::Verdict;
+use net_fields::gates_field;
 use net_fields::read_byte;
+use net_fields::read_number;
 use net_rows::GateRow;
 use net_rows::read_gate;
 use net_rows::read_output;
 ghost use mathlib.Core.Path.{_≡_};
 ghost use Prim.Native.Nat.{_≤_, _<_};
-ghost use Rattle.limits.specs.Limits.{mostGates, mostOutputs, mostPins};
+ghost use Rattle.limits.specs.Limits.{mostGates, mostInputs, mostOutputs, mostPins};
+ghost use Rattle.limits.specs.Courses.{Offered};
 ghost use Rattle.net_bytes.specs.Walk.{netReader};
 ghost use Rattle.net_reader.specs.ReadAnswer.{resultOf};
-ghost use Rattle.net_reader.specs.NetStored.{PinsStored, narrow, GateStored, GatesRead, OutputsRead, SizesRead, Sized, withOutput};
+ghost use Rattle.net_reader.specs.NetStored.{PinsStored, narrow, GateStored, GatesRead, OutputsRead, HeadRead, SizesRead, BodyRead, Sized, withOutput};
 
 // A net as arrays: gate g has pins[g] pins, and pin j of gate g stands at 6g + j.
 pub struct Wiring {
@@ -37,13 +41,19 @@ pub struct Walk {
     pub net: Wiring,
 }
 
-// The numbers of inputs, gates and outputs, and the place behind them.
+// The number of inputs, and the place behind it.
 struct NetHead {
     verdict: Verdict,
     at: usize,
-    inputs: u8,
-    gates: u8,
-    outputs: u8,
+    inputs: usize,
+}
+
+// The numbers of gates and outputs, and the place behind them.
+struct BodySizes {
+    verdict: Verdict,
+    at: usize,
+    gates: usize,
+    outputs: usize,
 }
 
 // The net so far, and the place behind what was read.
@@ -64,7 +74,7 @@ fn store_pins(net: Wiring, g: usize, row: GateRow) -> Wiring
     let mut j: usize = 0;
     while j < PINS {
         let at = PINS * g + j;
-        out.sources[at] = wide(sources[j]);
+        out.sources[at] = sources[j];
         out.counts[at] = wide(counts[j]);
         j += 1;
     }
@@ -87,9 +97,9 @@ fn store_gate(net: Wiring, g: usize, row: GateRow) -> Wiring
 }
 
 // The gates, each stored as it is read.
-fn read_gates(bytes: &[u8], at: usize, k: u32, net: Wiring) -> Part
+fn read_gates(bytes: &[u8], at: usize, k: u32, net: Wiring, rules: Rules) -> Part
     requires { ⌜ Sized net ⌝ }
-    ensures { λ r. ⌜ GatesRead (now (bytes .entry)) at k net r ⌝ }
+    ensures { λ r. ⌜ GatesRead (rules .wide) (now (bytes .entry)) at k net r ⌝ }
 {
     let gates = net.gates;
     let nodes = net.inputs + net.gates;
@@ -97,7 +107,7 @@ fn read_gates(bytes: &[u8], at: usize, k: u32, net: Wiring) -> Part
     let mut next = at;
     let mut g: usize = 0;
     while g < gates {
-        let row = read_gate(bytes, next, k, nodes);
+        let row = read_gate(bytes, next, k, nodes, rules);
         let v = row.verdict;
         if let Verdict::Refused(n) = v {
             return Part {
@@ -129,9 +139,9 @@ fn store_output(net: Wiring, o: usize, source: usize, count: usize) -> Wiring
 }
 
 // The outputs, each stored as it is read.
-fn read_outputs(bytes: &[u8], at: usize, net: Wiring) -> Part
+fn read_outputs(bytes: &[u8], at: usize, net: Wiring, rules: Rules) -> Part
     requires { ⌜ Sized net ⌝ }
-    ensures { λ r. ⌜ OutputsRead (now (bytes .entry)) at net r ⌝ }
+    ensures { λ r. ⌜ OutputsRead (rules .wide) (now (bytes .entry)) at net r ⌝ }
 {
     let outputs = net.outputs;
     let nodes = net.inputs + net.gates;
@@ -139,7 +149,7 @@ fn read_outputs(bytes: &[u8], at: usize, net: Wiring) -> Part
     let mut next = at;
     let mut o: usize = 0;
     while o < outputs {
-        let row = read_output(bytes, next, nodes);
+        let row = read_output(bytes, next, nodes, rules);
         let v = row.verdict;
         if let Verdict::Refused(n) = v {
             return Part {
@@ -148,7 +158,7 @@ fn read_outputs(bytes: &[u8], at: usize, net: Wiring) -> Part
                 net: out,
             };
         }
-        out = store_output(out, o, wide(row.source), wide(row.count));
+        out = store_output(out, o, row.source, wide(row.count));
         next = row.at;
         o += 1;
     }
@@ -159,43 +169,58 @@ fn read_outputs(bytes: &[u8], at: usize, net: Wiring) -> Part
     }
 }
 
-fn no_sizes(n: u8) -> NetHead
-    ensures { λ r. ⌜ (r .verdict ≡ Verdict.Refused n) × (r .inputs ≡ 0) × (r .gates ≡ 0) × (r .outputs ≡ 0) ⌝ }
+// The head: the number of inputs, tested as it is read.
+fn read_head(bytes: &[u8]) -> NetHead
+    ensures { λ r. ⌜ HeadRead (now (bytes .entry)) r ⌝ }
 {
+    let inputs = read_byte(bytes, 0, Field::Net(NetField::Inputs), 0);
+    let v = inputs.verdict;
+    if let Verdict::Refused(n) = v {
+        return NetHead {
+            verdict: Verdict::Refused(n),
+            at: 0,
+            inputs: 0,
+        };
+    }
     NetHead {
+        verdict: Verdict::Read,
+        at: inputs.at,
+        inputs: wide(inputs.value),
+    }
+}
+
+fn no_sizes(n: u8) -> BodySizes
+    ensures { λ r. ⌜ (r .verdict ≡ Verdict.Refused n) × (r .gates ≡ 0) × (r .outputs ≡ 0) ⌝ }
+{
+    BodySizes {
         verdict: Verdict::Refused(n),
         at: 0,
-        inputs: 0,
         gates: 0,
         outputs: 0,
     }
 }
 
-// The numbers of inputs, gates and outputs, each tested as it is read.
-fn read_sizes(bytes: &[u8]) -> NetHead
-    ensures { λ r. ⌜ SizesRead (now (bytes .entry)) r ⌝ }
+// The numbers of gates and outputs, each tested as it is read.
+fn read_sizes(bytes: &[u8], at: usize, rules: Rules) -> BodySizes
+    requires { ⌜ Offered rules ⌝ }
+    ensures { λ r. ⌜ SizesRead rules (now (bytes .entry)) at r ⌝ }
 {
-    let inputs = read_byte(bytes, 0, Field::Net(NetField::Inputs), 0);
-    let v = inputs.verdict;
+    let field = gates_field(rules);
+    let gates = read_number(bytes, at, field, 0, rules.wide);
+    let v = gates.verdict;
     if let Verdict::Refused(n) = v {
         return no_sizes(n);
     }
-    let gates = read_byte(bytes, inputs.at, Field::Net(NetField::Gates), 0);
-    let w = gates.verdict;
+    let outputs = read_byte(bytes, gates.at, Field::Net(NetField::Outputs), 0);
+    let w = outputs.verdict;
     if let Verdict::Refused(n) = w {
         return no_sizes(n);
     }
-    let outputs = read_byte(bytes, gates.at, Field::Net(NetField::Outputs), 0);
-    let x = outputs.verdict;
-    if let Verdict::Refused(n) = x {
-        return no_sizes(n);
-    }
-    NetHead {
+    BodySizes {
         verdict: Verdict::Read,
         at: outputs.at,
-        inputs: inputs.value,
         gates: gates.value,
-        outputs: outputs.value,
+        outputs: wide(outputs.value),
     }
 }
 
@@ -216,6 +241,37 @@ fn empty(inputs: usize, gates: usize, outputs: usize) -> Wiring
     }
 }
 
+fn no_body(n: u8) -> Part
+    ensures { λ r. ⌜ r .verdict ≡ Verdict.Refused n ⌝ }
+{
+    Part {
+        verdict: Verdict::Refused(n),
+        at: 0,
+        net: empty(0, 0, 0),
+    }
+}
+
+// The body: the numbers of gates and outputs, the gates, the outputs.
+fn read_body(bytes: &[u8], at: usize, k: u32, inputs: usize, rules: Rules) -> Part
+    requires { ⌜ Offered rules ⌝ }
+    requires { ⌜ inputs ≤ mostInputs ⌝ }
+    ensures { λ r. ⌜ BodyRead rules (now (bytes .entry)) at k inputs r ⌝ }
+{
+    let sizes = read_sizes(bytes, at, rules);
+    let v = sizes.verdict;
+    if let Verdict::Refused(n) = v {
+        return no_body(n);
+    }
+    let start = empty(inputs, sizes.gates, sizes.outputs);
+    let gates = read_gates(bytes, sizes.at, k, start, rules);
+    let w = gates.verdict;
+    if let Verdict::Refused(n) = w {
+        return no_body(n);
+    }
+    let placed = gates.net;
+    read_outputs(bytes, gates.at, placed, rules)
+}
+
 fn refused_walk(n: u8) -> Walk
     ensures { λ r. ⌜ r .verdict ≡ Verdict.Refused n ⌝ }
 {
@@ -226,30 +282,24 @@ fn refused_walk(n: u8) -> Walk
 }
 
 // The walk: the net of the record, or the number of the first refusal met.
-pub fn read_net(bytes: &[u8], k: u32) -> Walk
-    ensures { λ r. ⌜ netReader k (now (bytes .entry)) ≡ resultOf r ⌝ }
+pub fn read_net(bytes: &[u8], k: u32, rules: Rules) -> Walk
+    requires { ⌜ Offered rules ⌝ }
+    ensures { λ r. ⌜ netReader rules k (now (bytes .entry)) ≡ resultOf r ⌝ }
 {
-    let sizes = read_sizes(bytes);
-    let v = sizes.verdict;
+    let head = read_head(bytes);
+    let v = head.verdict;
     if let Verdict::Refused(n) = v {
         return refused_walk(n);
     }
-    let start = empty(wide(sizes.inputs), wide(sizes.gates), wide(sizes.outputs));
-    let gates = read_gates(bytes, sizes.at, k, start);
-    let w = gates.verdict;
+    let body = read_body(bytes, head.at, k, head.inputs, rules);
+    let w = body.verdict;
     if let Verdict::Refused(n) = w {
         return refused_walk(n);
     }
-    let placed = gates.net;
-    let outputs = read_outputs(bytes, gates.at, placed);
-    let x = outputs.verdict;
-    if let Verdict::Refused(n) = x {
-        return refused_walk(n);
-    }
-    if outputs.at < bytes.len() {
+    if body.at < bytes.len() {
         return refused_walk(8);
     }
-    let net = outputs.net;
+    let net = body.net;
     Walk {
         verdict: Verdict::Read,
         net: net,

@@ -1,5 +1,6 @@
 -- Definitions: what the functions that read a row promise.
 use mathlib.Core.Path.{_≡_}
+use mathlib.Core.Bool.{Bool}
 use mathlib.Core.List.{List, _++_}
 use Prim.Native.Nat.{ℕ, _-_, _≤_, _<_}
 use lib.Count.{ones}
@@ -37,23 +38,23 @@ firstOf (Refused n) b = Refused n
 
 -- the maps are read: the gate is what the readers behind them make of it
 pub record MapsRead (s : List ℕ) (at k : ℕ) (m : Maps) : Type 0 where
-  pub result : (nodes : ℕ) → gateReader k nodes (drop at s)
-      ≡ onward (m .verdict) (fromMaps nodes (m .pins) (ones (m .pins)) (m .registers) (drop (m .at) s))
+  pub result : (wide : Bool) (nodes : ℕ) → gateReader wide k nodes (drop at s)
+      ≡ onward (m .verdict) (fromMaps wide nodes (m .pins) (ones (m .pins)) (m .registers) (drop (m .at) s))
   pub small : m .pins < 64
 
 -- the lists behind the maps are read, zeros behind each
-abbrev pub ListsRead : List ℕ → ℕ → ℕ → ℕ → ℕ → Lists → Type 0
-ListsRead s at p r nodes l = fromMaps nodes p (ones p) r (drop at s) ≡ outcome (l .verdict) (madeGate p r (l .sources) (l .counts) (l .table)) (drop (l .at) s)
+abbrev pub ListsRead : Bool → List ℕ → ℕ → ℕ → ℕ → ℕ → Lists → Type 0
+ListsRead wide s at p r nodes l = fromMaps wide nodes p (ones p) r (drop at s) ≡ outcome (l .verdict) (madeGate p r (l .sources) (l .counts) (l .table)) (drop (l .at) s)
 
 -- the gate of a row
 abbrev pub rowGate : GateRow → Gate
 rowGate g = record { pins = pinsIn (g .sources) (g .counts) 0 (g .pins); table = g .table }
 
 -- a gate is read as a row
-pub record GateRead (s : List ℕ) (at k nodes : ℕ) (g : GateRow) : Type 0 where
-  pub result : gateReader k nodes (drop at s) ≡ outcome (g .verdict) (rowGate g) (drop (g .at) s)
+pub record GateRead (wide : Bool) (s : List ℕ) (at k nodes : ℕ) (g : GateRow) : Type 0 where
+  pub result : gateReader wide k nodes (drop at s) ≡ outcome (g .verdict) (rowGate g) (drop (g .at) s)
   pub most : g .pins ≤ mostPins
 
 -- an output is read
-abbrev pub OutputRead : List ℕ → ℕ → ℕ → OutputRow → Type 0
-OutputRead s at nodes o = outputReader nodes (drop at s) ≡ outcome (o .verdict) (record { src = o .source; count = o .count }) (drop (o .at) s)
+abbrev pub OutputRead : Bool → List ℕ → ℕ → ℕ → OutputRow → Type 0
+OutputRead wide s at nodes o = outputReader wide nodes (drop at s) ≡ outcome (o .verdict) (record { src = o .source; count = o .count }) (drop (o .at) s)

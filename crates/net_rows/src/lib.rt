@@ -2,8 +2,10 @@
 use inputs::wide;
 use limits::ITEMS;
 use limits::PINS;
+use limits::Rules;
 use net_fields::Field;
 use net_fields::NetField;
+use net_fields::NumberField;
 use net_fields::Verdict;
 use net_fields::count_of;
 use net_fields::has;
@@ -11,6 +13,8 @@ use net_fields::number;
 use net_fields::ones_of;
 use net_fields::read_byte;
 use net_fields::read_items;
+use net_fields::read_number;
+use net_fields::read_numbers;
 use net_fields::table_bytes;
 ghost use mathlib.Core.Path.{_≡_};
 ghost use mathlib.Core.List.{List};
@@ -29,11 +33,11 @@ struct Maps {
     registers: u8,
 }
 
-// The source, count and table bytes of a gate, and the place behind them.
+// The sources, the count and table bytes of a gate, and the place behind them.
 struct Lists {
     verdict: Verdict,
     at: usize,
-    sources: [u8; ITEMS],
+    sources: [usize; ITEMS],
     counts: [u8; ITEMS],
     table: [u8; ITEMS],
 }
@@ -43,7 +47,7 @@ pub struct GateRow {
     pub verdict: Verdict,
     pub at: usize,
     pub pins: usize,
-    pub sources: [u8; ITEMS],
+    pub sources: [usize; ITEMS],
     pub counts: [u8; ITEMS],
     pub table: u64,
 }
@@ -59,7 +63,7 @@ struct SpreadSoFar {
 pub struct OutputRow {
     pub verdict: Verdict,
     pub at: usize,
-    pub source: u8,
+    pub source: usize,
     pub count: u8,
 }
 
@@ -178,19 +182,19 @@ fn no_lists(n: u8) -> Lists
     Lists {
         verdict: Verdict::Refused(n),
         at: 0,
-        sources: [0u8; ITEMS],
+        sources: [0usize; ITEMS],
         counts: [0u8; ITEMS],
         table: [0u8; ITEMS],
     }
 }
 
 // The bytes behind the maps: a source for each pin, a count for each register bit, the table.
-fn read_lists(bytes: &[u8], at: usize, pins: u8, registers: u8, nodes: usize) -> Lists
+fn read_lists(bytes: &[u8], at: usize, pins: u8, registers: u8, nodes: usize, rules: Rules) -> Lists
     requires { ⌜ pins < 64 ⌝ }
-    ensures { λ r. ⌜ ListsRead (now (bytes .entry)) at pins registers nodes r ⌝ }
+    ensures { λ r. ⌜ ListsRead (rules .wide) (now (bytes .entry)) at pins registers nodes r ⌝ }
 {
     let m = count_of(pins);
-    let sources = read_items(bytes, at, m, Field::Net(NetField::Source), nodes);
+    let sources = read_numbers(bytes, at, m, NumberField::Source, nodes, rules.wide);
     let v = sources.verdict;
     if let Verdict::Refused(n) = v {
         return no_lists(n);
@@ -226,15 +230,15 @@ fn no_gate(n: u8) -> GateRow
         verdict: Verdict::Refused(n),
         at: 0,
         pins: 0,
-        sources: [0u8; ITEMS],
+        sources: [0usize; ITEMS],
         counts: [0u8; ITEMS],
         table: 0,
     }
 }
 
 // A gate: its maps, then its lists, then the counts spread over the pins and the table as a number.
-pub fn read_gate(bytes: &[u8], at: usize, k: u32, nodes: usize) -> GateRow
-    ensures { λ r. ⌜ GateRead (now (bytes .entry)) at k nodes r ⌝ }
+pub fn read_gate(bytes: &[u8], at: usize, k: u32, nodes: usize, rules: Rules) -> GateRow
+    ensures { λ r. ⌜ GateRead (rules .wide) (now (bytes .entry)) at k nodes r ⌝ }
 {
     let maps = read_maps(bytes, at, k);
     let v = maps.verdict;
@@ -243,7 +247,7 @@ pub fn read_gate(bytes: &[u8], at: usize, k: u32, nodes: usize) -> GateRow
     }
     let pins = maps.pins;
     let registers = maps.registers;
-    let lists = read_lists(bytes, maps.at, pins, registers, nodes);
+    let lists = read_lists(bytes, maps.at, pins, registers, nodes, rules);
     let w = lists.verdict;
     if let Verdict::Refused(n) = w {
         return no_gate(n);
@@ -274,15 +278,15 @@ fn no_output(n: u8) -> OutputRow
 }
 
 // An output: its map, its source, and a count where the map is 1.
-pub fn read_output(bytes: &[u8], at: usize, nodes: usize) -> OutputRow
-    ensures { λ r. ⌜ OutputRead (now (bytes .entry)) at nodes r ⌝ }
+pub fn read_output(bytes: &[u8], at: usize, nodes: usize, rules: Rules) -> OutputRow
+    ensures { λ r. ⌜ OutputRead (rules .wide) (now (bytes .entry)) at nodes r ⌝ }
 {
     let map = read_byte(bytes, at, Field::Net(NetField::OutputMap), 0);
     let v = map.verdict;
     if let Verdict::Refused(n) = v {
         return no_output(n);
     }
-    let source = read_byte(bytes, map.at, Field::Net(NetField::Source), nodes);
+    let source = read_number(bytes, map.at, NumberField::Source, nodes, rules.wide);
     let w = source.verdict;
     if let Verdict::Refused(n) = w {
         return no_output(n);

@@ -8,6 +8,7 @@ use lib.Seq.{take-all}
 use Rattle.net_model.specs.Net.{Net}
 use Rattle.net_model.specs.Arrays.{netIn}
 use Rattle.net_model.specs.ArrayLaws.{gates-netIn, inputs-netIn, outputs-netIn, length-pinsIn}
+use Rattle.limits.specs.Courses.{long}
 use Rattle.net_bytes.specs.Reading.{Result, got, refused}
 use Rattle.net_bytes.specs.Walk.{netReader}
 use Rattle.cover_records.specs.Listing.{decimal, newline, refusalText}
@@ -28,14 +29,14 @@ pub sizes-text : (inputs gates outputs : ℕ) → (((readWord ++ decimal inputs)
 unfolding sizesText
 sizes-text inputs gates outputs = pairs readWord (decimal inputs) gap (decimal gates) gap (decimal outputs) newline
 
-module _ (k : ℕ) (net : List ℕ) (r : Walk) (e : netReader k net ≡ resultOf r) where
-  pub reading-refused : {n m c : ℕ} {before after : List ℕ} → r .verdict ≡ Refused n → m ≡ n → Wrote (refusalText m) before after c → Wrote (readingText (netReader k net)) before after c
+module _ (k : ℕ) (net : List ℕ) (r : Walk) (e : netReader long k net ≡ resultOf r) where
+  pub reading-refused : {n m c : ℕ} {before after : List ℕ} → r .verdict ≡ Refused n → m ≡ n → Wrote (refusalText m) before after c → Wrote (readingText (netReader long k net)) before after c
   unfolding readingText
   reading-refused v d t =
       wrote-as (ap readingText (e ∙ ap (λ (x : Verdict). outcome x (netIn (arraysOf (r .net))) []) v) ∙ ap refusalText (sym d)) t
 
   pub reading-read : {c : ℕ} {before after : List ℕ} → r .verdict ≡ Read → Wrote (sizesText (r .net .inputs) (r .net .gates) (r .net .outputs)) before after c
-      → Wrote (readingText (netReader k net)) before after c
+      → Wrote (readingText (netReader long k net)) before after c
   unfolding readingText
   reading-read v t =
       let a = arraysOf (r .net) in
@@ -48,8 +49,8 @@ module _ (k : ℕ) (net : List ℕ) (r : Walk) (e : netReader k net ≡ resultOf
 pub case-net : (s : List ℕ) (at : ℕ) → Behind s 0 3 at → take (length s - at) (drop at s) ≡ drop 3 s
 case-net s at b = let d = length-drop at s in take-all (length s - at) (drop at s) (omega arith) ∙ b .behind
 
-pub case-text : {k k′ : ℕ} {net net′ : List ℕ} → k ≡ k′ → net ≡ net′ → readingText (netReader k net) ≡ readingText (netReader k′ net′)
-case-text e f = ap₂ (λ (x : ℕ) (y : List ℕ). readingText (netReader x y)) e f
+pub case-text : {k k′ : ℕ} {net net′ : List ℕ} → k ≡ k′ → net ≡ net′ → readingText (netReader long k net) ≡ readingText (netReader long k′ net′)
+case-text e f = ap₂ (λ (x : ℕ) (y : List ℕ). readingText (netReader long x y)) e f
 
 -- a place behind lies further on
 pub behind-further : (s : List ℕ) (at r : ℕ) → at < length s → Behind s at 3 r → at < r

@@ -3,6 +3,7 @@ use inputs::byte_at;
 use inputs::net_length;
 use inputs::place_behind;
 use inputs::wide;
+use limits::long_course;
 use net_fields::Verdict;
 use net_reader::read_net;
 use text_digits::put_byte;
@@ -13,6 +14,7 @@ ghost use Prim.Native.Nat.{_≤_, _<_};
 ghost use lib.ListN.{length, getD, drop};
 ghost use Rattle.net_bytes.specs.Walk.{netReader};
 ghost use Rattle.cover_writer.specs.Writing.{Wrote};
+ghost use Rattle.limits.specs.Courses.{long};
 ghost use Rattle.limits.specs.Limits.{lineRoom};
 ghost use Rattle.text_readings.specs.ReadingText.{sizesText, readingText};
 
@@ -30,9 +32,9 @@ fn write_sizes(inputs: usize, gates: usize, outputs: usize, out: &mut [u8]) -> u
 // The line for a net record.
 fn write_reading(net: &[u8], k: u32, out: &mut [u8]) -> usize
     requires { ⌜ lineRoom ≤ length (now out) ⌝ }
-    ensures { λ r. ⌜ Wrote (readingText (netReader k (now (net .entry)))) (now (out .entry)) (now (out .exit)) r ⌝ }
+    ensures { λ r. ⌜ Wrote (readingText (netReader long k (now (net .entry)))) (now (out .entry)) (now (out .exit)) r ⌝ }
 {
-    let w = read_net(net, k);
+    let w = read_net(net, k, long_course());
     let v = w.verdict;
     if let Verdict::Refused(n) = v {
         return write_refusal(wide(n), out);
@@ -44,7 +46,7 @@ fn write_reading(net: &[u8], k: u32, out: &mut [u8]) -> usize
 // The line for a case, in front of out; a missing k reads as 0.
 pub fn write_case(case: &[u8], out: &mut [u8]) -> usize
     requires { ⌜ lineRoom ≤ length (now out) ⌝ }
-    ensures { λ r. ⌜ Wrote (readingText (netReader (getD (now (case .entry)) 0 0) (drop 3 (now (case .entry))))) (now (out .entry)) (now (out .exit)) r ⌝ }
+    ensures { λ r. ⌜ Wrote (readingText (netReader long (getD (now (case .entry)) 0 0) (drop 3 (now (case .entry))))) (now (out .entry)) (now (out .exit)) r ⌝ }
 {
     let k = byte_at(case, 0);
     let at = place_behind(case, 0, 3);

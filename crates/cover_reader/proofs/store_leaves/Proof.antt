@@ -25,17 +25,17 @@ mul-store-leaf c = omega arith
 add-store-leaf : tie.Need-add-store-leaf Inv-loop μ-loop
 add-store-leaf c = omega arith
 
-array-read-wide : tie.Need-array-read-wide Inv-loop μ-loop
-array-read-wide c = omega arith
-
-wide-requires : tie.Need-wide-requires Inv-loop μ-loop
-wide-requires c κs = search needs
-
 mul-store-leaf-2 : tie.Need-mul-store-leaf-2 Inv-loop μ-loop
 mul-store-leaf-2 c = omega arith
 
 array-read-store-leaf : tie.Need-array-read-store-leaf Inv-loop μ-loop
 array-read-store-leaf c = omega arith
+
+mul-store-leaf-3 : tie.Need-mul-store-leaf-3 Inv-loop μ-loop
+mul-store-leaf-3 c = omega arith
+
+array-read-store-leaf-2 : tie.Need-array-read-store-leaf-2 Inv-loop μ-loop
+array-read-store-leaf-2 c = omega arith
 
 store-leaf-requires : tie.Need-store-leaf-requires Inv-loop μ-loop
 store-leaf-requires c κs = omega arith
@@ -48,11 +48,11 @@ loop-less c = omega arith
 
 loop-again : tie.Need-loop-again Inv-loop μ-loop
 loop-again c =
-    let a = c .before .before .before .before .before .before .args in
-    let l = c .before .before .before .loop in
-    let ln : length (a .luts .nodes) ≡ mostLeaves = let good = c .before .before .before .before .before .before .good .0 .1 .1 .1 .1 .1 .1 .1 .0 in search needs in
-    let lb : length (a .luts .backs) ≡ mostLeaves = let good = c .before .before .before .before .before .before .good .0 .1 .1 .1 .1 .1 .1 .1 .1 .0 in search needs in
-    (omega arith, rw (c .store-leaf .ensures, c .before .wide .ensures) (leaves-one (a .luts) (a .i) (a .row .nodes) (a .row .backs) (l .j) (l .out) (l .inv .1) (omega arith) (omega arith)))
+    let a = c .before .before .before .before .before .args in
+    let l = c .before .before .loop in
+    let ln : length (a .luts .nodes) ≡ mostLeaves = let good = c .before .before .before .before .before .good .0 .1 .1 .1 .1 .1 .1 .1 .0 in search needs in
+    let lb : length (a .luts .backs) ≡ mostLeaves = let good = c .before .before .before .before .before .good .0 .1 .1 .1 .1 .1 .1 .1 .1 .0 in search needs in
+    (omega arith, rw (c .store-leaf .ensures) (leaves-one (a .luts) (a .i) (a .row .nodes) (a .row .backs) (l .j) (l .out) (l .inv .1) (omega arith) (omega arith)))
 
 returns : tie.Need-returns Inv-loop μ-loop
 returns c =
@@ -68,10 +68,10 @@ store-leaves-spec =
     loop-holds
     mul-store-leaf
     add-store-leaf
-    array-read-wide
-    wide-requires
     mul-store-leaf-2
     array-read-store-leaf
+    mul-store-leaf-3
+    array-read-store-leaf-2
     store-leaf-requires
     add-j
     loop-less

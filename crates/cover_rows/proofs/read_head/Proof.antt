@@ -5,7 +5,7 @@ use Prim.Native.Nat.{ℕ, _^_}
 use lib.ListN.{drop}
 use native.Mathlib.Omega.{arith}
 use Rattle.net_fields.specs.FieldLaws.{went, stopped}
-use Rattle.cover_rows.specs.LutReadLaws.{size-few, root-stops, size-stops, map-stops, head-goes}
+use Rattle.cover_rows.specs.LutReadLaws.{size-few, size-stops, map-stops, head-goes}
 use borrow.Author.Needs.{needs}
 use Rattle.cover_rows.proofs.read_head.Statement.{statement}
 use Rattle.cover_rows.proofs.read_head.Tie as tie
@@ -23,12 +23,24 @@ returns : tie.Need-returns
 returns c =
     let a = c .before .before .before .before .before .before .args in
     let s = now (a .bytes) in
-    let m = c .before .before .before .before .read-byte in
+    let z = c .before .before .before .before .read-byte in
     let n = c .no-head in
-    root-stops s (a .at) (a .nodes) (a .k) (a .least) (n .result) (stopped (m .result .value) (drop (m .result .at) s) (m .ensures) (c .before .before .v .given .1)) (n .ensures)
+    size-stops s (a .at) (a .k) (n .result) (stopped (z .result .value) (drop (z .result .at) s) (z .ensures) (c .before .before .v .given .1)) (n .ensures)
 
 enum-told : tie.Need-enum-told
 enum-told c = search needs
+
+wide-requires : tie.Need-wide-requires
+wide-requires c κs = search needs
+
+power-requires : tie.Need-power-requires
+power-requires c κs =
+    let start = c .before .before .before .before .before in
+    let a = start .args in
+    let s = now (a .bytes) in
+    let z = c .before .before .before .read-byte in
+    let few = size-few (a .k) (z .result .value) (drop (a .at) s) (drop (z .result .at) s) (went (z .result .value) (drop (z .result .at) s) (z .ensures) (c .before .enum-told .given .1)) in
+    omega (arith, few, c .wide .ensures, start .pre)
 
 read-byte-requires-2 : tie.Need-read-byte-requires-2
 read-byte-requires-2 c κs = search needs
@@ -41,78 +53,33 @@ no-head-requires-2 c κs = search needs
 
 returns-2 : tie.Need-returns-2
 returns-2 c =
-    let a = c .before .before .before .before .before .before .before .before .before .args in
+    let power = c .before .before .before .before .before .power in
+    let a = c .before .before .before .before .before .before .before .before .before .before .before .args in
     let s = now (a .bytes) in
-    let m = c .before .before .before .before .before .before .before .read-byte in
-    let z = c .before .before .before .before .read-byte2 in
+    let z = c .before .before .before .before .before .before .before .before .before .read-byte in
+    let x = c .before .before .before .before .read-byte2 in
     let n = c .no-head2 in
-    size-stops s (a .at) (a .nodes) (a .k) (a .least) (m .result .value) (drop (m .result .at) s)
-    (went (m .result .value) (drop (m .result .at) s) (m .ensures) (c .before .before .before .before .before .enum-told .given .1))
-    (n .result) (stopped (z .result .value) (drop (z .result .at) s) (z .ensures) (c .before .before .w .given .1)) (n .ensures)
+    map-stops s (a .at) (a .k) (z .result .value) (drop (z .result .at) s)
+    (went (z .result .value) (drop (z .result .at) s) (z .ensures) (c .before .before .before .before .before .before .before .enum-told .given .1)) (power .result)
+    (power .ensures ∙ ap (λ (e : ℕ). 2 ^ e) (c .before .before .before .before .before .before .wide .ensures))
+    (n .result) (stopped (x .result .value) (drop (x .result .at) s) (x .ensures) (c .before .before .w .given .1)) (n .ensures)
 
 enum-told-2 : tie.Need-enum-told-2
 enum-told-2 c = search needs
 
-wide-requires : tie.Need-wide-requires
-wide-requires c κs = search needs
-
-power-requires : tie.Need-power-requires
-power-requires c κs =
-    let start = c .before .before .before .before .before .before .before .before in
-    let a = start .args in
-    let s = now (a .bytes) in
-    let m = c .before .before .before .before .before .before .read-byte in
-    let z = c .before .before .before .read-byte2 in
-    let few = size-few (a .k) (z .result .value) (drop (m .result .at) s) (drop (z .result .at) s) (went (z .result .value) (drop (z .result .at) s) (z .ensures) (c .before .enum-told2 .given .1)) in
-    omega (arith, few, c .wide .ensures, start .pre)
-
-read-byte-requires-3 : tie.Need-read-byte-requires-3
-read-byte-requires-3 c κs = search needs
-
-enum-known-x : tie.Need-enum-known-x
-enum-known-x c = search needs
-
-no-head-requires-3 : tie.Need-no-head-requires-3
-no-head-requires-3 c κs = search needs
-
 returns-3 : tie.Need-returns-3
 returns-3 c =
-    let power = c .before .before .before .before .before .power in
-    let a = c .before .before .before .before .before .before .before .before .before .before .before .before .before .before .args in
-    let s = now (a .bytes) in
-    let m = c .before .before .before .before .before .before .before .before .before .before .before .before .read-byte in
-    let z = c .before .before .before .before .before .before .before .before .before .read-byte2 in
-    let x = c .before .before .before .before .read-byte3 in
-    let n = c .no-head3 in
-    map-stops s (a .at) (a .nodes) (a .k) (a .least) (m .result .value) (drop (m .result .at) s)
-    (went (m .result .value) (drop (m .result .at) s) (m .ensures) (c .before .before .before .before .before .before .before .before .before .before .enum-told .given .1))
-    (z .result .value) (drop (z .result .at) s)
-    (went (z .result .value) (drop (z .result .at) s) (z .ensures) (c .before .before .before .before .before .before .before .enum-told2 .given .1)) (power .result)
-    (power .ensures ∙ ap (λ (e : ℕ). 2 ^ e) (c .before .before .before .before .before .before .wide .ensures))
-    (n .result) (stopped (x .result .value) (drop (x .result .at) s) (x .ensures) (c .before .before .x .given .1)) (n .ensures)
-
-enum-told-3 : tie.Need-enum-told-3
-enum-told-3 c = search needs
-
-wide-requires-2 : tie.Need-wide-requires-2
-wide-requires-2 c κs = search needs
-
-returns-4 : tie.Need-returns-4
-returns-4 c =
-    let power = c .before .before .before .before .power in
-    let wide = c .before .before .before .before .before .wide in
-    let start = c .before .before .before .before .before .before .before .before .before .before .before .before .before in
+    let power = c .before .before .before .power in
+    let wide = c .before .before .before .before .wide in
+    let start = c .before .before .before .before .before .before .before .before .before in
     let a = start .args in
     let s = now (a .bytes) in
-    let m = c .before .before .before .before .before .before .before .before .before .before .before .read-byte in
-    let z = c .before .before .before .before .before .before .before .before .read-byte2 in
-    let x = c .before .before .before .read-byte3 in
-    rw (wide .ensures, c .wide2 .ensures) (head-goes s (a .at) (a .nodes) (a .k) (a .least) (m .result .value) (drop (m .result .at) s)
-    (went (m .result .value) (drop (m .result .at) s) (m .ensures) (c .before .before .before .before .before .before .before .before .before .enum-told .given .1))
-    (z .result .value) (drop (z .result .at) s)
-    (went (z .result .value) (drop (z .result .at) s) (z .ensures) (c .before .before .before .before .before .before .enum-told2 .given .1)) (power .result)
+    let z = c .before .before .before .before .before .before .before .read-byte in
+    let x = c .before .before .read-byte2 in
+    rw (wide .ensures) (head-goes s (a .at) (a .k) (z .result .value) (drop (z .result .at) s)
+    (went (z .result .value) (drop (z .result .at) s) (z .ensures) (c .before .before .before .before .before .enum-told .given .1)) (power .result)
     (power .ensures ∙ ap (λ (e : ℕ). 2 ^ e) (wide .ensures))
-    (x .result .value) (x .result .at) (went (x .result .value) (drop (x .result .at) s) (x .ensures) (c .before .enum-told3 .given .1)) (start .pre) (omega arith))
+    (x .result .value) (x .result .at) (went (x .result .value) (drop (x .result .at) s) (x .ensures) (c .enum-told2 .given .1)) (start .pre))
 
 pub read-head-spec : {M : Type 1} → statement M
 read-head-spec =
@@ -123,17 +90,11 @@ read-head-spec =
     no-head-requires
     returns
     enum-told
+    wide-requires
+    power-requires
     read-byte-requires-2
     enum-known-w
     no-head-requires-2
     returns-2
     enum-told-2
-    wide-requires
-    power-requires
-    read-byte-requires-3
-    enum-known-x
-    no-head-requires-3
-    returns-3
-    enum-told-3
-    wide-requires-2
-    returns-4)
+    returns-3)

@@ -12,8 +12,8 @@ use borrow.Author.Needs.{needs}
 use Rattle.cover_rows.proofs.read_leaves.Statement.{statement}
 use Rattle.cover_rows.proofs.read_leaves.Tie as tie
 
-read-items-requires : tie.Need-read-items-requires
-read-items-requires c κs = search needs
+read-numbers-requires : tie.Need-read-numbers-requires
+read-numbers-requires c κs = search needs
 
 enum-known-v : tie.Need-enum-known-v
 enum-known-v c = search needs
@@ -25,9 +25,9 @@ returns : tie.Need-returns
 returns c =
     let a = c .before .before .before .before .before .before .args in
     let s = now (a .bytes) in
-    let x = c .before .before .before .before .read-items in
+    let x = c .before .before .before .before .read-numbers in
     let n = c .no-leaves in
-    nodes-stop s (a .at) (a .nodes) (a .n) (a .map) (n .result) (stopped (take (a .n) (x .result .values)) (drop (x .result .at) s) (x .ensures .result) (c .before .before .v .given .1)) (n .ensures)
+    nodes-stop (a .two) s (a .at) (a .nodes) (a .n) (a .map) (n .result) (stopped (take (a .n) (x .result .values)) (drop (x .result .at) s) (x .ensures .result) (c .before .before .v .given .1)) (n .ensures)
 
 enum-told : tie.Need-enum-told
 enum-told c = search needs
@@ -35,8 +35,8 @@ enum-told c = search needs
 count-of-requires : tie.Need-count-of-requires
 count-of-requires c κs = search needs
 
-read-depths-requires : tie.Need-read-depths-requires
-read-depths-requires c κs = search needs
+read-numbers-requires-2 : tie.Need-read-numbers-requires-2
+read-numbers-requires-2 c κs = search needs
 
 enum-known-w : tie.Need-enum-known-w
 enum-known-w c = search needs
@@ -48,11 +48,11 @@ returns-2 : tie.Need-returns-2
 returns-2 c =
     let a = c .before .before .before .before .before .before .before .before .before .before .args in
     let s = now (a .bytes) in
-    let x = c .before .before .before .before .before .before .before .before .read-items in
+    let x = c .before .before .before .before .before .before .before .before .read-numbers in
     let m = c .before .before .before .before .before .count-of in
-    let y = c .before .before .before .before .read-depths in
+    let y = c .before .before .before .before .read-numbers2 in
     let n = c .no-leaves2 in
-    depths-stop s (a .at) (a .nodes) (a .n) (a .map) (take (a .n) (x .result .values)) (drop (x .result .at) s)
+    depths-stop (a .two) s (a .at) (a .nodes) (a .n) (a .map) (take (a .n) (x .result .values)) (drop (x .result .at) s)
     (went (take (a .n) (x .result .values)) (drop (x .result .at) s) (x .ensures .result) (c .before .before .before .before .before .before .enum-told .given .1)) (m .result) (m .ensures .is)
     (n .result) (stopped (take (m .result) (y .result .values)) (drop (y .result .at) s) (y .ensures .result) (c .before .before .w .given .1)) (n .ensures)
 
@@ -74,12 +74,12 @@ returns-3 c =
     let start = c .before .before .before .before .before .before .before .before .before .before .before .before .before .before in
     let a = start .args in
     let s = now (a .bytes) in
-    let x = c .before .before .before .before .before .before .before .before .before .before .before .before .read-items in
+    let x = c .before .before .before .before .before .before .before .before .before .before .before .before .read-numbers in
     let m = c .before .before .before .before .before .before .before .before .before .count-of in
-    let y = c .before .before .before .before .before .before .before .before .read-depths in
+    let y = c .before .before .before .before .before .before .before .before .read-numbers2 in
     let n = c .no-leaves3 in
     let long = x .ensures .long in
-    rising-stop s (a .at) (a .nodes) (a .n) (a .map) (take (a .n) (x .result .values)) (drop (x .result .at) s)
+    rising-stop (a .two) s (a .at) (a .nodes) (a .n) (a .map) (take (a .n) (x .result .values)) (drop (x .result .at) s)
     (went (take (a .n) (x .result .values)) (drop (x .result .at) s) (x .ensures .result)
     (c .before .before .before .before .before .before .before .before .before .before .enum-told .given .1)) (m .result) (m .ensures .is)
     (take (m .result) (y .result .values)) (drop (y .result .at) s)
@@ -93,12 +93,12 @@ returns-4 c =
     let start = c .before .before .before .before .before .before .before .before .before .before .before .before .before in
     let a = start .args in
     let s = now (a .bytes) in
-    let x = c .before .before .before .before .before .before .before .before .before .before .before .read-items in
+    let x = c .before .before .before .before .before .before .before .before .before .before .before .read-numbers in
     let m = c .before .before .before .before .before .before .before .before .count-of in
-    let y = c .before .before .before .before .before .before .before .read-depths in
+    let y = c .before .before .before .before .before .before .before .read-numbers2 in
     let long = x .ensures .long in
     record {
-      result = leaves-go s (a .at) (a .nodes) (a .n) (a .map) (take (a .n) (x .result .values)) (drop (x .result .at) s)
+      result = leaves-go (a .two) s (a .at) (a .nodes) (a .n) (a .map) (take (a .n) (x .result .values)) (drop (x .result .at) s)
           (went (take (a .n) (x .result .values)) (drop (x .result .at) s) (x .ensures .result)
           (c .before .before .before .before .before .before .before .before .before .enum-told .given .1)) (m .result) (m .ensures .is)
           (take (m .result) (y .result .values)) (drop (y .result .at) s)
@@ -114,13 +114,13 @@ pub read-leaves-spec : {M : Type 1} → statement M
 read-leaves-spec =
     tie.close
     (tie.spec
-    read-items-requires
+    read-numbers-requires
     enum-known-v
     no-leaves-requires
     returns
     enum-told
     count-of-requires
-    read-depths-requires
+    read-numbers-requires-2
     enum-known-w
     no-leaves-requires-2
     returns-2

@@ -1,19 +1,21 @@
--- `cover_rows::read_lut` meets its contract: one law for each way out.
+-- `cover_rows::read_lut` meets its contract: the root is refused, or the rest is read behind it.
 use denote.Ref.{now}
 use mathlib.Core.Path.{_∙_}
+use mathlib.Core.Bool.{Bool, true, false}
+use Prim.Native.Nat.{_<_}
 use lib.ListN.{drop}
 use native.Mathlib.Omega.{arith}
-use Rattle.net_model.specs.Arrays.{copiesFrom}
-use mir.Syntax.{w64}
-use mir.Val.{SFits}
-use Rattle.signed.specs.RangeLaws.{back}
-use Rattle.net_fields.specs.FieldLaws.{went, stopped, stopping, onward-went, onward-stopped, not-both}
+use Rattle.net_bytes.specs.Readers.{then-goes, then-stops}
+use Rattle.cover_records.specs.CoverBytes.{lutBody}
+use Rattle.cover_records.specs.LutStages.{lut-stages}
+use Rattle.net_fields.specs.FieldLaws.{went, stopped, stopping, not-both}
+use Rattle.net_fields.specs.FieldListLaws.{some-room}
 use borrow.Author.Needs.{needs}
 use Rattle.cover_rows.proofs.read_lut.Statement.{statement}
 use Rattle.cover_rows.proofs.read_lut.Tie as tie
 
-read-head-requires : tie.Need-read-head-requires
-read-head-requires c κs = search needs
+read-number-requires : tie.Need-read-number-requires
+read-number-requires c κs = search needs
 
 enum-known-v : tie.Need-enum-known-v
 enum-known-v c = search needs
@@ -25,108 +27,44 @@ returns : tie.Need-returns
 returns c =
     let a = c .before .before .before .before .before .before .args in
     let s = now (a .bytes) in
-    let h = c .before .before .before .before .read-head in
+    let m = c .before .before .before .before .read-number in
     let n = c .no-row in
     record {
-      result = stopping _ _ (onward-stopped _ (h .ensures .result) (c .before .before .v .given .1)) (n .ensures .0);
-      few = omega (arith, n .ensures .2);
-      root = omega (arith, n .ensures .1);
-      small = λ good. absurd (not-both good (n .ensures .0));
+      result = stopping _ _ (lut-stages (a .two) (a .nodes) (a .k) (a .least) (drop (a .at) s)
+          ∙ then-stops (lutBody (a .two) (a .nodes) (a .k)) (stopped (m .result .value) (drop (m .result .at) s) (m .ensures .result) (c .before .before .v .given .1))) (n .ensures .0);
+      keeps = record {
+        few = omega (arith, n .ensures .2);
+        root = omega (arith, n .ensures .1, some-room (a .two));
+        small = λ good. absurd (not-both good (n .ensures .0));
+      };
     }
 
 enum-told : tie.Need-enum-told
 enum-told c = search needs
 
-read-leaves-requires : tie.Need-read-leaves-requires
-read-leaves-requires c κs = search needs
-
-enum-known-w : tie.Need-enum-known-w
-enum-known-w c = search needs
-
-no-row-requires-2 : tie.Need-no-row-requires-2
-no-row-requires-2 c κs = search needs
+read-body-requires : tie.Need-read-body-requires
+read-body-requires c κs = (c .before .before .before .before .pre, c .before .before .read-number .ensures .small)
 
 returns-2 : tie.Need-returns-2
 returns-2 c =
-    let a = c .before .before .before .before .before .before .before .before .before .args in
+    let a = c .before .before .before .before .before .args in
     let s = now (a .bytes) in
-    let h = c .before .before .before .before .before .before .before .read-head in
-    let l = c .before .before .before .before .read-leaves in
-    let n = c .no-row2 in
+    let m = c .before .before .before .read-number in
+    let b = c .read-body in
     record {
-      result = stopping _ _ (onward-went _ (h .ensures .result) (c .before .before .before .before .before .enum-told .given .1)
-          ∙ onward-stopped _ (l .ensures .result (h .result .root)) (c .before .before .w .given .1)) (n .ensures .0);
-      few = omega (arith, n .ensures .2);
-      root = omega (arith, n .ensures .1);
-      small = λ good. absurd (not-both good (n .ensures .0));
-    }
-
-enum-told-2 : tie.Need-enum-told-2
-enum-told-2 c = search needs
-
-read-tail-requires : tie.Need-read-tail-requires
-read-tail-requires c κs = search needs
-
-enum-known-x : tie.Need-enum-known-x
-enum-known-x c = search needs
-
-no-row-requires-3 : tie.Need-no-row-requires-3
-no-row-requires-3 c κs = search needs
-
-returns-3 : tie.Need-returns-3
-returns-3 c =
-    let a = c .before .before .before .before .before .before .before .before .before .before .before .before .args in
-    let s = now (a .bytes) in
-    let h = c .before .before .before .before .before .before .before .before .before .before .read-head in
-    let l = c .before .before .before .before .before .before .before .read-leaves in
-    let t = c .before .before .before .before .read-tail in
-    let n = c .no-row3 in
-    record {
-      result = stopping _ _ (onward-went _ (h .ensures .result) (c .before .before .before .before .before .before .before .before .enum-told .given .1)
-          ∙ onward-went _ (l .ensures .result (h .result .root)) (c .before .before .before .before .before .enum-told2 .given .1)
-          ∙ stopped _ (drop (t .result .at) s) (t .ensures (h .result .root) (copiesFrom (l .result .nodes) (l .result .backs) 0 (h .result .size))) (c .before .before .x .given .1)) (n .ensures .0);
-      few = omega (arith, n .ensures .2);
-      root = omega (arith, n .ensures .1);
-      small = λ good. absurd (not-both good (n .ensures .0));
-    }
-
-enum-told-3 : tie.Need-enum-told-3
-enum-told-3 c = search needs
-
-returns-4 : tie.Need-returns-4
-returns-4 c =
-    let a = c .before .before .before .before .before .before .before .before .before .before .before .before .before .args in
-    let s = now (a .bytes) in
-    let h = c .before .before .before .before .before .before .before .before .before .before .before .read-head in
-    let l = c .before .before .before .before .before .before .before .before .read-leaves in
-    let t = c .before .before .before .before .before .read-tail in
-    let fits : SFits w64 (t .result .lag) = search needs in
-    record {
-      result = rw (back (t .result .lag) fits) (onward-went _ (h .ensures .result) (c .before .before .before .before .before .before .before .before .before .enum-told .given .1)
-          ∙ onward-went _ (l .ensures .result (h .result .root)) (c .before .before .before .before .before .before .enum-told2 .given .1)
-          ∙ went _ (drop (t .result .at) s) (t .ensures (h .result .root) (copiesFrom (l .result .nodes) (l .result .backs) 0 (h .result .size))) (c .before .before .before .enum-told3 .given .1));
-      few = h .ensures .few;
-      root = h .ensures .root;
-      small = λ good. l .ensures .small (c .before .before .before .before .before .before .enum-told2 .given .1);
+      result = lut-stages (a .two) (a .nodes) (a .k) (a .least) (drop (a .at) s)
+          ∙ then-goes (lutBody (a .two) (a .nodes) (a .k)) (went (m .result .value) (drop (m .result .at) s) (m .ensures .result) (c .before .enum-told .given .1)) ∙ b .ensures .result;
+      keeps = b .ensures .keeps;
     }
 
 pub read-lut-spec : {M : Type 1} → statement M
 read-lut-spec =
     tie.close
     (tie.spec
-    read-head-requires
+    read-number-requires
     enum-known-v
     no-row-requires
     returns
     enum-told
-    read-leaves-requires
-    enum-known-w
-    no-row-requires-2
-    returns-2
-    enum-told-2
-    read-tail-requires
-    enum-known-x
-    no-row-requires-3
-    returns-3
-    enum-told-3
-    returns-4)
+    read-body-requires
+    returns-2)

@@ -9,8 +9,8 @@ use Rattle.net_fields.specs.FieldListLaws.{first-taken, fromBytes-take}
 use mir.Syntax.{w64}
 use mir.Val.{toZ, ofZ}
 use Rattle.signed.specs.RangeLaws.{back, fits-of}
-use Rattle.cover_records.specs.CoverBytes.{fromSigned}
-use Rattle.cover_rows.specs.SignedLaws.{signed-small}
+use Rattle.cover_records.specs.CoverBytes.{fromSigned, halfRange}
+use Rattle.cover_rows.specs.SignedLaws.{signed-small, half-small}
 use Rattle.net_fields.specs.FieldLaws.{went, stopped, stopping}
 use Rattle.cover_rows.specs.LutReadLaws.{lags-stop, table-stops, tail-goes}
 use borrow.Author.Needs.{needs}
@@ -20,8 +20,8 @@ use Rattle.cover_rows.proofs.read_tail.Tie as tie
 wide-requires : tie.Need-wide-requires
 wide-requires c κs = search needs
 
-read-items-requires : tie.Need-read-items-requires
-read-items-requires c κs = search needs
+read-numbers-requires : tie.Need-read-numbers-requires
+read-numbers-requires c κs = search needs
 
 enum-known-v : tie.Need-enum-known-v
 enum-known-v c = search needs
@@ -35,9 +35,9 @@ returns c =
     let a = c .before .before .before .before .before .before .before .args in
     let s = now (a .bytes) in
     let q = wide .result / 64 in
-    let x = c .before .before .before .before .read-items in
+    let x = c .before .before .before .before .read-numbers in
     let n = c .no-tail in
-    λ root L. stopping _ _ (lags-stop (a .n) (a .map) q (tableBytes (a .n)) (ap (λ (m : ℕ). m / 64) (wide .ensures)) refl root L (drop (a .at) s)
+    λ root L. stopping _ _ (lags-stop (a .two) (a .n) (a .map) q (tableBytes (a .n)) (ap (λ (m : ℕ). m / 64) (wide .ensures)) refl root L (drop (a .at) s)
     (stopped (take q (x .result .values)) (drop (x .result .at) s) (x .ensures .result) (c .before .before .v .given .1))) (n .ensures)
 
 enum-told : tie.Need-enum-told
@@ -46,8 +46,8 @@ enum-told c = search needs
 table-bytes-requires : tie.Need-table-bytes-requires
 table-bytes-requires c κs = search needs
 
-read-items-requires-2 : tie.Need-read-items-requires-2
-read-items-requires-2 c κs = search needs
+read-items-requires : tie.Need-read-items-requires
+read-items-requires c κs = search needs
 
 enum-known-w : tie.Need-enum-known-w
 enum-known-w c = search needs
@@ -61,11 +61,11 @@ returns-2 c =
     let a = c .before .before .before .before .before .before .before .before .before .before .before .args in
     let s = now (a .bytes) in
     let q = wide .result / 64 in
-    let x = c .before .before .before .before .before .before .before .before .read-items in
+    let x = c .before .before .before .before .before .before .before .before .read-numbers in
     let b = c .before .before .before .before .before .table-bytes in
-    let y = c .before .before .before .before .read-items2 in
+    let y = c .before .before .before .before .read-items in
     let n = c .no-tail2 in
-    λ root L. stopping _ _ (table-stops (a .n) (a .map) q (b .result) (ap (λ (m : ℕ). m / 64) (wide .ensures)) (b .ensures .is) root L (drop (a .at) s)
+    λ root L. stopping _ _ (table-stops (a .two) (a .n) (a .map) q (b .result) (ap (λ (m : ℕ). m / 64) (wide .ensures)) (b .ensures .is) root L (drop (a .at) s)
     (take q (x .result .values)) (drop (x .result .at) s)
     (went (take q (x .result .values)) (drop (x .result .at) s) (x .ensures .result) (c .before .before .before .before .before .before .enum-told .given .1))
     (stopped (take (b .result) (y .result .values)) (drop (y .result .at) s) (y .ensures .result) (c .before .before .w .given .1))) (n .ensures)
@@ -73,11 +73,11 @@ returns-2 c =
 enum-told-2 : tie.Need-enum-told-2
 enum-told-2 c = search needs
 
-array-read-lag-of-byte : tie.Need-array-read-lag-of-byte
-array-read-lag-of-byte c = search needs
+array-read-lag-of-number : tie.Need-array-read-lag-of-number
+array-read-lag-of-number c = search needs
 
-lag-of-byte-requires : tie.Need-lag-of-byte-requires
-lag-of-byte-requires c κs = search needs
+lag-of-number-requires : tie.Need-lag-of-number-requires
+lag-of-number-requires c κs = c .before .before .before .before .before .before .before .before .read-numbers .ensures .small 0
 
 number-requires : tie.Need-number-requires
 number-requires c κs = search needs
@@ -88,17 +88,17 @@ returns-3 c =
     let a = c .before .before .before .before .before .before .before .before .before .before .before .before .before .args in
     let s = now (a .bytes) in
     let q = wide .result / 64 in
-    let x = c .before .before .before .before .before .before .before .before .before .before .read-items in
+    let x = c .before .before .before .before .before .before .before .before .before .before .read-numbers in
     let b = c .before .before .before .before .before .before .before .table-bytes in
-    let y = c .before .before .before .before .before .before .read-items2 in
-    λ root L. tail-goes (a .n) (a .map) q (b .result) (ap (λ (m : ℕ). m / 64) (wide .ensures)) (b .ensures .is) root L (drop (a .at) s)
+    let y = c .before .before .before .before .before .before .read-items in
+    λ root L. tail-goes (a .two) (a .n) (a .map) q (b .result) (ap (λ (m : ℕ). m / 64) (wide .ensures)) (b .ensures .is) root L (drop (a .at) s)
     (take q (x .result .values)) (drop (x .result .at) s)
     (went (take q (x .result .values)) (drop (x .result .at) s) (x .ensures .result) (c .before .before .before .before .before .before .before .before .enum-told .given .1))
     (take (b .result) (y .result .values)) (drop (y .result .at) s)
     (went (take (b .result) (y .result .values)) (drop (y .result .at) s) (y .ensures .result) (c .before .before .before .before .enum-told2 .given .1))
-    (toZ w64 (ofZ w64 (c .before .lag-of-byte .result))) (c .number .result)
-    (back (c .before .lag-of-byte .result) (fits-of (c .before .lag-of-byte .result) 128 (omega arith)
-    (rw (c .before .lag-of-byte .ensures) (signed-small (getD (x .result .values) 0 0)))) ∙ c .before .lag-of-byte .ensures ∙ ap fromSigned
+    (toZ w64 (ofZ w64 (c .before .lag-of-number .result))) (c .number .result)
+    (back (c .before .lag-of-number .result) (fits-of (c .before .lag-of-number .result) (halfRange (a .two)) (omega (arith, half-small (a .two)))
+    (rw (c .before .lag-of-number .ensures) (signed-small (a .two) (getD (x .result .values) 0 0)))) ∙ c .before .lag-of-number .ensures ∙ ap (fromSigned (a .two))
     (sym (first-taken q (x .result .values) (x .ensures .spare))))
     (c .number .ensures ∙ sym (fromBytes-take (b .result) (y .result .values) (y .ensures .spare)))
 
@@ -107,18 +107,18 @@ read-tail-spec =
     tie.close
     (tie.spec
     wide-requires
-    read-items-requires
+    read-numbers-requires
     enum-known-v
     no-tail-requires
     returns
     enum-told
     table-bytes-requires
-    read-items-requires-2
+    read-items-requires
     enum-known-w
     no-tail-requires-2
     returns-2
     enum-told-2
-    array-read-lag-of-byte
-    lag-of-byte-requires
+    array-read-lag-of-number
+    lag-of-number-requires
     number-requires
     returns-3)

@@ -23,11 +23,14 @@ loop-holds c = (c .pre, omega arith, rising-none (c .args .t1) (c .args .t2) (c 
 add-loop : tie.Need-add-loop Inv-loop μ-loop
 add-loop c = omega (arith, c .loop .inv .1)
 
+mul-comes-before : tie.Need-mul-comes-before Inv-loop μ-loop
+mul-comes-before c = omega (arith, c .before .loop .inv .1)
+
 array-read-comes-before : tie.Need-array-read-comes-before Inv-loop μ-loop
 array-read-comes-before c = omega (arith, c .before .loop .inv .0)
 
-mul-comes-before : tie.Need-mul-comes-before Inv-loop μ-loop
-mul-comes-before c = omega (arith, c .before .loop .inv .1)
+mul-comes-before-2 : tie.Need-mul-comes-before-2 Inv-loop μ-loop
+mul-comes-before-2 c = omega (arith, c .before .loop .inv .1)
 
 array-read-comes-before-2 : tie.Need-array-read-comes-before-2 Inv-loop μ-loop
 array-read-comes-before-2 c = omega (arith, c .before .loop .inv .0)
@@ -35,14 +38,17 @@ array-read-comes-before-2 c = omega (arith, c .before .loop .inv .0)
 add-comes-before : tie.Need-add-comes-before Inv-loop μ-loop
 add-comes-before c = omega (arith, c .before .loop .inv .1)
 
+mul-comes-before-3 : tie.Need-mul-comes-before-3 Inv-loop μ-loop
+mul-comes-before-3 c = omega (arith, c .before .loop .inv .1)
+
 array-read-comes-before-3 : tie.Need-array-read-comes-before-3 Inv-loop μ-loop
 array-read-comes-before-3 c = omega (arith, c .before .loop .inv .0)
 
 add-comes-before-2 : tie.Need-add-comes-before-2 Inv-loop μ-loop
 add-comes-before-2 c = omega (arith, c .before .loop .inv .1)
 
-mul-comes-before-2 : tie.Need-mul-comes-before-2 Inv-loop μ-loop
-mul-comes-before-2 c = omega (arith, c .before .loop .inv .1)
+mul-comes-before-4 : tie.Need-mul-comes-before-4 Inv-loop μ-loop
+mul-comes-before-4 c = omega (arith, c .before .loop .inv .1)
 
 array-read-comes-before-4 : tie.Need-array-read-comes-before-4 Inv-loop μ-loop
 array-read-comes-before-4 c = omega (arith, c .before .loop .inv .0)
@@ -83,13 +89,15 @@ rising-spec =
     μ-loop
     loop-holds
     add-loop
-    array-read-comes-before
     mul-comes-before
+    array-read-comes-before
+    mul-comes-before-2
     array-read-comes-before-2
     add-comes-before
+    mul-comes-before-3
     array-read-comes-before-3
     add-comes-before-2
-    mul-comes-before-2
+    mul-comes-before-4
     array-read-comes-before-4
     comes-before-requires
     returns

@@ -5,21 +5,21 @@ use lib.Signed.{_<ℤ_, ltZ}
 use mathlib.Core.Bool.{true, false}
 use mir.Syntax.{w64}
 use mir.Val.{toZ, ofZ}
-use Rattle.cover_records.specs.CoverBytes.{signedByte}
+use Rattle.cover_records.specs.CoverBytes.{signedNumber}
 use Rattle.cover_records.specs.RoundTrip.{SmallLag}
 use Rattle.signed.specs.RangeLaws.{back, ltZ-true, ltZ-false}
 use Rattle.cover_writer.specs.LagBytesLaws.{signed-small, lag-fits, byte-fits, below-zero, from-zero}
 use Rattle.cover_writer.proofs.byte_of_lag.Statement.{statement}
 use Rattle.cover_writer.proofs.byte_of_lag.Tie as tie
 
-negative : {z : ℤ} → SmallLag z → ltZ (toZ w64 (ofZ w64 z)) (pos 0) ≡ true → z <ℤ pos 0
+negative : {z : ℤ} → SmallLag false z → ltZ (toZ w64 (ofZ w64 z)) (pos 0) ≡ true → z <ℤ pos 0
 negative {z} s t = ltZ-true z (pos 0) (rw (back z (lag-fits s)) at t)
 
 -- the stored sum, and the stored lag
-high : {z : ℤ} → SmallLag z → ltZ (toZ w64 (ofZ w64 z)) (pos 0) ≡ true → toZ w64 (ofZ w64 (toZ w64 (ofZ w64 z) +ℤ pos 256)) ≡ pos (signedByte z)
-high {z} s t = rw (back z (lag-fits s)) (rw (below-zero s (negative s t)) (back (pos (signedByte z)) (byte-fits s)))
+high : {z : ℤ} → SmallLag false z → ltZ (toZ w64 (ofZ w64 z)) (pos 0) ≡ true → toZ w64 (ofZ w64 (toZ w64 (ofZ w64 z) +ℤ pos 256)) ≡ pos (signedNumber false z)
+high {z} s t = rw (back z (lag-fits s)) (rw (below-zero s (negative s t)) (back (pos (signedNumber false z)) (byte-fits s)))
 
-low : {z : ℤ} → SmallLag z → ltZ (toZ w64 (ofZ w64 z)) (pos 0) ≡ false → toZ w64 (ofZ w64 z) ≡ pos (signedByte z)
+low : {z : ℤ} → SmallLag false z → ltZ (toZ w64 (ofZ w64 z)) (pos 0) ≡ false → toZ w64 (ofZ w64 z) ≡ pos (signedNumber false z)
 low {z} s t = back z (lag-fits s) ∙ from-zero s (ltZ-false z (pos 0) (rw (back z (lag-fits s)) at t))
 
 add-result : tie.Need-add-result

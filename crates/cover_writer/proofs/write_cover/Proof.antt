@@ -1,6 +1,7 @@
 -- `cover_writer::write_cover` meets its contract: the LUTs stand behind the period and their number.
 use borrow.Author.Needs.{needs}
 use mathlib.Core.Path.{_≡_}
+use mathlib.Core.Bool.{false}
 use mathlib.Core.List.{List, [], _∷_, _++_}
 use Prim.Native.Nat.{ℕ, _≤_}
 use native.Mathlib.Omega.{arith}
@@ -16,11 +17,11 @@ use Rattle.cover_writer.proofs.write_cover.Tie as tie
 
 -- there is room for both parts, and for the first
 module _ (a : Kept) (count : ℕ) {area : List ℕ} (p : Writable a area) (e : count ≡ marked (a .marks) (a .gates)) where
-  both : length ((a .period ∷ count ∷ []) ++ allLutBytes (entriesIn a)) ≤ length area
+  both : length ((a .period ∷ count ∷ []) ++ allLutBytes false (entriesIn a)) ≤ length area
   both = rw (cover-bytes a count e) at (p .room)
 
   two : 2 ≤ length area
-  two = let h = both in omega (arith, length-append (a .period ∷ count ∷ []) (allLutBytes (entriesIn a)))
+  two = let h = both in omega (arith, length-append (a .period ∷ count ∷ []) (allLutBytes false (entriesIn a)))
 
 count-luts-requires : tie.Need-count-luts-requires
 count-luts-requires c κs = search needs
@@ -67,7 +68,7 @@ write-luts-requires c κs =
     record {
       arrays = p .arrays;
       luts = p .luts;
-      room = room-behind (allLutBytes (entriesIn a)) (c .before .before .before .write-front .ensures) (both a (count-luts .result) p (count-luts .ensures));
+      room = room-behind (allLutBytes false (entriesIn a)) (c .before .before .before .write-front .ensures) (both a (count-luts .result) p (count-luts .ensures));
     }
 
 add-result : tie.Need-add-result

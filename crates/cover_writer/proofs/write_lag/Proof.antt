@@ -1,10 +1,11 @@
 -- `cover_writer::write_lag` meets its contract: no byte, or the signed one.
 use borrow.Author.Needs.{needs}
 use mathlib.Core.Path.{ap, _∙_}
+use mathlib.Core.Bool.{false}
 use native.Mathlib.Omega.{arith}
 use lib.ListN.{length}
 use denote.Ref.{now}
-use Rattle.cover_records.specs.CoverBytes.{signedByte}
+use Rattle.cover_records.specs.CoverBytes.{signedNumber}
 use Rattle.signed.specs.RangeLaws.{back}
 use Rattle.cover_writer.specs.BytesBehind.{wrote-none, wrote-next}
 use Rattle.cover_writer.specs.LagBytesLaws.{zero-bits, other-bits, no-lag, some-lag, lag-fits}
@@ -37,8 +38,8 @@ returns-2 c =
     let b = some-lag z (other-bits z (c .before .if1 .left)) in
     let e = ap length b in
     let r = start .pre .1 in
-    let v = c .byte-of-lag .ensures ∙ ap signedByte (back z (lag-fits (start .pre .0))) in
-    rw (b, v) (wrote-next (signedByte z) (omega arith) (wrote-none (now (start .args .area))))
+    let v = c .byte-of-lag .ensures ∙ ap (signedNumber false) (back z (lag-fits (start .pre .0))) in
+    rw (b, v) (wrote-next (signedNumber false z) (omega arith) (wrote-none (now (start .args .area))))
 
 pub write-lag-spec : {M : Type 1} → statement M
 write-lag-spec =

@@ -1,7 +1,7 @@
 -- `cover_writer::write_lut` meets its contract: the leaves stand behind the first three bytes, and the lag and the table behind them.
 use borrow.Author.Needs.{needs}
 use mathlib.Core.Path.{_≡_, ap, ap₂, _∙_}
-use mathlib.Core.Bool.{cond}
+use mathlib.Core.Bool.{cond, false}
 use mathlib.Core.List.{List, [], _++_}
 use Prim.Native.Nat.{ℕ, _≤_, _<_, _+_}
 use native.Mathlib.Omega.{arith}
@@ -50,7 +50,7 @@ module _ {root : ℕ} {nodes backs : List ℕ} {at n : ℕ} {lag : ℤ} {table :
   three : 3 ≤ length area
   three = let h = two in omega (arith, length-append (headBytes root n (mapOf backs at n lag)) (leafBytes (copiesFrom nodes backs at n)))
 
-stored : {z : ℤ} (n t : ℕ) {before after : List ℕ} {r : ℕ} → SmallLag z → Wrote (valueBytes (toZ w64 (ofZ w64 z)) n t) before after r → Wrote (valueBytes z n t) before after r
+stored : {z : ℤ} (n t : ℕ) {before after : List ℕ} {r : ℕ} → SmallLag false z → Wrote (valueBytes (toZ w64 (ofZ w64 z)) n t) before after r → Wrote (valueBytes z n t) before after r
 stored {z} n t s w = rw (back z (lag-fits s)) at w
 
 leaf-map-requires : tie.Need-leaf-map-requires

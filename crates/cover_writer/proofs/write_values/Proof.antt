@@ -1,5 +1,6 @@
 -- `cover_writer::write_values` meets its contract: the table stands behind the lag.
 use borrow.Author.Needs.{needs}
+use mathlib.Core.Bool.{false}
 use mathlib.Core.List.{List, _++_}
 use Prim.Native.Nat.{ℕ, _≤_}
 use native.Mathlib.Omega.{arith}
@@ -20,14 +21,14 @@ use Rattle.cover_writer.proofs.write_values.Statement.{statement}
 use Rattle.cover_writer.proofs.write_values.Tie as tie
 
 -- there is room for both parts, and for the first
-both : (z : ℤ) (n t : ℕ) (area : List ℕ) → length (valueBytes z n t) ≤ length area → length (lagBytes z ++ toBytes (tableBytes n) t) ≤ length area
+both : (z : ℤ) (n t : ℕ) (area : List ℕ) → length (valueBytes z n t) ≤ length area → length (lagBytes false z ++ toBytes (tableBytes n) t) ≤ length area
 both z n t area h = rw value-bytes at h
 
-first : (z : ℤ) (n t : ℕ) (area : List ℕ) → length (valueBytes z n t) ≤ length area → length (lagBytes z) ≤ length area
-first z n t area h = let l = both z n t area h in omega (arith, length-append (lagBytes z) (toBytes (tableBytes n) t))
+first : (z : ℤ) (n t : ℕ) (area : List ℕ) → length (valueBytes z n t) ≤ length area → length (lagBytes false z) ≤ length area
+first z n t area h = let l = both z n t area h in omega (arith, length-append (lagBytes false z) (toBytes (tableBytes n) t))
 
 -- the lag as it was lent
-stored : {z : ℤ} {before after : List ℕ} {r : ℕ} → SmallLag z → Wrote (lagBytes (toZ w64 (ofZ w64 z))) before after r → Wrote (lagBytes z) before after r
+stored : {z : ℤ} {before after : List ℕ} {r : ℕ} → SmallLag false z → Wrote (lagBytes false (toZ w64 (ofZ w64 z))) before after r → Wrote (lagBytes false z) before after r
 stored {z} s w = rw (back z (lag-fits s)) at w
 
 table-bytes-requires : tie.Need-table-bytes-requires

@@ -1,100 +1,31 @@
--- `job_map::map` meets its contract: refusals 1 to 3, or all that follows, with the scratch cleared.
+-- `job_map::map` meets its contract: map under document 01's rules.
+use mathlib.Core.Path.{sym, ap, subst, _∙_}
 use denote.Ref.{now}
-use mathlib.Core.Path.{_≡_, refl, sym, _∙_}
-use Prim.Native.Nat.{_≤_}
-use native.Mathlib.Omega.{arith}
-use lib.ListN.{length, drop, length-append, length-drop}
-use lib.Seq.{length-take-le, length-front}
-use Rattle.limits.specs.Limits.{scratchArea}
-use Rattle.job_sizes.specs.SizeLaws.{fit, sizes-small, zero-of}
-use Rattle.job_map.specs.MapSizing.{map-sizes, map-rest}
+use Rattle.limits.specs.Courses.{Offered, is-long}
+use Rattle.limits.specs.declared.Rules.{Rules}
+use Rattle.cover_records.specs.Outcomes.{mapOutcome}
 use borrow.Author.Needs.{needs}
 use Rattle.job_map.proofs.map.Statement.{statement}
 use Rattle.job_map.proofs.map.Tie as tie
-use Rattle.job_map.proofs.map.Reads as reads
-use Rattle.job_map.proofs.map.Lts as lts
-use Rattle.job_sizes.proofs.check_sizes.Reads as check-sizes-reads
-use Rattle.job_map.proofs.map_bytes.Reads as map-bytes-reads
-use Rattle.job_scratch.proofs.clear_first.Reads as clear-first-reads
 
-check-sizes-requires : tie.Need-check-sizes-requires
-check-sizes-requires c κs = search needs
+long-course-requires : tie.Need-long-course-requires
+long-course-requires c κs = search needs
 
-returns : tie.Need-returns
-returns c =
-    let start = c .before .before .before .before .before in (
-      map-sizes (start .args .k) (start .args .target) (now (start .args .area)) (now (start .args .scratch)) (now (start .args .net)) (c .before .check-sizes .result)
-          (c .before .check-sizes .ensures) (c .if1 .taken),
-      (let h = sizes-small (start .args .k) (start .args .target) (length (now (start .args .area))) (length (now (start .args .scratch))) in
-          let e = c .before .check-sizes .ensures in omega arith),
-    )
-
-slice-relend-prefix-map-bytes : tie.Need-slice-relend-prefix-map-bytes
-slice-relend-prefix-map-bytes c =
-    let start = c .before .before .before .before .before .before in
-    let f = fit (start .args .k) (start .args .target) (length (now (start .args .area))) (length (now (start .args .scratch)))
-    (zero-of (c .before .before .check-sizes .ensures) (omega (arith, c .before .if1 .left))) in
-    f .space
-
-slice-aggregate-map-bytes : tie.Need-slice-aggregate-map-bytes
-slice-aggregate-map-bytes c =
-    let start = c .before .before .before .before .before .before .before in
-    let f = fit (start .args .k) (start .args .target) (length (now (start .args .area))) (length (now (start .args .scratch)))
-    (zero-of (c .before .before .before .check-sizes .ensures) (omega (arith, c .before .before .if1 .left))) in
-    sym (length-take-le scratchArea (now (start .args .scratch)) (f .space))
-
-map-bytes-requires : tie.Need-map-bytes-requires
-map-bytes-requires c κs =
-    let start = c .before .before .before .before .before .before .before in
-    let f = fit (start .args .k) (start .args .target) (length (now (start .args .area))) (length (now (start .args .scratch)))
-    (zero-of (c .before .before .before .check-sizes .ensures) (omega (arith, c .before .before .if1 .left))) in
-    let e = length-take-le scratchArea (now (start .args .scratch)) (f .space) in
-    (f .low, f .high, f .near, f .room, omega arith)
-
-clear-first-requires : tie.Need-clear-first-requires
-clear-first-requires c κs =
-    let map-bytes = c .before .before .before .before .before .map-bytes in
-    let start = c .before .before .before .before .before .before .before .before .before .before .before .before .before in
-    let f = fit (start .args .k) (start .args .target) (length (now (start .args .area))) (length (now (start .args .scratch)))
-    (zero-of (c .before .before .before .before .before .before .before .before .before .check-sizes .ensures)
-    (omega (arith, c .before .before .before .before .before .before .before .before .if1 .left))) in
-    let e = map-bytes .kept .1 .1 .1 .1 .0 ∙ length-take-le scratchArea (now (start .args .scratch)) (f .space) in
-    let b = length-append (map-bytes .last .1 .1 .1 .1 .0) (drop scratchArea (now (start .args .scratch))) in
-    omega arith
+map-under-requires : tie.Need-map-under-requires
+map-under-requires c κs = subst Offered (sym (c .long-course .ensures)) is-long
 
 same-length : tie.Need-same-length
 same-length c = search needs
 
 same-length-2 : tie.Need-same-length-2
-same-length-2 c =
-    let map-bytes = c .before .before .before .before .before .before .before .before .map-bytes in
-    c .before .before .clear-first .kept .0 ∙ length-front
-    (now (c .before .before .before .before .before .before .before .before .before .before .before .before .before .before .before .before .args .scratch))
-    (map-bytes .last .1 .1 .1 .1 .0) scratchArea (map-bytes .kept .1 .1 .1 .1 .0)
+same-length-2 c = search needs
 
-returns-2 : tie.Need-returns-2
-returns-2 c =
-    let map-bytes = c .before .before .before .before .before .before .before .before .map-bytes in
-    let if1 = c .before .before .before .before .before .before .before .before .before .before .before .if1 in
-    let check-sizes = c .before .before .before .before .before .before .before .before .before .before .before .before .check-sizes in
-    let start = c .before .before .before .before .before .before .before .before .before .before .before .before .before .before .before .before in
-    let f = fit (start .args .k) (start .args .target) (length (now (start .args .area))) (length (now (start .args .scratch))) (zero-of (check-sizes .ensures) (omega (arith, if1 .left))) in
-    let e = map-bytes .kept .1 .1 .1 .1 .0 ∙ length-take-le scratchArea (now (start .args .scratch)) (f .space) in (
-      map-rest (start .args .k) (start .args .target) (now (start .args .area)) (now (start .args .scratch)) (now (start .args .net)) _ (map-bytes .last .1 .1 .1 .1 .0) _ _
-          (zero-of (check-sizes .ensures) (omega (arith, if1 .left))) (map-bytes .ensures) e (c .before .before .clear-first .ensures),
-      map-bytes .ensures .small,
-    )
+returns : tie.Need-returns
+returns c =
+    let a = c .before .before .before .before .before .before .before .before .before .before .before .args in
+    let m = c .before .before .before .before .map-under .ensures in
+    (ap (λ (R : Rules). mapOutcome R (now (a .net)) (a .k) (a .target) (now (a .area)) (now (a .scratch))) (sym (c .before .before .before .before .before .long-course .ensures)) ∙ m .0, m .1)
 
 pub map-spec : {M : Type 1} → statement M
 map-spec =
-    tie.close
-    (tie.spec
-    check-sizes-requires
-    returns
-    slice-relend-prefix-map-bytes
-    slice-aggregate-map-bytes
-    map-bytes-requires
-    clear-first-requires
-    same-length
-    same-length-2
-    returns-2)
+    tie.close (tie.spec long-course-requires map-under-requires same-length same-length-2 returns)

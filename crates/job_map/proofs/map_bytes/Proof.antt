@@ -1,64 +1,52 @@
 -- `job_map::map_bytes` meets its contract: a refusal of the walk, or the outcome for the net read.
 use denote.Ref.{now}
+use Prim.Native.Nat.{_<_}
 use Rattle.job_map.specs.MapReading.{walk-refused, walk-mapping, walk-maps}
 use borrow.Author.Needs.{needs}
 use Rattle.job_map.proofs.map_bytes.Statement.{statement}
 use Rattle.job_map.proofs.map_bytes.Tie as tie
-use Rattle.job_map.proofs.map_bytes.Reads as reads
-use Rattle.job_map.proofs.map_bytes.Lts as lts
-use Rattle.job_record.proofs.map_read.Reads as map-read-reads
-use Rattle.inputs.proofs.word.Reads as word-reads
-use Rattle.net_reader.proofs.read_net.Reads as read-net-reads
 
--- src/lib.rt:104:9
 read-net-requires : tie.Need-read-net-requires
 read-net-requires c κs = search needs
 
--- src/lib.rt:106:29
 enum-known-v : tie.Need-enum-known-v
 enum-known-v c = search needs
 
 -- the walk refused: the area as it was
 returns : tie.Need-returns
 returns c =
-    let start = c .before .before .before .before .before .before .before in
+    let small : c .before .v .given .0 .0 < 256 = search needs in
+    let a = c .before .before .before .before .before .before .before .args in
     let read-net = c .before .before .before .read-net in
-    let area = now (start .args .area) in
-    walk-refused (start .args .k) (start .args .target) (now (start .args .net)) (read-net .result) (read-net .ensures) area (search needs) (c .before .v .given .1)
+    walk-refused (a .rules) (a .k) (a .target) (now (a .net)) (read-net .result) (read-net .ensures) (now (a .area)) small (c .before .v .given .1)
 
 enum-told : tie.Need-enum-told
 enum-told c = search needs
 
--- src/lib.rt:109:21
 word-requires : tie.Need-word-requires
 word-requires c κs = search needs
 
--- src/lib.rt:109:30
 word-requires-2 : tie.Need-word-requires-2
 word-requires-2 c κs = search needs
 
--- src/lib.rt:109:5
 map-read-requires : tie.Need-map-read-requires
 map-read-requires c κs =
     let read-net = c .before .before .before .before .before .before .read-net in
     let start = c .before .before .before .before .before .before .before .before .before .before in
-    let p = start .pre in walk-mapping (start .args .k) (start .args .target) (now (start .args .net)) (read-net .result) (read-net .ensures)
-    (c .before .before .before .before .enum-told .given .1) (c .before .before .before .word .ensures) (c .before .before .word2 .ensures) (p .0) (p .1) (p .2) (p .3) (p .4)
+    walk-mapping (start .args .rules) (start .args .k) (start .args .target) (now (start .args .net)) (read-net .result) (read-net .ensures) (start .pre .0)
+    (c .before .before .before .before .enum-told .given .1) (c .before .before .before .word .ensures) (c .before .before .word2 .ensures) (start .pre .1)
 
--- src/lib.rt:100:1
 same-length : tie.Need-same-length
 same-length c = search needs
 
--- src/lib.rt:100:1
 same-length-2 : tie.Need-same-length-2
 same-length-2 c = search needs
 
--- src/lib.rt:100:1
 returns-2 : tie.Need-returns-2
 returns-2 c =
     let read-net = c .before .before .before .before .before .before .before .before .before .before .before .read-net in
     let start = c .before .before .before .before .before .before .before .before .before .before .before .before .before .before .before in
-    walk-maps (start .args .k) (start .args .target) (now (start .args .net)) (read-net .result) (read-net .ensures)
+    walk-maps (start .args .rules) (start .args .k) (start .args .target) (now (start .args .net)) (read-net .result) (read-net .ensures) (start .pre .0)
     (c .before .before .before .before .before .before .before .before .before .enum-told .given .1)
     (c .before .before .before .before .before .before .before .before .word .ensures) (c .before .before .before .before .before .before .before .word2 .ensures)
     (c .before .before .before .before .map-read .ensures)

@@ -1,90 +1,27 @@
--- `job_mark::mark` meets its contract: refusals 1 and 3, or all that follows, with the scratch cleared.
+-- `job_mark::mark` meets its contract: mark under document 01's rules.
+use mathlib.Core.Path.{sym, ap, subst, _∙_}
 use denote.Ref.{now}
-use mathlib.Core.Path.{_≡_, refl, sym, _∙_}
-use Prim.Native.Nat.{_≤_}
-use native.Mathlib.Omega.{arith}
-use lib.ListN.{length, drop, length-append, length-drop}
-use lib.Seq.{length-take-le, length-front}
-use Rattle.limits.specs.Limits.{coverArea, scratchArea}
-use Rattle.job_sizes.specs.SizeLaws.{fit, sizes-small, zero-of}
-use Rattle.job_mark.specs.MarkSizing.{mark-sizes, mark-rest}
+use Rattle.limits.specs.Courses.{Offered, is-long}
+use Rattle.limits.specs.declared.Rules.{Rules}
+use Rattle.cover_records.specs.Outcomes.{markOutcome}
 use borrow.Author.Needs.{needs}
 use Rattle.job_mark.proofs.mark.Statement.{statement}
 use Rattle.job_mark.proofs.mark.Tie as tie
-use Rattle.job_mark.proofs.mark.Reads as reads
-use Rattle.job_mark.proofs.mark.Lts as lts
-use Rattle.job_sizes.proofs.check_sizes.Reads as check-sizes-reads
-use Rattle.job_mark.proofs.mark_bytes.Reads as mark-bytes-reads
-use Rattle.job_scratch.proofs.clear_first.Reads as clear-first-reads
 
-check-sizes-requires : tie.Need-check-sizes-requires
-check-sizes-requires c κs = search needs
+long-course-requires : tie.Need-long-course-requires
+long-course-requires c κs = search needs
+
+mark-under-requires : tie.Need-mark-under-requires
+mark-under-requires c κs = subst Offered (sym (c .long-course .ensures)) is-long
+
+same-length : tie.Need-same-length
+same-length c = search needs
 
 returns : tie.Need-returns
 returns c =
-    let start = c .before .before .before .before .before in (
-      mark-sizes (start .args .k) (now (start .args .scratch)) (now (start .args .net)) (now (start .args .cover)) (c .before .check-sizes .result) (c .before .check-sizes .ensures)
-          (c .if1 .taken),
-      (let h = sizes-small (start .args .k) 0 coverArea (length (now (start .args .scratch))) in let e = c .before .check-sizes .ensures in omega arith),
-    )
-
-slice-relend-prefix-mark-bytes : tie.Need-slice-relend-prefix-mark-bytes
-slice-relend-prefix-mark-bytes c =
-    let start = c .before .before .before .before .before in
-    let f = fit (start .args .k) 0 coverArea (length (now (start .args .scratch))) (zero-of (c .before .check-sizes .ensures) (omega (arith, c .if1 .left))) in f .space
-
-slice-aggregate-mark-bytes : tie.Need-slice-aggregate-mark-bytes
-slice-aggregate-mark-bytes c =
-    let start = c .before .before .before .before .before .before in
-    let f = fit (start .args .k) 0 coverArea (length (now (start .args .scratch))) (zero-of (c .before .before .check-sizes .ensures) (omega (arith, c .before .if1 .left))) in sym
-    (length-take-le scratchArea (now (start .args .scratch)) (f .space))
-
-mark-bytes-requires : tie.Need-mark-bytes-requires
-mark-bytes-requires c κs =
-    let start = c .before .before .before .before .before .before in
-    let f = fit (start .args .k) 0 coverArea (length (now (start .args .scratch))) (zero-of (c .before .before .check-sizes .ensures) (omega (arith, c .before .if1 .left))) in
-    let e = length-take-le scratchArea (now (start .args .scratch)) (f .space) in
-    (f .low, f .high, omega arith)
-
-clear-first-requires : tie.Need-clear-first-requires
-clear-first-requires c κs =
-    let mark-bytes = c .before .before .before .mark-bytes in
-    let start = c .before .before .before .before .before .before .before .before .before .before in
-    let f = fit (start .args .k) 0 coverArea (length (now (start .args .scratch)))
-    (zero-of (c .before .before .before .before .before .before .check-sizes .ensures) (omega (arith, c .before .before .before .before .before .if1 .left))) in
-    let e = mark-bytes .kept .1 .1 .1 .0 ∙ length-take-le scratchArea (now (start .args .scratch)) (f .space) in
-    let b = length-append (mark-bytes .last .1 .1 .1 .0) (drop scratchArea (now (start .args .scratch))) in
-    omega arith
-
-same-length : tie.Need-same-length
-same-length c =
-    let mark-bytes = c .before .before .before .before .before .before .mark-bytes in
-    c .before .before .clear-first .kept .0 ∙ length-front
-    (now (c .before .before .before .before .before .before .before .before .before .before .before .before .before .args .scratch)) (mark-bytes .last .1 .1 .1 .0) scratchArea
-    (mark-bytes .kept .1 .1 .1 .0)
-
-returns-2 : tie.Need-returns-2
-returns-2 c =
-    let mark-bytes = c .before .before .before .before .before .before .mark-bytes in
-    let if1 = c .before .before .before .before .before .before .before .before .if1 in
-    let check-sizes = c .before .before .before .before .before .before .before .before .before .check-sizes in
-    let start = c .before .before .before .before .before .before .before .before .before .before .before .before .before in
-    let f = fit (start .args .k) 0 coverArea (length (now (start .args .scratch))) (zero-of (check-sizes .ensures) (omega (arith, if1 .left))) in
-    let e = mark-bytes .kept .1 .1 .1 .0 ∙ length-take-le scratchArea (now (start .args .scratch)) (f .space) in (
-      mark-rest (start .args .k) (now (start .args .scratch)) (now (start .args .net)) (now (start .args .cover)) (mark-bytes .last .1 .1 .1 .0) _ _
-          (zero-of (check-sizes .ensures) (omega (arith, if1 .left))) (mark-bytes .ensures) e (c .before .before .clear-first .ensures),
-      mark-bytes .ensures .small,
-    )
+    let a = c .before .before .before .before .before .before .before .before .args in
+    let m = c .before .before .mark-under .ensures in
+    (ap (λ (R : Rules). markOutcome R (now (a .net)) (a .k) (now (a .cover)) (now (a .scratch))) (sym (c .before .before .before .long-course .ensures)) ∙ m .0, m .1)
 
 pub mark-spec : {M : Type 1} → statement M
-mark-spec =
-    tie.close
-    (tie.spec
-    check-sizes-requires
-    returns
-    slice-relend-prefix-mark-bytes
-    slice-aggregate-mark-bytes
-    mark-bytes-requires
-    clear-first-requires
-    same-length
-    returns-2)
+mark-spec = tie.close (tie.spec long-course-requires mark-under-requires same-length returns)

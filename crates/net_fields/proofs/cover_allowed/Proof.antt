@@ -1,8 +1,6 @@
 -- `net_fields::cover_allowed` meets its contract: each field and its range.
-use mathlib.Core.Path.{refl}
 use native.Mathlib.Omega.{arith}
-use Rattle.limits.specs.Limits.{mostLuts, mostPeriod}
-use Rattle.net_fields.specs.FieldLaws.{in-range, below-range, above-range, size-some, some-not-zero, none-zero}
+use Rattle.net_fields.specs.FieldLaws.{below-range, size-some}
 use borrow.Author.Needs.{needs}
 use Rattle.net_fields.proofs.cover_allowed.Statement.{statement}
 use Rattle.net_fields.proofs.cover_allowed.Tie as tie
@@ -10,124 +8,48 @@ use Rattle.net_fields.proofs.cover_allowed.Tie as tie
 enum-told : tie.Need-enum-told
 enum-told c = search needs
 
-enum-told-2 : tie.Need-enum-told-2
-enum-told-2 c = search needs
-
-enum-known-field : tie.Need-enum-known-field
-enum-known-field c = search needs
-
-gate-requires : tie.Need-gate-requires
-gate-requires c κs = search needs
-
-enum-told-3 : tie.Need-enum-told-3
-enum-told-3 c = search needs
-
 wide-requires : tie.Need-wide-requires
 wide-requires c κs = search needs
 
-enum-told-4 : tie.Need-enum-told-4
-enum-told-4 c = search needs
+enum-told-2 : tie.Need-enum-told-2
+enum-told-2 c = search needs
 
 leaf-map-requires : tie.Need-leaf-map-requires
 leaf-map-requires c κs = search needs
 
-enum-told-5 : tie.Need-enum-told-5
-enum-told-5 c = search needs
-
-wide-requires-2 : tie.Need-wide-requires-2
-wide-requires-2 c κs = search needs
-
-enum-told-6 : tie.Need-enum-told-6
-enum-told-6 c = search needs
-
-enum-told-7 : tie.Need-enum-told-7
-enum-told-7 c = search needs
-
-enum-told-8 : tie.Need-enum-told-8
-enum-told-8 c = search needs
+enum-told-3 : tie.Need-enum-told-3
+enum-told-3 c = search needs
 
 table-byte-requires : tie.Need-table-byte-requires
 table-byte-requires c κs = search needs
 
 returns : tie.Need-returns
-returns c = rw (c .before .before .enum-told .given .1) (in-range 1 mostPeriod (c .before .before .before .before .args .byte) (omega arith) (omega arith))
+returns c =
+    let start = c .before .before .before in
+    rw (c .before .enum-told .given .1) (below-range 1 (start .args .limit) (start .args .byte) (omega arith))
 
 returns-2 : tie.Need-returns-2
-returns-2 c = rw (c .before .enum-told .given .1) (below-range 1 mostPeriod (c .before .before .before .args .byte) (omega arith))
+returns-2 c =
+    let start = c .before .before .before .before in
+    rw (c .before .before .enum-told .given .1) (rw (c .wide .ensures) (size-some (start .args .limit) (start .args .byte) (omega arith)))
 
 returns-3 : tie.Need-returns-3
-returns-3 c = rw (c .before .before .enum-told .given .1) (above-range 1 mostPeriod (c .before .before .before .before .args .byte) (omega arith) (omega arith))
+returns-3 c = rw (c .before .enum-told2 .given .1) (c .leaf-map .ensures)
 
 returns-4 : tie.Need-returns-4
-returns-4 c = rw (c .before .before .enum-told2 .given .1) (in-range 1 mostLuts (c .before .before .before .before .args .byte) (omega arith) (omega arith))
-
-returns-5 : tie.Need-returns-5
-returns-5 c = rw (c .before .enum-told2 .given .1) (below-range 1 mostLuts (c .before .before .before .args .byte) (omega arith))
-
-returns-6 : tie.Need-returns-6
-returns-6 c = rw (c .before .before .enum-told2 .given .1) (above-range 1 mostLuts (c .before .before .before .before .args .byte) (omega arith) (omega arith))
-
-returns-7 : tie.Need-returns-7
-returns-7 c = rw (c .before .before .field .given .1) (c .gate .ensures)
-
-returns-8 : tie.Need-returns-8
-returns-8 c =
-    let start = c .before .before .before in
-    rw (c .before .enum-told3 .given .1) (below-range 1 (start .args .limit) (start .args .byte) (omega arith))
-
-returns-9 : tie.Need-returns-9
-returns-9 c =
-    let start = c .before .before .before .before in
-    rw (c .before .before .enum-told3 .given .1) (rw (c .wide .ensures) (size-some (start .args .limit) (start .args .byte) (omega arith)))
-
-returns-10 : tie.Need-returns-10
-returns-10 c = rw (c .before .enum-told4 .given .1) (c .leaf-map .ensures)
-
-returns-11 : tie.Need-returns-11
-returns-11 c = rw (c .before .enum-told5 .given .1) (rw (c .wide2 .ensures) refl)
-
-returns-12 : tie.Need-returns-12
-returns-12 c = search needs
-
-returns-13 : tie.Need-returns-13
-returns-13 c = rw (c .before .enum-told7 .given .1) (none-zero (c .before .before .before .args .byte) (omega arith))
-
-returns-14 : tie.Need-returns-14
-returns-14 c = rw (c .before .enum-told7 .given .1) (some-not-zero (c .before .before .before .args .byte) (omega arith))
-
-returns-15 : tie.Need-returns-15
-returns-15 c = rw (c .before .enum-told8 .given .1) (c .table-byte .ensures)
+returns-4 c = rw (c .before .enum-told3 .given .1) (c .table-byte .ensures)
 
 pub cover-allowed-spec : {M : Type 1} → statement M
 cover-allowed-spec =
     tie.close
     (tie.spec
     enum-told
-    enum-told-2
-    enum-known-field
-    gate-requires
-    enum-told-3
     wide-requires
-    enum-told-4
+    enum-told-2
     leaf-map-requires
-    enum-told-5
-    wide-requires-2
-    enum-told-6
-    enum-told-7
-    enum-told-8
+    enum-told-3
     table-byte-requires
     returns
     returns-2
     returns-3
-    returns-4
-    returns-5
-    returns-6
-    returns-7
-    returns-8
-    returns-9
-    returns-10
-    returns-11
-    returns-12
-    returns-13
-    returns-14
-    returns-15)
+    returns-4)

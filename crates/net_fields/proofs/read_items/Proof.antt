@@ -4,6 +4,7 @@ use denote.Ref.{now}
 use Prim.Native.Nat.{_-_}
 use native.Mathlib.Omega.{arith}
 use lib.ListN.{drop}
+use Rattle.limits.specs.Limits.{mostItems}
 use Rattle.net_bytes.specs.Items.{ReadSoFar, items-none, items-one, items-stop, items-all, items-spare}
 use Rattle.net_fields.specs.Fields.{fieldByte}
 use Rattle.net_fields.specs.FieldLaws.{went, stopped}
@@ -11,13 +12,13 @@ use Rattle.net_fields.proofs.read_items.Statement.{statement}
 use Rattle.net_fields.proofs.read_items.Tie as tie
 
 abbrev Inv-loop : tie.InvT-loop
-Inv-loop bytes at n field limit values₀ next₀ i₀ values next i = ReadSoFar (fieldByte field limit) bytes at n values next i
+Inv-loop bytes at n field limit values₀ next₀ i₀ values next i = ReadSoFar mostItems (fieldByte field limit) bytes at n values next i
 
 abbrev μ-loop : tie.MeasureT-loop
 μ-loop bytes at n field limit values₀ next₀ i₀ values next i = n - i
 
 loop-holds : tie.Need-loop-holds Inv-loop μ-loop
-loop-holds c = let a = c .before .args in items-none (fieldByte (a .field) (a .limit)) (now (a .bytes)) (a .at) (a .n)
+loop-holds c = let a = c .before .args in items-none mostItems (fieldByte (a .field) (a .limit)) (now (a .bytes)) (a .at) (a .n)
 
 read-byte-requires : tie.Need-read-byte-requires Inv-loop μ-loop
 read-byte-requires c κs = search needs
@@ -32,9 +33,9 @@ returns c =
     let h = c .before .before .before .before .loop-test .taken in
     let b = c .before .before .before .read-byte in
     record {
-      result = items-stop (fieldByte (a .field) (a .limit)) (now (a .bytes)) (a .at) (a .n) (l .values) (l .next) (l .i) (l .inv) h
+      result = items-stop mostItems (fieldByte (a .field) (a .limit)) (now (a .bytes)) (a .at) (a .n) (l .values) (l .next) (l .i) (l .inv) h
           (stopped (b .result .value) (drop (b .result .at) (now (a .bytes))) (b .ensures) (c .before .v .given .1));
-      spare = items-spare (fieldByte (a .field) (a .limit)) (now (a .bytes)) (a .at) (a .n) (l .values) (l .next) (l .i) (l .inv);
+      spare = items-spare mostItems (fieldByte (a .field) (a .limit)) (now (a .bytes)) (a .at) (a .n) (l .values) (l .next) (l .i) (l .inv);
       long = l .inv .long;
     }
 
@@ -59,7 +60,7 @@ loop-again c =
     let l = c .before .before .before .before .loop in
     let h = c .before .before .before .loop-test .taken in
     let b = c .before .before .read-byte in
-    items-one (fieldByte (a .field) (a .limit)) (now (a .bytes)) (a .at) (a .n) (l .values) (l .next) (l .i) (l .inv) h (start .pre) (b .result .value) (b .result .at)
+    items-one mostItems (fieldByte (a .field) (a .limit)) (now (a .bytes)) (a .at) (a .n) (l .values) (l .next) (l .i) (l .inv) h (start .pre) (b .result .value) (b .result .at)
     (went (b .result .value) (drop (b .result .at) (now (a .bytes))) (b .ensures) (c .enum-told .given .1))
 
 returns-2 : tie.Need-returns-2 Inv-loop μ-loop
@@ -68,8 +69,8 @@ returns-2 c =
     let l = c .before .loop in
     let h = c .loop-test .left in
     record {
-      result = items-all (fieldByte (a .field) (a .limit)) (now (a .bytes)) (a .at) (a .n) (l .values) (l .next) (l .i) (l .inv) h;
-      spare = items-spare (fieldByte (a .field) (a .limit)) (now (a .bytes)) (a .at) (a .n) (l .values) (l .next) (l .i) (l .inv);
+      result = items-all mostItems (fieldByte (a .field) (a .limit)) (now (a .bytes)) (a .at) (a .n) (l .values) (l .next) (l .i) (l .inv) h;
+      spare = items-spare mostItems (fieldByte (a .field) (a .limit)) (now (a .bytes)) (a .at) (a .n) (l .values) (l .next) (l .i) (l .inv);
       long = l .inv .long;
     }
 

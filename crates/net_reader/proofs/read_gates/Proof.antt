@@ -8,16 +8,16 @@ use Rattle.net_reader.proofs.read_gates.Statement.{statement}
 use Rattle.net_reader.proofs.read_gates.Tie as tie
 
 abbrev Inv-loop : tie.InvT-loop
-Inv-loop bytes at k gates nodes out₀ next₀ g₀ out next g = GatesSoFar bytes at k out₀ out next g
+Inv-loop bytes at k rules gates nodes out₀ next₀ g₀ out next g = GatesSoFar (rules .wide) bytes at k out₀ out next g
 
 abbrev μ-loop : tie.MeasureT-loop
-μ-loop bytes at k gates nodes out₀ next₀ g₀ out next g = gates - g
+μ-loop bytes at k rules gates nodes out₀ next₀ g₀ out next g = gates - g
 
 add-nodes : tie.Need-add-nodes Inv-loop μ-loop
 add-nodes c = omega arith
 
 loop-holds : tie.Need-loop-holds Inv-loop μ-loop
-loop-holds c = gates-none (now (c .before .before .args .bytes)) (c .before .before .args .at) (c .before .before .args .k) (c .before .before .args .net)
+loop-holds c = gates-none (c .before .before .args .rules .wide) (now (c .before .before .args .bytes)) (c .before .before .args .at) (c .before .before .args .k) (c .before .before .args .net)
 
 read-gate-requires : tie.Need-read-gate-requires Inv-loop μ-loop
 read-gate-requires c κs = search needs
@@ -32,7 +32,8 @@ returns c =
     let l = c .before .before .before .before .before .loop in
     let r = c .before .before .before .read-gate in
     record {
-      result = gates-stop s (a .at) (a .k) (a .net) (l .out) (l .next) (l .g) (l .inv) (r .result) (c .before .before .before .before .loop-test .taken) (r .ensures .result) (c .before .v .given .1);
+      result = gates-stop (a .rules .wide) s (a .at) (a .k) (a .net) (l .out) (l .next) (l .g) (l .inv) (r .result)
+          (c .before .before .before .before .loop-test .taken) (r .ensures .result) (c .before .v .given .1);
       same = l .inv .same;
     }
 
@@ -57,14 +58,14 @@ loop-again c =
     let s = now (a .bytes) in
     let l = c .before .before .before .before .before .loop in
     let r = c .before .before .before .read-gate in
-    gates-one s (a .at) (a .k) (a .net) (l .out) (l .next) (l .g) (l .inv) (r .result) (c .store-gate .result) (c .before .before .before .before .loop-test .taken)
+    gates-one (a .rules .wide) s (a .at) (a .k) (a .net) (l .out) (l .next) (l .g) (l .inv) (r .result) (c .store-gate .result) (c .before .before .before .before .loop-test .taken)
     (r .ensures .result) (c .before .enum-told .given .1) (c .store-gate .ensures)
 
 returns-2 : tie.Need-returns-2 Inv-loop μ-loop
 returns-2 c = let a = c .before .before .before .before .args in
     let l = c .before .loop in
     record {
-      result = gates-all (now (a .bytes)) (a .at) (a .k) (a .net) (l .out) (l .next) (l .g) (l .inv) (c .loop-test .left);
+      result = gates-all (a .rules .wide) (now (a .bytes)) (a .at) (a .k) (a .net) (l .out) (l .next) (l .g) (l .inv) (c .loop-test .left);
       same = l .inv .same;
     }
 

@@ -8,16 +8,16 @@ use Rattle.net_reader.proofs.read_outputs.Statement.{statement}
 use Rattle.net_reader.proofs.read_outputs.Tie as tie
 
 abbrev Inv-loop : tie.InvT-loop
-Inv-loop bytes at outputs nodes out₀ next₀ o₀ out next o = OutputsSoFar bytes at out₀ out next o
+Inv-loop bytes at rules outputs nodes out₀ next₀ o₀ out next o = OutputsSoFar (rules .wide) bytes at out₀ out next o
 
 abbrev μ-loop : tie.MeasureT-loop
-μ-loop bytes at outputs nodes out₀ next₀ o₀ out next o = outputs - o
+μ-loop bytes at rules outputs nodes out₀ next₀ o₀ out next o = outputs - o
 
 add-nodes : tie.Need-add-nodes Inv-loop μ-loop
 add-nodes c = omega arith
 
 loop-holds : tie.Need-loop-holds Inv-loop μ-loop
-loop-holds c = outputs-none (now (c .before .before .args .bytes)) (c .before .before .args .at) (c .before .before .args .net) (search needs) (search needs)
+loop-holds c = outputs-none (c .before .before .args .rules .wide) (now (c .before .before .args .bytes)) (c .before .before .args .at) (c .before .before .args .net) (search needs) (search needs)
 
 read-output-requires : tie.Need-read-output-requires Inv-loop μ-loop
 read-output-requires c κs = search needs
@@ -32,7 +32,7 @@ returns c =
     let l = c .before .before .before .before .before .loop in
     let r = c .before .before .before .read-output in
     record {
-      result = outputs-stop s (a .at) (a .net) (l .out) (l .next) (l .o) (l .inv) (c .before .before .before .before .loop-test .taken) (r .result .verdict)
+      result = outputs-stop (a .rules .wide) s (a .at) (a .net) (l .out) (l .next) (l .o) (l .inv) (c .before .before .before .before .loop-test .taken) (r .result .verdict)
           (record { src = r .result .source; count = r .result .count }) (r .result .at) (r .ensures) (c .before .v .given .1);
       kept = l .inv .kept;
     }
@@ -43,34 +43,31 @@ enum-told c = search needs
 wide-requires : tie.Need-wide-requires Inv-loop μ-loop
 wide-requires c κs = search needs
 
-wide-requires-2 : tie.Need-wide-requires-2 Inv-loop μ-loop
-wide-requires-2 c κs = search needs
-
 store-output-requires : tie.Need-store-output-requires Inv-loop μ-loop
-store-output-requires c κs = omega (arith, c .before .before .before .before .before .before .before .before .before .pre .outputs)
+store-output-requires c κs = omega (arith, c .before .before .before .before .before .before .before .before .pre .outputs)
 
 add-o : tie.Need-add-o Inv-loop μ-loop
-add-o c = omega (arith, c .before .before .before .before .before .before .before .before .before .before .pre .outputs)
+add-o c = omega (arith, c .before .before .before .before .before .before .before .before .before .pre .outputs)
 
 loop-less : tie.Need-loop-less Inv-loop μ-loop
 loop-less c = omega arith
 
 loop-again : tie.Need-loop-again Inv-loop μ-loop
 loop-again c =
-    let start = c .before .before .before .before .before .before .before .before .before .before in
+    let start = c .before .before .before .before .before .before .before .before .before in
     let a = start .args in
     let s = now (a .bytes) in
-    let l = c .before .before .before .before .before .before .before .loop in
-    let r = c .before .before .before .before .before .read-output in
-    rw (c .store-output .ensures, c .before .before .wide .ensures, c .before .wide2 .ensures)
-    (outputs-one s (a .at) (a .net) (l .out) (l .next) (l .o) (l .inv) (c .before .before .before .before .before .before .loop-test .taken) (r .result .verdict)
-    (r .result .source) (r .result .count) (r .result .at) (start .pre .outputs) (r .ensures) (c .before .before .before .enum-told .given .1))
+    let l = c .before .before .before .before .before .before .loop in
+    let r = c .before .before .before .before .read-output in
+    rw (c .store-output .ensures, c .before .wide .ensures)
+    (outputs-one (a .rules .wide) s (a .at) (a .net) (l .out) (l .next) (l .o) (l .inv) (c .before .before .before .before .before .loop-test .taken) (r .result .verdict)
+    (r .result .source) (r .result .count) (r .result .at) (start .pre .outputs) (r .ensures) (c .before .before .enum-told .given .1))
 
 returns-2 : tie.Need-returns-2 Inv-loop μ-loop
 returns-2 c = let a = c .before .before .before .before .args in
     let l = c .before .loop in
     record {
-      result = outputs-all (now (a .bytes)) (a .at) (a .net) (l .out) (l .next) (l .o) (l .inv) (c .loop-test .left);
+      result = outputs-all (a .rules .wide) (now (a .bytes)) (a .at) (a .net) (l .out) (l .next) (l .o) (l .inv) (c .loop-test .left);
       kept = l .inv .kept;
     }
 
@@ -87,7 +84,6 @@ read-outputs-spec =
     returns
     enum-told
     wide-requires
-    wide-requires-2
     store-output-requires
     add-o
     loop-less

@@ -25,26 +25,26 @@ mul-at c = omega arith
 add-at : tie.Need-add-at Inv-loop μ-loop
 add-at c = omega arith
 
+mul-out : tie.Need-mul-out Inv-loop μ-loop
+mul-out c = omega arith
+
+array-read-out : tie.Need-array-read-out Inv-loop μ-loop
+array-read-out c = omega arith
+
+mul-out-2 : tie.Need-mul-out-2 Inv-loop μ-loop
+mul-out-2 c = omega arith
+
+element-write-out : tie.Need-element-write-out Inv-loop μ-loop
+element-write-out c = search needs
+
 array-read-wide : tie.Need-array-read-wide Inv-loop μ-loop
 array-read-wide c = omega arith
 
 wide-requires : tie.Need-wide-requires Inv-loop μ-loop
 wide-requires c κs = search needs
 
-mul-out : tie.Need-mul-out Inv-loop μ-loop
-mul-out c = omega arith
-
-element-write-out : tie.Need-element-write-out Inv-loop μ-loop
-element-write-out c = search needs
-
-array-read-wide-2 : tie.Need-array-read-wide-2 Inv-loop μ-loop
-array-read-wide-2 c = omega arith
-
-wide-requires-2 : tie.Need-wide-requires-2 Inv-loop μ-loop
-wide-requires-2 c κs = search needs
-
-mul-out-2 : tie.Need-mul-out-2 Inv-loop μ-loop
-mul-out-2 c = omega arith
+mul-out-3 : tie.Need-mul-out-3 Inv-loop μ-loop
+mul-out-3 c = omega arith
 
 element-write-out-2 : tie.Need-element-write-out-2 Inv-loop μ-loop
 element-write-out-2 c = search needs
@@ -57,11 +57,11 @@ loop-less c = omega arith
 
 loop-again : tie.Need-loop-again Inv-loop μ-loop
 loop-again c =
-    let a = c .before .before .before .before .before .before .args in
-    let l = c .before .before .before .loop in
-    let ls : length (a .net .sources) ≡ mostPlaces = let good = c .before .before .before .before .before .before .good in search needs in
-    let lc : length (a .net .counts) ≡ mostPlaces = let good = c .before .before .before .before .before .before .good in search needs in
-    (omega arith, rw (c .before .wide .ensures, c .wide2 .ensures) (pins-one (a .net) (a .g) (a .row .sources) (a .row .counts) (l .j) (l .out) (l .inv .1) (omega arith) (omega arith)))
+    let a = c .before .before .before .before .before .args in
+    let l = c .before .before .loop in
+    let ls : length (a .net .sources) ≡ mostPlaces = let good = c .before .before .before .before .before .good in search needs in
+    let lc : length (a .net .counts) ≡ mostPlaces = let good = c .before .before .before .before .before .good in search needs in
+    (omega arith, rw (c .wide .ensures) (pins-one (a .net) (a .g) (a .row .sources) (a .row .counts) (l .j) (l .out) (l .inv .1) (omega arith) (omega arith)))
 
 returns : tie.Need-returns Inv-loop μ-loop
 returns c = let end : c .before .loop .j ≡ mostPins = omega arith in rw end at (c .before .loop .inv .1)
@@ -75,13 +75,13 @@ store-pins-spec =
     loop-holds
     mul-at
     add-at
+    mul-out
+    array-read-out
+    mul-out-2
+    element-write-out
     array-read-wide
     wide-requires
-    mul-out
-    element-write-out
-    array-read-wide-2
-    wide-requires-2
-    mul-out-2
+    mul-out-3
     element-write-out-2
     add-j
     loop-less

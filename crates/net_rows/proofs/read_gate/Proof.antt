@@ -30,7 +30,7 @@ returns c =
     let m = c .before .before .before .before .read-maps in
     let n = c .no-gate in
     record {
-      result = stopping _ _ (onward-stopped _ (m .ensures .result (a .nodes)) (c .before .before .v .given .1)) (n .ensures .0);
+      result = stopping _ _ (onward-stopped _ (m .ensures .result (a .rules .wide) (a .nodes)) (c .before .before .v .given .1)) (n .ensures .0);
       most = omega (arith, n .ensures .1);
     }
 
@@ -54,7 +54,7 @@ returns-2 c =
     let l = c .before .before .before .before .read-lists in
     let n = c .no-gate2 in
     record {
-      result = stopping _ _ (onward-went _ (m .ensures .result (a .nodes)) (c .before .before .before .before .before .enum-told .given .1)
+      result = stopping _ _ (onward-went _ (m .ensures .result (a .rules .wide) (a .nodes)) (c .before .before .before .before .before .enum-told .given .1)
           ∙ stopped (madeGate (m .result .pins) (m .result .registers) (l .result .sources) (l .result .counts) (l .result .table)) (drop (l .result .at) s) (l .ensures)
           (c .before .before .w .given .1)) (n .ensures .0);
       most = omega (arith, n .ensures .1);
@@ -81,7 +81,7 @@ returns-3 c =
     let p = m .result .pins in
     let r = m .result .registers in
     record {
-      result = onward-went _ (m .ensures .result (a .nodes)) (c .before .before .before .before .before .before .before .before .before .enum-told .given .1)
+      result = onward-went _ (m .ensures .result (a .rules .wide) (a .nodes)) (c .before .before .before .before .before .before .before .before .before .enum-told .given .1)
           ∙ went (madeGate p r (l .result .sources) (l .result .counts) (l .result .table)) (drop (l .result .at) s) (l .ensures)
           (c .before .before .before .before .before .before .enum-told2 .given .1)
           ∙ ap (λ (g : Gate). got g (drop (l .result .at) s))

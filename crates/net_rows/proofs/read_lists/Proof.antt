@@ -17,8 +17,8 @@ use Rattle.net_rows.proofs.read_lists.Tie as tie
 count-of-requires : tie.Need-count-of-requires
 count-of-requires c κs = search needs
 
-read-items-requires : tie.Need-read-items-requires
-read-items-requires c κs = search needs
+read-numbers-requires : tie.Need-read-numbers-requires
+read-numbers-requires c κs = search needs
 
 enum-known-v : tie.Need-enum-known-v
 enum-known-v c = search needs
@@ -31,9 +31,9 @@ returns c =
     let a = c .before .before .before .before .before .before .before .args in
     let s = now (a .bytes) in
     let m = c .before .before .before .before .before .count-of in
-    let x = c .before .before .before .before .read-items in
+    let x = c .before .before .before .before .read-numbers in
     let n = c .no-lists in
-    stopping _ _ (sources-stop (a .nodes) (a .pins) (a .registers) (m .result) (ones (a .registers)) (tableBytes (m .result)) (m .ensures .is) refl refl (drop (a .at) s)
+    stopping _ _ (sources-stop (a .rules .wide) (a .nodes) (a .pins) (a .registers) (m .result) (ones (a .registers)) (tableBytes (m .result)) (m .ensures .is) refl refl (drop (a .at) s)
     (stopped (take (m .result) (x .result .values)) (drop (x .result .at) s) (x .ensures .result) (c .before .before .v .given .1))) (n .ensures)
 
 enum-told : tie.Need-enum-told
@@ -42,8 +42,8 @@ enum-told c = search needs
 count-of-requires-2 : tie.Need-count-of-requires-2
 count-of-requires-2 c κs = search needs
 
-read-items-requires-2 : tie.Need-read-items-requires-2
-read-items-requires-2 c κs = search needs
+read-items-requires : tie.Need-read-items-requires
+read-items-requires c κs = search needs
 
 enum-known-w : tie.Need-enum-known-w
 enum-known-w c = search needs
@@ -56,11 +56,11 @@ returns-2 c =
     let a = c .before .before .before .before .before .before .before .before .before .before .before .args in
     let s = now (a .bytes) in
     let m = c .before .before .before .before .before .before .before .before .before .count-of in
-    let x = c .before .before .before .before .before .before .before .before .read-items in
+    let x = c .before .before .before .before .before .before .before .before .read-numbers in
     let k = c .before .before .before .before .before .count-of2 in
-    let y = c .before .before .before .before .read-items2 in
+    let y = c .before .before .before .before .read-items in
     let n = c .no-lists2 in
-    stopping _ _ (counts-stop (a .nodes) (a .pins) (a .registers) (m .result) (k .result) (tableBytes (m .result)) (m .ensures .is) (k .ensures .is) refl (drop (a .at) s)
+    stopping _ _ (counts-stop (a .rules .wide) (a .nodes) (a .pins) (a .registers) (m .result) (k .result) (tableBytes (m .result)) (m .ensures .is) (k .ensures .is) refl (drop (a .at) s)
     (take (m .result) (x .result .values)) (drop (x .result .at) s)
     (went (take (m .result) (x .result .values)) (drop (x .result .at) s) (x .ensures .result) (c .before .before .before .before .before .before .enum-told .given .1))
     (stopped (take (k .result) (y .result .values)) (drop (y .result .at) s) (y .ensures .result) (c .before .before .w .given .1))) (n .ensures)
@@ -73,8 +73,8 @@ table-bytes-requires c κs =
     let start = c .before .before .before .before .before .before .before .before .before in
     omega (arith, c .before .before .before .before .before .before .before .count-of .ensures .is, ones-le mostPins (start .args .pins) (start .pre))
 
-read-items-requires-3 : tie.Need-read-items-requires-3
-read-items-requires-3 c κs = search needs
+read-items-requires-2 : tie.Need-read-items-requires-2
+read-items-requires-2 c κs = search needs
 
 enum-known-x : tie.Need-enum-known-x
 enum-known-x c = search needs
@@ -87,13 +87,13 @@ returns-3 c =
     let a = c .before .before .before .before .before .before .before .before .before .before .before .before .before .before .before .args in
     let s = now (a .bytes) in
     let m = c .before .before .before .before .before .before .before .before .before .before .before .before .before .count-of in
-    let x = c .before .before .before .before .before .before .before .before .before .before .before .before .read-items in
+    let x = c .before .before .before .before .before .before .before .before .before .before .before .before .read-numbers in
     let k = c .before .before .before .before .before .before .before .before .before .count-of2 in
-    let y = c .before .before .before .before .before .before .before .before .read-items2 in
+    let y = c .before .before .before .before .before .before .before .before .read-items in
     let b = c .before .before .before .before .before .table-bytes in
-    let z = c .before .before .before .before .read-items3 in
+    let z = c .before .before .before .before .read-items2 in
     let n = c .no-lists3 in
-    stopping _ _ (table-stops (a .nodes) (a .pins) (a .registers) (m .result) (k .result) (b .result) (m .ensures .is) (k .ensures .is) (b .ensures .is) (drop (a .at) s)
+    stopping _ _ (table-stops (a .rules .wide) (a .nodes) (a .pins) (a .registers) (m .result) (k .result) (b .result) (m .ensures .is) (k .ensures .is) (b .ensures .is) (drop (a .at) s)
     (take (m .result) (x .result .values)) (drop (x .result .at) s)
     (went (take (m .result) (x .result .values)) (drop (x .result .at) s) (x .ensures .result)
     (c .before .before .before .before .before .before .before .before .before .before .enum-told .given .1))
@@ -109,12 +109,12 @@ returns-4 c =
     let a = c .before .before .before .before .before .before .before .before .before .before .before .before .before .before .before .before .args in
     let s = now (a .bytes) in
     let m = c .before .before .before .before .before .before .before .before .before .before .before .before .before .before .count-of in
-    let x = c .before .before .before .before .before .before .before .before .before .before .before .before .before .read-items in
+    let x = c .before .before .before .before .before .before .before .before .before .before .before .before .before .read-numbers in
     let k = c .before .before .before .before .before .before .before .before .before .before .count-of2 in
-    let y = c .before .before .before .before .before .before .before .before .before .read-items2 in
+    let y = c .before .before .before .before .before .before .before .before .before .read-items in
     let b = c .before .before .before .before .before .before .table-bytes in
-    let z = c .before .before .before .before .before .read-items3 in
-    lists-go (a .nodes) (a .pins) (a .registers) (m .result) (k .result) (b .result) (m .ensures .is) (k .ensures .is) (b .ensures .is) (drop (a .at) s)
+    let z = c .before .before .before .before .before .read-items2 in
+    lists-go (a .rules .wide) (a .nodes) (a .pins) (a .registers) (m .result) (k .result) (b .result) (m .ensures .is) (k .ensures .is) (b .ensures .is) (drop (a .at) s)
     (take (m .result) (x .result .values)) (drop (x .result .at) s)
     (went (take (m .result) (x .result .values)) (drop (x .result .at) s) (x .ensures .result)
     (c .before .before .before .before .before .before .before .before .before .before .before .enum-told .given .1))
@@ -130,19 +130,19 @@ read-lists-spec =
     tie.close
     (tie.spec
     count-of-requires
-    read-items-requires
+    read-numbers-requires
     enum-known-v
     no-lists-requires
     returns
     enum-told
     count-of-requires-2
-    read-items-requires-2
+    read-items-requires
     enum-known-w
     no-lists-requires-2
     returns-2
     enum-told-2
     table-bytes-requires
-    read-items-requires-3
+    read-items-requires-2
     enum-known-x
     no-lists-requires-3
     returns-3

@@ -26,13 +26,14 @@ returns c =
     let a = c .before .before .before .before .before .before .args in
     let s = now (a .bytes) in
     let m = c .before .before .before .before .read-byte in
-    stopping _ _ (out-map-stops (a .nodes) (drop (a .at) s) (stopped (m .result .value) (drop (m .result .at) s) (m .ensures) (c .before .before .v .given .1))) (c .no-output .ensures)
+    stopping _ _ (out-map-stops (a .rules .wide) (a .nodes) (drop (a .at) s)
+    (stopped (m .result .value) (drop (m .result .at) s) (m .ensures) (c .before .before .v .given .1))) (c .no-output .ensures)
 
 enum-told : tie.Need-enum-told
 enum-told c = search needs
 
-read-byte-requires-2 : tie.Need-read-byte-requires-2
-read-byte-requires-2 c κs = search needs
+read-number-requires : tie.Need-read-number-requires
+read-number-requires c κs = search needs
 
 enum-known-w : tie.Need-enum-known-w
 enum-known-w c = search needs
@@ -45,10 +46,10 @@ returns-2 c =
     let a = c .before .before .before .before .before .before .before .before .before .args in
     let s = now (a .bytes) in
     let m = c .before .before .before .before .before .before .before .read-byte in
-    let n = c .before .before .before .before .read-byte2 in
-    stopping _ _ (out-source-stops (a .nodes) (drop (a .at) s) (m .result .value) (drop (m .result .at) s)
+    let n = c .before .before .before .before .read-number in
+    stopping _ _ (out-source-stops (a .rules .wide) (a .nodes) (drop (a .at) s) (m .result .value) (drop (m .result .at) s)
     (went (m .result .value) (drop (m .result .at) s) (m .ensures) (c .before .before .before .before .before .enum-told .given .1))
-    (stopped (n .result .value) (drop (n .result .at) s) (n .ensures) (c .before .before .w .given .1))) (c .no-output2 .ensures)
+    (stopped (n .result .value) (drop (n .result .at) s) (n .ensures .result) (c .before .before .w .given .1))) (c .no-output2 .ensures)
 
 enum-told-2 : tie.Need-enum-told-2
 enum-told-2 c = search needs
@@ -77,12 +78,12 @@ returns-3 c =
     let a = c .before .before .before .before .before .before .before .before .before .before .before .before .before .args in
     let s = now (a .bytes) in
     let m = c .before .before .before .before .before .before .before .before .before .before .before .read-byte in
-    let n = c .before .before .before .before .before .before .before .before .read-byte2 in
+    let n = c .before .before .before .before .before .before .before .before .read-number in
     let x = c .before .before .before .before .read-items in
     let items = rw (c .before .before .before .before .before .wide .ensures) at (x .ensures) in
-    stopping _ _ (delays-stop (a .nodes) (drop (a .at) s) (m .result .value) (drop (m .result .at) s)
+    stopping _ _ (delays-stop (a .rules .wide) (a .nodes) (drop (a .at) s) (m .result .value) (drop (m .result .at) s)
     (went (m .result .value) (drop (m .result .at) s) (m .ensures) (c .before .before .before .before .before .before .before .before .before .enum-told .given .1))
-    (n .result .value) (drop (n .result .at) s) (went (n .result .value) (drop (n .result .at) s) (n .ensures) (c .before .before .before .before .before .before .enum-told2 .given .1))
+    (n .result .value) (drop (n .result .at) s) (went (n .result .value) (drop (n .result .at) s) (n .ensures .result) (c .before .before .before .before .before .before .enum-told2 .given .1))
     (stopped (take (m .result .value) (x .result .values)) (drop (x .result .at) s) (items .result) (c .before .before .x .given .1))) (c .no-output3 .ensures)
 
 enum-told-3 : tie.Need-enum-told-3
@@ -96,12 +97,12 @@ returns-4 c =
     let a = c .before .before .before .before .before .before .before .before .before .before .before .before .args in
     let s = now (a .bytes) in
     let m = c .before .before .before .before .before .before .before .before .before .before .read-byte in
-    let n = c .before .before .before .before .before .before .before .read-byte2 in
+    let n = c .before .before .before .before .before .before .before .read-number in
     let x = c .before .before .before .read-items in
     let items = rw (c .before .before .before .before .wide .ensures) at (x .ensures) in
-    out-goes (a .nodes) (drop (a .at) s) (m .result .value) (drop (m .result .at) s)
+    out-goes (a .rules .wide) (a .nodes) (drop (a .at) s) (m .result .value) (drop (m .result .at) s)
     (went (m .result .value) (drop (m .result .at) s) (m .ensures) (c .before .before .before .before .before .before .before .before .enum-told .given .1))
-    (n .result .value) (drop (n .result .at) s) (went (n .result .value) (drop (n .result .at) s) (n .ensures) (c .before .before .before .before .before .enum-told2 .given .1))
+    (n .result .value) (drop (n .result .at) s) (went (n .result .value) (drop (n .result .at) s) (n .ensures .result) (c .before .before .before .before .before .enum-told2 .given .1))
     (getD (x .result .values) 0 0) (take (m .result .value) (x .result .values)) (drop (x .result .at) s) (first-taken (m .result .value) (x .result .values) (items .spare))
     (went (take (m .result .value) (x .result .values)) (drop (x .result .at) s) (items .result) (c .before .enum-told3 .given .1))
 
@@ -114,7 +115,7 @@ read-output-spec =
     no-output-requires
     returns
     enum-told
-    read-byte-requires-2
+    read-number-requires
     enum-known-w
     no-output-requires-2
     returns-2

@@ -1,0 +1,12 @@
+-- Definitions: limits and layout as one value, and the values that are offered.
+use mathlib.Core.Bool.{true, false}
+use Rattle.limits.specs.Limits.{mostGates, mostK, mostPeriod, mostLuts, coverArea, scratchArea}
+use Rattle.limits.specs.declared.Rules.{Rules}
+
+-- Document 01's own: every number one byte, 32 gates, k up to 6, periods and LUT counts up to 32, areas of 962 and 65,536 bytes.
+abbrev pub long : Rules
+long = record { wide = false; gates = mostGates; most = mostK; period = mostPeriod; luts = mostLuts; area = coverArea; scratch = scratchArea }
+
+-- The rules that are offered.
+pub data Offered : Rules → Type 0 where
+  is-long : Offered long
