@@ -14,7 +14,9 @@ use Rattle.net_model.specs.Arrays.{Arrays, netIn, pinsIn}
 use Rattle.net_model.specs.ArrayLaws.{pinAt, pinsIn-in, in-pinsIn, inputs-netIn, gates-netIn, pins-netIn}
 use Rattle.cone_theory.specs.Basics.{copy-path}
 use Rattle.cone_theory.specs.CopyOrder.{Levels, levels, measure, feeds-measure}
+use Rattle.cone_theory.specs.Ranks as ranks
 use Rattle.cut_flow.specs.Graph.{Feeding, Order}
+use Rattle.cut_flow.specs.Capped.{Copies}
 use Rattle.cut_circuit.specs.Circuit.{Circuit, circuit, graphOf, Layout, total, place, ending}
 use Rattle.cut_circuit.specs.CircuitLaws.{wide-positive, gate-below, source-back, node-of, back-of, node-below, copy-parts, terminal-is, pin-below, pins-is, source-is}
 
@@ -121,3 +123,32 @@ module _ {C : Circuit} {N : Net} (L : Layout C) (H : Holds C N) where
     where
       O : Levels N
       O = levels loopless
+
+  -- ---- the input paths: what the capped search supposes of the copies
+  pub copies : ranks.Ranked N → Copies (graphOf C) (λ x. x / C .width)
+  copies R = record {
+    rank = R .rank;
+    behind = λ x. encode C (ranks.behind R (decode C x));
+    feeds = λ x t. numbered x t .feeding;
+    falls = λ x t. omega (arith, R .falls (x / C .width) (gate x t), ap (R .rank) (node x t));
+    same = λ x y t u e. node x t ∙ ap (λ (v : ℕ). R .pin v .src) e ∙ sym (node y u);
+    one = λ x y t u e f.
+        let d = sym (back x t) ∙ ap (λ (z : ℕ). z % C .width) f ∙ back y u in
+        let w = ap (λ (v : ℕ). R .pin v .count) e in
+        decode-one C x y (copy-path e (omega (arith, d, w)));
+  }
+    where
+      inner : (x : ℕ) → graphOf C .terminal x ≡ 0 → ending C x ≡ 0
+      inner x t = sym (terminal-is C x) ∙ t
+
+      gate : (x : ℕ) → graphOf C .terminal x ≡ 0 → IsGate N (x / C .width)
+      gate x t = inner-gate x (inner x t)
+
+      numbered : (x : ℕ) → graphOf C .terminal x ≡ 0 → Numbered C (ranks.behind R (decode C x)) x
+      numbered x t = from-feeds (inner x t) (ranks.behind-feeds R (decode C x) (gate x t))
+
+      node : (x : ℕ) (t : graphOf C .terminal x ≡ 0) → encode C (ranks.behind R (decode C x)) / C .width ≡ R .pin (x / C .width) .src
+      node x t = node-of (R .pin (x / C .width) .src) (x % C .width + R .pin (x / C .width) .count) (C .width) (numbered x t .back)
+
+      back : (x : ℕ) (t : graphOf C .terminal x ≡ 0) → encode C (ranks.behind R (decode C x)) % C .width ≡ x % C .width + R .pin (x / C .width) .count
+      back x t = back-of (R .pin (x / C .width) .src) (x % C .width + R .pin (x / C .width) .count) (C .width) (numbered x t .back)
