@@ -22,8 +22,8 @@ extern "C" {
      ask for it.
    - The library keeps nothing between calls; calls on different areas may run at the same time.
 
-   Refusals. Map checks 1 to 12, mark 1, 3 to 11 and 13 to 18, align 23; the first that fails is told, of 4 to 8 the
-   first met in one walk over the net's bytes.
+   Refusals. Map checks 1 to 12, mark 1, 3 to 11 and 13 to 18, find root 19, align 23; the first that fails is told, of 4
+   to 8 the first met in one walk over the net's bytes.
 
     1  k is not 2 to 6.
     2  The target is above 32.
@@ -49,6 +49,8 @@ extern "C" {
    16  A gate that a leaf or an output reads has no LUT.
    17  Some connection has fewer than 0 registers.
    18  Some chain of LUTs without a register between them is longer than the period.
+   19  The record ends or breaks its layout before a root that is not below the gate, or before its last LUT's end (find
+       root only).
    23  A capture has more than 4,096 words (align only). */
 
 /* Map: a cover of a net for LUTs with k inputs that meets the target, or the least period for target 0.
@@ -80,6 +82,18 @@ int64_t kamfelu_map(const uint8_t *net, size_t net_length, uint32_t k, uint32_t 
    k. */
 int64_t kamfelu_mark(const uint8_t *net, size_t net_length, uint32_t k, const uint8_t *record, size_t record_length,
                      uint8_t *scratch, size_t scratch_length);
+
+/* Find root: whether a gate has a LUT in a stored cover record; no net is needed.
+
+   record   a cover record
+   g        the gate's number
+
+   Returns the byte offset of the LUT's root in the record, at least 2; 0 if gate g has no LUT; or -19. Roots rise, so the
+   record is read up to the first root that is not below g, and nothing behind that root is looked at. -19 says that the
+   record ends or breaks the layout of refusal 13 before that root, or before its last LUT's end if there is no such root;
+   leaf counts may be 1 to 6, roots and leaves any numbers, and bytes behind the last LUT do no harm. A record that
+   kamfelu_mark accepts, for some net and k, is never answered by -19. The record is only read. No scratch is needed. */
+int64_t kamfelu_find_root(const uint8_t *record, size_t record_length, uint16_t g);
 
 /* Class: the smallest table that a table of three leaves can be turned into by reordering leaves, inverting leaves and
    inverting the output. Bit i of a table is its value where leaf j carries bit j of i.

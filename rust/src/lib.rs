@@ -1,5 +1,6 @@
 //! Kamfelu's proved jobs, called through their static library: [`map`] and [`mark`] for LUT covers
-//! with moved registers, [`class`] for three-input tables, [`align`] for two captures of one unit.
+//! with moved registers, [`find_root`] for a stored cover, [`class`] for three-input tables, [`align`] for
+//! two captures of one unit.
 //!
 //! `make library` in the repository writes `target/staticlib/libkamfelu.a`, which the build script
 //! links (x86-64 Linux). A project of your own names this folder:
@@ -54,6 +55,8 @@ extern "C" {
         scratch: *mut u8,
         scratch_len: usize,
     ) -> i64;
+
+    fn kamfelu_find_root(record: *const u8, record_len: usize, g: u16) -> i64;
 
     fn kamfelu_class(table: u8) -> u8;
 
@@ -155,6 +158,29 @@ pub fn mark(net: &[u8], k: u32, record: &[u8], scratch: &mut [u8]) -> Result<usi
             scratch.len(),
         )
     })
+}
+
+/// Whether gate g has a LUT in a stored cover record, without its net.
+///
+/// `Ok(Some(offset))`: it has, and `offset` is the place of the LUT's root in the record. `Ok(None)`:
+/// it has none. Roots rise, so the record is read up to the first root that is not below g, and what
+/// follows that root is not looked at.
+///
+/// `Err(19)`: the record ends or breaks the layout before that root, or before its last LUT's end if
+/// there is no such root. Leaf counts may be 1 to 6 and nodes any numbers; bytes behind the last LUT
+/// do no harm. For a record that [`mark`] accepts, for some net and k, the answer is never 19.
+///
+/// ```
+/// let record = [2, 2, 2, 2, 0, 0, 1, 8, 4, 2, 2, 2, 4, 1, 0, 9]; // net A's cover for k 2
+/// assert_eq!(kamfelu::find_root(&record, 4), Ok(Some(8)));
+/// assert_eq!(kamfelu::find_root(&record, 3), Ok(None));
+/// assert_eq!(kamfelu::find_root(&record[..9], 4), Ok(Some(8)));
+/// assert_eq!(kamfelu::find_root(&record[..9], 5), Err(19));
+/// ```
+pub fn find_root(record: &[u8], g: u16) -> Result<Option<usize>, u8> {
+    // SAFETY: the pointer goes with its slice's length, and the record is only read.
+    let answer = unsafe { kamfelu_find_root(record.as_ptr(), record.len(), g) };
+    told(answer).map(|offset| (offset != 0).then_some(offset))
 }
 
 /// The smallest table that a table of three leaves can be turned into by reordering leaves,

@@ -11,6 +11,7 @@ use Rattle.limits.specs.Limits.{coverArea, scratchArea}
 use Rattle.limits.specs.Courses.{long}
 use Rattle.net_model.specs.Net.{Net}
 use Rattle.net_model.specs.Runs.{Run}
+use Rattle.net_bytes.specs.Short.{Bytes}
 use Rattle.cover_theory.specs.Covers.{Met, LeastPeriod}
 use Rattle.cover_theory.specs.Board.{Satisfied}
 use Rattle.cover_theory.specs.Key.{Key, entries, asCover}
@@ -23,6 +24,11 @@ use Rattle.text_classes.specs.ClassText.{numberLines, classText}
 use Rattle.text_classes.specs.ClassTextLaws.{prints-shipped}
 use Rattle.captures.specs.AlignTold.{AlignTold}
 use Rattle.captures.specs.CaptureLaws.{align-told}
+use Rattle.job_find.specs.RootLookup.{found, findRoot}
+use Rattle.job_find.specs.RootLookup as find
+use Rattle.job_find.specs.LookupTold.{RootTold, Unread}
+use Rattle.job_find.specs.Unread.{unread}
+use Rattle.job_find.specs.LookupRange.{only-19, find-range}
 use Rattle.cone_leaves.specs.Lookup.{seekOf, LeafLookup}
 use Rattle.cone_leaves.specs.LookupLaws.{leaf-lookup}
 use Rattle.demands.specs.TurnedBack.{IsNet, IsRecord, First, OfMap, OfMark}
@@ -31,6 +37,7 @@ use Rattle.demands.specs.MapEndsLaws.{map-range}
 use Rattle.demands.specs.MarkEndsLaws.{mark-range}
 use Rattle.demands.specs.Right.{RightRecord, Wrote}
 use Rattle.demands.specs.CallLaws as law
+use Rattle.demands.specs.Roots.{accepted-told}
 use Rattle.demands.specs.SharedCount.{SharedCount}
 use Rattle.demands.specs.SharedCountLaws.{shared-count}
 
@@ -81,6 +88,15 @@ pub record Certificate : Type 0 where
   -- different entries. The shipped table equals the generator's output."
   pub classes : ClassTable shipped
   pub generator : classText ≡ numberLines shipped
+  -- ---- Document 02, E1. "For each record that the marker accepts, the yes or no must equal that from the whole record, and the yes comes with its root's byte offset."
+  -- The contract of `job_find: find_root` equates what it gives, for all records and gates, with `findRoot`; RootTold has the sentences.
+  pub roots : (c : MarkCall) (x : ℕ) → (markDone c) .answer ≡ accepted x → Bytes (c .bytes) → (N : Net) → IsNet (c .k) (c .net) N
+      → (r : Record) → IsRecord N (c .k) (c .bytes) r → (g : ℕ) → RootTold long g (c .bytes) r
+  -- "Roots rise, so reading may stop at the first root not below g": of any bytes, those left unread never change the answer
+  pub unread-roots : (g : ℕ) → Unread long g
+  -- "Answers: 19, the bytes end or break that layout before that stop, or the last LUT's end if none." No other number; a place is at least 2.
+  pub root-number : (g : ℕ) (bytes : List ℕ) (n : ℕ) → findRoot g bytes ≡ find.turnedBack n → n ≡ 19
+  pub root-place : (g : ℕ) (bytes : List ℕ) (o : ℕ) → findRoot g bytes ≡ found o → (2 ≤ o) × (o ≤ coverArea)
   -- ---- Document 02, E10: two captures of one unit; AlignTold has its sentences
   pub captures : (first second : List ℕ) → AlignTold first second
   -- ---- Document 02, E2: the register count, fields in `Registers`
@@ -114,6 +130,10 @@ certificate = record {
   least = law.least-at;
   classes = class-table;
   generator = prints-shipped;
+  roots = accepted-told;
+  unread-roots = unread long;
+  root-number = only-19 long;
+  root-place = find-range;
   captures = align-told;
   shared = shared-count;
   lookup = leaf-lookup;

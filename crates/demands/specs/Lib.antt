@@ -11,4 +11,5 @@ pub mod SharedCountLaws
 pub mod LongInputs
 pub mod Calls
 pub mod CallLaws
+pub mod Roots
 pub mod Certificate

@@ -1,10 +1,13 @@
 -- The executable definitions, shown right on document 01's examples by computation.
 use mathlib.Core.Path.{_≡_, refl}
+use mathlib.Core.Bool.{true}
 use mathlib.Core.List.{List, [], _∷_, _++_}
 use Prim.Native.Nat.{ℕ}
 use lib.Count.{ones, onesIn}
 use lib.IntN.{ℤ, pos, negsuc}
+use lib.ListN.{take}
 use Rattle.limits.specs.Courses.{long}
+use Rattle.limits.specs.declared.Rules.{Rules}
 use Rattle.integers.specs.Lag.{lag, ceilDiv}
 use Rattle.net_model.specs.Net.{Net, gate}
 use Rattle.net_model.specs.Copies.{Copy, copy}
@@ -15,6 +18,7 @@ use Rattle.net_bytes.specs.Reading.{Result, got, refused, times}
 use Rattle.net_bytes.specs.Walk.{netReader, bodyReader, gateReader, outputReader, pinsFrom, fromBytes}
 use Rattle.cover_records.specs.CoverBytes.{Record, coverBytes, allLutBytes, lutBytes, depths, leafMap, toBytes, coverReader, lutsReader, lutReader, lutBody, depthReader, leavesFrom, risingLeaves}
 use Rattle.cover_records.specs.Listing.{coverText, refusalText, lutLines, lutLine, leafText, tableText, hexLow, signed, decimal, digitText, reversed, digitsLow, registerCount, entryTaps, lutTaps, leafTaps, outputTaps, lagIn}
+use Rattle.job_find.specs.RootLookup.{found, absent, turnedBack, lookLuts, lookReader, lookUp, findRoot}
 use Rattle.examples.specs.Nets.{pin, bytesA, netA, bytesB, netB, bytesC, netC, entriesA, labelsA, recordA}
 
 -- ---- the walk over the net's bytes
@@ -98,6 +102,20 @@ broken-layout :
     × (coverReader long netA 2 (1 ∷ 1 ∷ 2 ∷ 2 ∷ 0 ∷ 0 ∷ 1 ∷ 16 ∷ []) ≡ refused 13)
 unfolding coverReader lutsReader lutReader lutBody depthReader leavesFrom risingLeaves times fromBytes ones onesIn
 broken-layout = (refl, refl, refl, refl, refl, refl, refl)
+
+-- E1: the roots of A's record stand at 2 and 8, and 3 has no LUT; a root ends the reading, so nothing behind it is missed; bytes over do no harm
+roots-A :
+    (findRoot 2 recordA ≡ found 2) × (findRoot 4 recordA ≡ found 8) × (findRoot 3 recordA ≡ absent) × (findRoot 300 recordA ≡ absent)
+    × (findRoot 4 (take 9 recordA) ≡ found 8) × (findRoot 3 (take 9 recordA) ≡ absent) × (findRoot 5 (take 9 recordA) ≡ turnedBack 19)
+    × (findRoot 5 (recordA ++ 0 ∷ []) ≡ absent) × (findRoot 0 [] ≡ turnedBack 19) × (findRoot 2 (255 ∷ 2 ∷ 2 ∷ []) ≡ turnedBack 19)
+unfolding lookUp lookReader lookLuts lutBody depthReader leavesFrom risingLeaves times fromBytes ones onesIn
+roots-A = (refl, refl, refl, refl, refl, refl, refl, refl, refl, refl)
+
+-- the same record with numbers of two bytes
+roots-A-wide : (R : Rules) → R ≡ record { wide = true; gates = 300; most = 6; period = 300; luts = 300; area = 0; scratch = 0 }
+    → lookUp R 4 (255 ∷ 2 ∷ 0 ∷ 2 ∷ 0 ∷ 2 ∷ 0 ∷ 2 ∷ 0 ∷ 0 ∷ 0 ∷ 1 ∷ 0 ∷ 8 ∷ 4 ∷ 0 ∷ 2 ∷ 2 ∷ 2 ∷ 0 ∷ 4 ∷ 0 ∷ 1 ∷ 0 ∷ 9 ∷ []) ≡ found 14
+unfolding lookUp lookReader lookLuts lutBody depthReader leavesFrom risingLeaves times fromBytes ones onesIn
+roots-A-wide R e = rw e refl
 
 -- ---- lags and the listing
 

@@ -1,7 +1,10 @@
-// The library for other programs: map, mark and align, each with one number for its answer, and the classes of three-input tables.
+// The library for other programs: map, mark, the root lookup and align, each with one number for its answer, and the classes of three-input
+// tables.
 use captures::Alignment;
 use captures::NO_SHIFT;
 use captures::align;
+use job_find::Found;
+use job_find::find_root;
 use job_judge::Grade;
 use job_map::map;
 use job_mark::mark;
@@ -16,7 +19,8 @@ ghost use Rattle.lutclass.specs.Classes.{IsClass};
 ghost use Rattle.lutclass.specs.ClassTable.{shipped};
 ghost use Rattle.cover_records.specs.Outcomes.{mapOutcome, markOutcome};
 ghost use Rattle.captures.specs.AlignOutcome.{alignOutcome};
-ghost use Rattle.kamfelu.specs.Coded.{coded, codedShift};
+ghost use Rattle.job_find.specs.RootLookup.{findRoot};
+ghost use Rattle.kamfelu.specs.Coded.{coded, codedShift, codedRoot};
 
 // The record's length, or minus the number of the refusal.
 #[no_mangle]
@@ -58,6 +62,19 @@ pub extern "C" fn kamfelu_class(table: u8) -> u8
     ensures class { λ r. ⌜ IsClass table r ⌝ }
 {
     class_of(table)
+}
+
+// The byte offset of gate g's LUT in a cover record, 0 for none, or minus the number of the refusal.
+#[no_mangle]
+pub extern "C" fn kamfelu_find_root(cover: &[u8], g: u16) -> i64
+    ensures { λ r. ⌜ r ≡ codedRoot (findRoot g (now (cover .entry))) ⌝ }
+{
+    let f = find_root(cover, g);
+    match f {
+        Found::At(o) => whole(o),
+        Found::Nothing => 0,
+        Found::Refused(n) => minus(0, n as usize),
+    }
 }
 
 // The shift, 256 for none, or minus the number of the refusal.

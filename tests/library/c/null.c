@@ -1,4 +1,4 @@
-/* A pointer may be NULL where its length is 0: each area of map, mark and align in turn, then all of them. */
+/* A pointer may be NULL where its length is 0: each area of map, mark, find root and align in turn, then all of them. */
 #include "kamfelu.h"
 #include <stdio.h>
 
@@ -60,6 +60,8 @@ int main(void)
     expect("mark, nothing", kamfelu_mark(NULL, 0, 2, NULL, 0, NULL, 0), -3);
     expect("mark, nothing, k 1", kamfelu_mark(NULL, 0, 1, NULL, 0, NULL, 0), -1);
 
+    expect("find root, no record", kamfelu_find_root(NULL, 0, 4), -19);
+
     expect("align, no first", kamfelu_align(NULL, 0, words, 16), 256);
     expect("align, no second", kamfelu_align(words, 16, NULL, 0), 256);
     expect("align, nothing", kamfelu_align(NULL, 0, NULL, 0), 256);
@@ -67,6 +69,7 @@ int main(void)
     /* The same areas without NULL. */
     expect("map", kamfelu_map(net, 20, 2, 0, cover, 962, scratch, 65536), 16);
     expect("mark", kamfelu_mark(net, 20, 2, record, 16, scratch, 65536), 0);
+    expect("find root", kamfelu_find_root(record, 16, 4), 8);
     expect("align", kamfelu_align(words, 16, words, 16), 0);
     if (!wrong)
         printf("as expected\n");

@@ -5,10 +5,14 @@ use std::path::{Path, PathBuf};
 use std::process::Command;
 
 /// The examples, and what each prints.
-const PRINTED: [(&str, &str); 3] = [
+const PRINTED: [(&str, &str); 4] = [
     ("map_and_mark", "map: 16 bytes, period 2\nmark: excess 1\n"),
     ("class", "class of 232: 23\n"),
     ("align", "align: shift 3\n"),
+    (
+        "find_root",
+        "gate 2: LUT at byte 2\ngate 3: no LUT\ngate 4: LUT at byte 8\n",
+    ),
 ];
 
 fn root() -> PathBuf {

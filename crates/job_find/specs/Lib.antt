@@ -1,0 +1,9 @@
+pub mod RootLookup
+pub mod LookupTold
+pub mod FindAnswers
+pub mod Frames
+pub mod Unread
+pub mod Wider
+pub mod LookupLaws
+pub mod LookSteps
+pub mod LookupRange
