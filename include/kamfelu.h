@@ -95,6 +95,15 @@ int64_t kamfelu_mark(const uint8_t *net, size_t net_length, uint32_t k, const ui
    kamfelu_mark accepts, for some net and k, is never answered by -19. The record is only read. No scratch is needed. */
 int64_t kamfelu_find_root(const uint8_t *record, size_t record_length, uint16_t g);
 
+/* Map and mark of the short course. k is 2 to 4, else refusal 1; a net has at most 8 gates, else refusal 5. All else is
+   as for kamfelu_map and kamfelu_mark: where k is at most 4 and the net has at most 8 gates both courses give the same
+   answer and leave the same bytes. */
+int64_t kamfelu_short_map(const uint8_t *net, size_t net_length, uint32_t k, uint32_t target, uint8_t *cover,
+                          size_t cover_length, uint8_t *scratch, size_t scratch_length);
+
+int64_t kamfelu_short_mark(const uint8_t *net, size_t net_length, uint32_t k, const uint8_t *record, size_t record_length,
+                           uint8_t *scratch, size_t scratch_length);
+
 /* Class: the smallest table that a table of three leaves can be turned into by reordering leaves, inverting leaves and
    inverting the output. Bit i of a table is its value where leaf j carries bit j of i.
 

@@ -1,6 +1,6 @@
 //! Kamfelu's proved jobs, called through their static library: [`map`] and [`mark`] for LUT covers
-//! with moved registers, [`find_root`] for a stored cover, [`class`] for three-input tables, [`align`] for
-//! two captures of one unit.
+//! with moved registers, [`short_map`] and [`short_mark`] for those of the short course, [`find_root`]
+//! for a stored cover, [`class`] for three-input tables, [`align`] for two captures of one unit.
 //!
 //! `make library` in the repository writes `target/staticlib/libkamfelu.a`, which the build script
 //! links (x86-64 Linux). A project of your own names this folder:
@@ -34,6 +34,9 @@ pub const SCRATCH: usize = 65_536;
 /// ```
 pub const STACK: usize = 8 << 20;
 
+type Map = unsafe extern "C" fn(*const u8, usize, u32, u32, *mut u8, usize, *mut u8, usize) -> i64;
+type Mark = unsafe extern "C" fn(*const u8, usize, u32, *const u8, usize, *mut u8, usize) -> i64;
+
 extern "C" {
     fn kamfelu_map(
         net: *const u8,
@@ -58,6 +61,27 @@ extern "C" {
 
     fn kamfelu_find_root(record: *const u8, record_len: usize, g: u16) -> i64;
 
+    fn kamfelu_short_map(
+        net: *const u8,
+        net_len: usize,
+        k: u32,
+        target: u32,
+        cover: *mut u8,
+        cover_len: usize,
+        scratch: *mut u8,
+        scratch_len: usize,
+    ) -> i64;
+
+    fn kamfelu_short_mark(
+        net: *const u8,
+        net_len: usize,
+        k: u32,
+        record: *const u8,
+        record_len: usize,
+        scratch: *mut u8,
+        scratch_len: usize,
+    ) -> i64;
+
     fn kamfelu_class(table: u8) -> u8;
 
     fn kamfelu_align(
@@ -66,6 +90,45 @@ extern "C" {
         second: *const u16,
         second_len: usize,
     ) -> i64;
+}
+
+// Map and mark by one of the library's functions, which take the same in both courses.
+fn map_by(
+    job: Map,
+    net: &[u8],
+    k: u32,
+    target: u32,
+    cover: &mut [u8],
+    scratch: &mut [u8],
+) -> Result<usize, u8> {
+    // SAFETY: each pointer goes with its slice's length, and the slices are apart.
+    told(unsafe {
+        job(
+            net.as_ptr(),
+            net.len(),
+            k,
+            target,
+            cover.as_mut_ptr(),
+            cover.len(),
+            scratch.as_mut_ptr(),
+            scratch.len(),
+        )
+    })
+}
+
+fn mark_by(job: Mark, net: &[u8], k: u32, record: &[u8], scratch: &mut [u8]) -> Result<usize, u8> {
+    // SAFETY: each pointer goes with its slice's length, and the slices are apart.
+    told(unsafe {
+        job(
+            net.as_ptr(),
+            net.len(),
+            k,
+            record.as_ptr(),
+            record.len(),
+            scratch.as_mut_ptr(),
+            scratch.len(),
+        )
+    })
 }
 
 /// A cover of a net for LUTs with k inputs that meets the target.
@@ -103,19 +166,7 @@ pub fn map(
     cover: &mut [u8],
     scratch: &mut [u8],
 ) -> Result<usize, u8> {
-    // SAFETY: each pointer goes with its slice's length, and the slices are apart.
-    told(unsafe {
-        kamfelu_map(
-            net.as_ptr(),
-            net.len(),
-            k,
-            target,
-            cover.as_mut_ptr(),
-            cover.len(),
-            scratch.as_mut_ptr(),
-            scratch.len(),
-        )
-    })
+    map_by(kamfelu_map, net, k, target, cover, scratch)
 }
 
 /// Whether a record is that of a cover of a net for LUTs with k inputs that meets the period it
@@ -146,18 +197,7 @@ pub fn map(
 /// assert_eq!(mark(&net, 2, &record[..15], &mut scratch), Err(13)); // it ends early
 /// ```
 pub fn mark(net: &[u8], k: u32, record: &[u8], scratch: &mut [u8]) -> Result<usize, u8> {
-    // SAFETY: each pointer goes with its slice's length, and the slices are apart.
-    told(unsafe {
-        kamfelu_mark(
-            net.as_ptr(),
-            net.len(),
-            k,
-            record.as_ptr(),
-            record.len(),
-            scratch.as_mut_ptr(),
-            scratch.len(),
-        )
-    })
+    mark_by(kamfelu_mark, net, k, record, scratch)
 }
 
 /// Whether gate g has a LUT in a stored cover record, without its net.
@@ -181,6 +221,34 @@ pub fn find_root(record: &[u8], g: u16) -> Result<Option<usize>, u8> {
     // SAFETY: the pointer goes with its slice's length, and the record is only read.
     let answer = unsafe { kamfelu_find_root(record.as_ptr(), record.len(), g) };
     told(answer).map(|offset| (offset != 0).then_some(offset))
+}
+
+/// [`map`] of the short course: `k` is 2 to 4, else refusal 1; a net has at most 8 gates, else
+/// refusal 5. All else is as for [`map`]; where k is at most 4 and the net has at most 8 gates both
+/// give the same, areas and scratch too.
+///
+/// ```
+/// use kamfelu::{short_map, COVER_AREA, SCRATCH};
+///
+/// let net = [2, 3, 1, 3, 0, 0, 1, 8, 3, 2, 2, 4, 1, 6, 1, 0, 3, 1, 0, 4]; // net A
+/// let (mut cover, mut scratch) = ([0; COVER_AREA], vec![0; SCRATCH]);
+/// assert_eq!(short_map(&net, 2, 0, &mut cover, &mut scratch), Ok(16));
+/// assert_eq!(short_map(&net, 5, 0, &mut cover, &mut scratch), Err(1));
+/// assert_eq!(short_map(&[2, 9], 2, 0, &mut cover, &mut scratch), Err(5));
+/// ```
+pub fn short_map(
+    net: &[u8],
+    k: u32,
+    target: u32,
+    cover: &mut [u8],
+    scratch: &mut [u8],
+) -> Result<usize, u8> {
+    map_by(kamfelu_short_map, net, k, target, cover, scratch)
+}
+
+/// [`mark`] of the short course, with the limits of [`short_map`].
+pub fn short_mark(net: &[u8], k: u32, record: &[u8], scratch: &mut [u8]) -> Result<usize, u8> {
+    mark_by(kamfelu_short_mark, net, k, record, scratch)
 }
 
 /// The smallest table that a table of three leaves can be turned into by reordering leaves,

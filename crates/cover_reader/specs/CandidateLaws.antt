@@ -6,7 +6,7 @@ use Prim.Native.Nat.{ℕ, _+_, _≤_, _<_}
 use native.Mathlib.Nat.{le-trans}
 use native.Mathlib.Omega.{arith}
 use lib.ListN.{length, drop}
-use Rattle.limits.specs.Courses.{Offered, is-long}
+use Rattle.limits.specs.Courses.{Offered, is-long, is-short}
 use Rattle.limits.specs.declared.Rules.{Rules}
 use Rattle.limits.specs.Limits.{mostK, mostLeaves, mostLuts}
 use Rattle.net_model.specs.Net.{Net, size}
@@ -31,6 +31,7 @@ record Usual (R : Rules) : Type 0 where
 
 usual : {R : Rules} → Offered R → Usual R
 usual is-long = record { one = refl; few = omega arith }
+usual is-short = record { one = refl; few = omega arith }
 
 -- there is room for the LUTs of a front
 pub front-few : {R : Rules} → Offered R → (s : List ℕ) (a : Front) (t : List ℕ) → frontReader R s ≡ got a t → a .luts ≤ mostLuts

@@ -29,7 +29,7 @@ use Rattle.label_theory.specs.Floor.{floor}
 use Rattle.label_theory.specs.Small.{least-small}
 use Rattle.cover_theory.specs.Key.{Key, Root, source, leaf, RisingNumbers, Entry, entries}
 use Rattle.cover_theory.specs.KeyOf.{entryOf, roots-gate}
-use Rattle.limits.specs.Courses.{Offered, is-long}
+use Rattle.limits.specs.Courses.{Offered, is-long, is-short}
 use Rattle.limits.specs.declared.Rules.{Rules}
 use Rattle.limits.specs.Limits.{mostCount, mostK, mostPins}
 use Rattle.net_bytes.specs.Walk.{tableBytes}
@@ -42,6 +42,7 @@ use Rattle.cover_records.specs.RoundTrip.{SmallLag, up, down, Writable, 
 -- the rules that are offered give room
 pub roomy : {R : Rules} → Offered R → Roomy R
 roomy is-long = record { luts = omega arith; area = omega arith; lag = omega arith; depth = omega arith }
+roomy is-short = record { luts = omega arith; area = omega arith; lag = omega arith; depth = omega arith }
 
 -- the limits of R, as far as the record depends on them
 pub record WithinLimits (R : Rules) (N : Net) (k : ℕ) : Type 0 where

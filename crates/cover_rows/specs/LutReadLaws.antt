@@ -8,7 +8,7 @@ use lib.Count.{ones}
 use lib.IntN.{ℤ}
 use lib.ListN.{length, getD, take, drop}
 use lib.Seq.{length-take-le}
-use Rattle.limits.specs.Courses.{Offered, is-long}
+use Rattle.limits.specs.Courses.{Offered, is-long, is-short}
 use Rattle.limits.specs.declared.Rules.{Rules}
 use Rattle.limits.specs.Limits.{mostK}
 use Rattle.sequences.specs.Listed.{listed-first}
@@ -40,6 +40,7 @@ use Rattle.cover_rows.specs.LeafSpreadLaws.{leavesFrom-alike}
 -- the rules that are offered have nothing before the period
 narrow : {R : Rules} → Offered R → (s : List ℕ) → leadReader (R .wide) s ≡ got 0 s
 narrow is-long s = refl
+narrow is-short s = refl
 
 module _ {R : Rules} (o : Offered R) (s : List ℕ) where
   low : Reader ℕ

@@ -36,6 +36,8 @@ use Rattle.demands.specs.Calls.{MapCall, MarkCall, mapDone, markDone, Ma
 use Rattle.demands.specs.MapEndsLaws.{map-range}
 use Rattle.demands.specs.MarkEndsLaws.{mark-range}
 use Rattle.demands.specs.Right.{RightRecord, Wrote}
+use Rattle.demands.specs.ShortCourse.{ShortCourse}
+use Rattle.demands.specs.ShortCourseLaws.{short-course}
 use Rattle.demands.specs.CallLaws as law
 use Rattle.demands.specs.Roots.{accepted-told}
 use Rattle.demands.specs.SharedCount.{SharedCount}
@@ -104,6 +106,8 @@ pub record Certificate : Type 0 where
   -- ---- Document 02, E3. "that test is to end at the first leaf beyond the copy sought. Yes and no are the same for every copy and rising leaf list, and what stands
   -- behind that first leaf, rising or not, never changes them." The contract of `cone_leaves: seek` equates what it gives, for all leaves and copies, with `seekOf`.
   pub lookup : LeafLookup seekOf
+  -- ---- Document 02, E8: the short course, fields in `ShortCourse`. The contracts of `job_map: short_map` and `job_mark: short_mark` equate what they do with the outcomes of its rules.
+  pub course : ShortCourse
 
 -- **All of it is proved.**
 pub certificate : Certificate
@@ -137,4 +141,5 @@ certificate = record {
   captures = align-told;
   shared = shared-count;
   lookup = leaf-lookup;
+  course = short-course;
 }

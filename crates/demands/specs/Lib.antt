@@ -12,4 +12,6 @@ pub mod LongInputs
 pub mod Calls
 pub mod CallLaws
 pub mod Roots
+pub mod ShortCourse
+pub mod ShortCourseLaws
 pub mod Certificate

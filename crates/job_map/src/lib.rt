@@ -1,4 +1,4 @@
-// Map: the key of the examination. A net, k and a target; a cover in the cover area, or a refusal. The work is done under rules; map itself takes document 01's.
+// Map: the key of the examination. A net, k and a target; a cover in the cover area, or a refusal. The work is done under rules; map itself takes document 01's, short_map those of the short course.
 use inputs::word;
 use job_record::Answer;
 use job_record::map_read;
@@ -6,11 +6,12 @@ use job_scratch::clear_first;
 use job_sizes::check_sizes;
 use limits::Rules;
 use limits::long_course;
+use limits::short_course;
 use net_fields::Verdict;
 use net_reader::read_net;
 ghost use mathlib.Core.Path.{_≡_};
 ghost use lib.ListN.{length};
-ghost use Rattle.limits.specs.Courses.{long, Offered};
+ghost use Rattle.limits.specs.Courses.{long, short, Offered};
 ghost use Rattle.cover_records.specs.Outcomes.{mapOutcome};
 ghost use Rattle.job_sizes.specs.Sizes.{Fit};
 ghost use Rattle.job_record.specs.MapAnswers.{answerOf, InRange};
@@ -66,4 +67,12 @@ pub fn map(net: &[u8], k: u32, target: u32, area: &mut [u8], scratch: &mut [u8])
     ensures small { λ r. ⌜ InRange (answerOf r) ⌝ }
 {
     map_under(net, k, target, area, scratch, long_course())
+}
+
+// Map of the short course, for every input.
+pub fn short_map(net: &[u8], k: u32, target: u32, area: &mut [u8], scratch: &mut [u8]) -> Answer
+    ensures outcome { λ r. ⌜ mapOutcome short (now (net .entry)) k target (now (area .entry)) (now (scratch .entry)) ≡ record { answer = answerOf r; area = now (area .exit); scratch = now (scratch .exit) } ⌝ }
+    ensures small { λ r. ⌜ InRange (answerOf r) ⌝ }
+{
+    map_under(net, k, target, area, scratch, short_course())
 }

@@ -12,12 +12,13 @@ use limits::NODES;
 use limits::PLACES;
 use limits::Rules;
 use limits::long_course;
+use limits::short_course;
 use net_fields::Verdict;
 use net_reader::Wiring;
 use net_reader::read_net;
 ghost use mathlib.Core.Path.{_≡_};
 ghost use lib.ListN.{length};
-ghost use Rattle.limits.specs.Courses.{long, Offered};
+ghost use Rattle.limits.specs.Courses.{long, short, Offered};
 ghost use Rattle.cover_records.specs.Outcomes.{markOutcome};
 ghost use Rattle.job_sizes.specs.Sizes.{Fit};
 ghost use Rattle.job_judge.specs.MarkAnswers.{answerOf, InRange};
@@ -98,4 +99,12 @@ pub fn mark(net: &[u8], k: u32, cover: &[u8], scratch: &mut [u8]) -> Grade
     ensures small { λ r. ⌜ InRange (answerOf r) ⌝ }
 {
     mark_under(net, k, cover, scratch, long_course())
+}
+
+// Mark of the short course, for every input.
+pub fn short_mark(net: &[u8], k: u32, cover: &[u8], scratch: &mut [u8]) -> Grade
+    ensures outcome { λ r. ⌜ markOutcome short (now (net .entry)) k (now (cover .entry)) (now (scratch .entry)) ≡ record { answer = answerOf r; scratch = now (scratch .exit) } ⌝ }
+    ensures small { λ r. ⌜ InRange (answerOf r) ⌝ }
+{
+    mark_under(net, k, cover, scratch, short_course())
 }

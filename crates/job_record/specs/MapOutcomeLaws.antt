@@ -8,7 +8,7 @@ use Rattle.net_model.specs.Net.{Net}
 use Rattle.net_model.specs.Arrays.{netIn}
 use Rattle.net_model.specs.Checks.{Passed}
 use Rattle.limits.specs.Limits.{coverArea}
-use Rattle.limits.specs.Courses.{long, Offered, is-long}
+use Rattle.limits.specs.Courses.{long, Offered, is-long, is-short}
 use Rattle.limits.specs.declared.Rules.{Rules}
 use Rattle.net_bytes.specs.Reading.{Result, got, refused}
 use Rattle.net_bytes.specs.Walk.{netReader}
@@ -38,7 +38,9 @@ writing R bytes area s = record { answer = accepted (length bytes); area = writt
 
 -- the rules that are offered write a cover alike
 offered-bytes : {R : Rules} → Offered R → (φ : ℕ) (es : List Entry) → coverBytes R φ es ≡ coverBytes long φ es
+unfolding coverBytes
 offered-bytes is-long φ es = refl
+offered-bytes is-short φ es = refl
 
 -- a check failed
 pub maps-fails : (R : Rules) (k target n : ℕ) (net area : List ℕ) → n < 256 → checkNet R k net ≡ fails n → MapsTo R k target net area area (turnedBack n)

@@ -1,5 +1,5 @@
-// The library for other programs: map, mark, the root lookup and align, each with one number for its answer, and the classes of three-input
-// tables.
+// The library for other programs: map and mark of both courses, the root lookup and align, each with one number for its answer, and the classes
+// of three-input tables.
 use captures::Alignment;
 use captures::NO_SHIFT;
 use captures::align;
@@ -7,22 +7,48 @@ use job_find::Found;
 use job_find::find_root;
 use job_judge::Grade;
 use job_map::map;
+use job_map::short_map;
 use job_mark::mark;
+use job_mark::short_mark;
 use job_record::Answer;
 use lutclass::class_of;
 use signed::minus;
 use signed::whole;
 ghost use mathlib.Core.Path.{_≡_};
 ghost use lib.ListN.{getD};
-ghost use Rattle.limits.specs.Courses.{long};
+ghost use Rattle.limits.specs.Courses.{long, short};
 ghost use Rattle.lutclass.specs.Classes.{IsClass};
 ghost use Rattle.lutclass.specs.ClassTable.{shipped};
 ghost use Rattle.cover_records.specs.Outcomes.{mapOutcome, markOutcome};
+ghost use Rattle.job_record.specs.MapAnswers as map;
+ghost use Rattle.job_judge.specs.MarkAnswers as mark;
 ghost use Rattle.captures.specs.AlignOutcome.{alignOutcome};
 ghost use Rattle.job_find.specs.RootLookup.{findRoot};
 ghost use Rattle.kamfelu.specs.Coded.{coded, codedShift, codedRoot};
 
 // The record's length, or minus the number of the refusal.
+fn map_code(answer: Answer) -> i64
+    requires { ⌜ map.InRange (map.answerOf answer) ⌝ }
+    ensures { λ r. ⌜ r ≡ coded (map.answerOf answer) ⌝ }
+{
+    match answer {
+        Answer::Length(n) => whole(n),
+        Answer::Refused(n) => minus(0, n as usize),
+    }
+}
+
+// The excess, or minus the number of the refusal.
+fn mark_code(m: Grade) -> i64
+    requires { ⌜ mark.InRange (mark.answerOf m) ⌝ }
+    ensures { λ r. ⌜ r ≡ coded (mark.answerOf m) ⌝ }
+{
+    match m {
+        Grade::Excess(n) => whole(n),
+        Grade::Refused(n) => minus(0, n as usize),
+    }
+}
+
+// Map: the record's length, or minus the number of the refusal.
 #[no_mangle]
 pub extern "C" fn kamfelu_map(
     net: &[u8],
@@ -36,23 +62,44 @@ pub extern "C" fn kamfelu_map(
     ensures scratch { λ _. ⌜ now (scratch .exit) ≡ mapOutcome long (now (net .entry)) k target (now (cover .entry)) (now (scratch .entry)) .scratch ⌝ }
 {
     let answer = map(net, k, target, cover, scratch);
-    match answer {
-        Answer::Length(n) => whole(n),
-        Answer::Refused(n) => minus(0, n as usize),
-    }
+    map_code(answer)
 }
 
-// The excess, or minus the number of the refusal.
+// The same for the short course.
+#[no_mangle]
+pub extern "C" fn kamfelu_short_map(
+    net: &[u8],
+    k: u32,
+    target: u32,
+    cover: &mut [u8],
+    scratch: &mut [u8],
+) -> i64
+    ensures answer { λ r. ⌜ r ≡ coded (mapOutcome short (now (net .entry)) k target (now (cover .entry)) (now (scratch .entry)) .answer) ⌝ }
+    ensures area { λ _. ⌜ now (cover .exit) ≡ mapOutcome short (now (net .entry)) k target (now (cover .entry)) (now (scratch .entry)) .area ⌝ }
+    ensures scratch { λ _. ⌜ now (scratch .exit) ≡ mapOutcome short (now (net .entry)) k target (now (cover .entry)) (now (scratch .entry)) .scratch ⌝ }
+{
+    let answer = short_map(net, k, target, cover, scratch);
+    map_code(answer)
+}
+
+// Mark: the excess, or minus the number of the refusal.
 #[no_mangle]
 pub extern "C" fn kamfelu_mark(net: &[u8], k: u32, cover: &[u8], scratch: &mut [u8]) -> i64
     ensures answer { λ r. ⌜ r ≡ coded (markOutcome long (now (net .entry)) k (now (cover .entry)) (now (scratch .entry)) .answer) ⌝ }
     ensures scratch { λ _. ⌜ now (scratch .exit) ≡ markOutcome long (now (net .entry)) k (now (cover .entry)) (now (scratch .entry)) .scratch ⌝ }
 {
     let m = mark(net, k, cover, scratch);
-    match m {
-        Grade::Excess(n) => whole(n),
-        Grade::Refused(n) => minus(0, n as usize),
-    }
+    mark_code(m)
+}
+
+// The same for the short course.
+#[no_mangle]
+pub extern "C" fn kamfelu_short_mark(net: &[u8], k: u32, cover: &[u8], scratch: &mut [u8]) -> i64
+    ensures answer { λ r. ⌜ r ≡ coded (markOutcome short (now (net .entry)) k (now (cover .entry)) (now (scratch .entry)) .answer) ⌝ }
+    ensures scratch { λ _. ⌜ now (scratch .exit) ≡ markOutcome short (now (net .entry)) k (now (cover .entry)) (now (scratch .entry)) .scratch ⌝ }
+{
+    let m = short_mark(net, k, cover, scratch);
+    mark_code(m)
 }
 
 // The smallest table that a table of three leaves can be turned into: its entry in the table of classes.

@@ -2,7 +2,7 @@
 use Prim.Native.Nat.{_≤_}
 use native.Mathlib.Omega.{arith}
 use Rattle.limits.specs.Limits.{mostGates, mostK, mostPeriod, mostLuts, coverArea, scratchArea}
-use Rattle.limits.specs.Courses.{Offered, is-long}
+use Rattle.limits.specs.Courses.{Offered, is-long, is-short}
 use Rattle.limits.specs.declared.Rules.{Rules}
 
 pub record Within (R : Rules) : Type 0 where
@@ -15,6 +15,14 @@ pub record Within (R : Rules) : Type 0 where
 
 pub offered-within : {R : Rules} → Offered R → Within R
 offered-within is-long = record {
+  gates = omega arith;
+  most = omega arith;
+  period = omega arith;
+  luts = omega arith;
+  area = omega arith;
+  scratch = omega arith;
+}
+offered-within is-short = record {
   gates = omega arith;
   most = omega arith;
   period = omega arith;

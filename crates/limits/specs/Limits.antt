@@ -34,6 +34,13 @@ coverArea = 962
 abbrev pub scratchArea : ℕ
 scratchArea = 65536
 
+-- document 02, E8: "nets of at most 8 gates and k at most 4"
+abbrev pub shortGates : ℕ
+shortGates = 8
+
+abbrev pub shortK : ℕ
+shortK = 4
+
 -- ---- what follows
 
 -- pins of a gate, "bits 0..5" of its map, and leaves of a LUT; also the places for them in arrays

@@ -2,8 +2,8 @@
 // specs/Limits.antt has the same numbers as definitions; `agree` is proved, so the two cannot part.
 ghost use mathlib.Core.Path.{_≡_};
 ghost use Prim.Native.Nat.{_≤_};
-ghost use Rattle.limits.specs.Courses.{long};
-ghost use Rattle.limits.specs.Limits.{mostInputs, mostGates, mostOutputs, leastK, mostK, mostCount, mostPeriod, mostLuts, coverArea, scratchArea, mostPins, mostItems, mostNodes, mostPlaces, mostLeaves, mostCopies, mostReach, mostBeyond, mostTable, mostList, textRoom, refusalRoom, lineRoom, inputRoom};
+ghost use Rattle.limits.specs.Courses.{long, short};
+ghost use Rattle.limits.specs.Limits.{mostInputs, mostGates, mostOutputs, leastK, mostK, mostCount, mostPeriod, mostLuts, coverArea, scratchArea, shortGates, shortK, mostPins, mostItems, mostNodes, mostPlaces, mostLeaves, mostCopies, mostReach, mostBeyond, mostTable, mostList, textRoom, refusalRoom, lineRoom, inputRoom};
 
 pub const INPUTS: usize = 16;
 
@@ -24,6 +24,10 @@ pub const LUTS: usize = 32;
 pub const AREA: usize = 962;
 
 pub const SCRATCH: usize = 65536;
+
+pub const SHORT_GATES: usize = 8;
+
+pub const SHORT_K: u32 = 4;
 
 // What follows.
 pub const PINS: usize = 6;
@@ -76,6 +80,8 @@ pub struct Limits {
     pub luts: usize,
     pub area: usize,
     pub scratch: usize,
+    pub short_gates: usize,
+    pub short_k: u32,
     pub pins: usize,
     pub items: usize,
     pub nodes: usize,
@@ -104,6 +110,8 @@ pub fn agree() -> Limits
     ensures luts { λ r. ⌜ r .luts ≡ mostLuts ⌝ }
     ensures area { λ r. ⌜ r .area ≡ coverArea ⌝ }
     ensures scratch { λ r. ⌜ r .scratch ≡ scratchArea ⌝ }
+    ensures short_gates { λ r. ⌜ r .«short_gates» ≡ shortGates ⌝ }
+    ensures short_k { λ r. ⌜ r .«short_k» ≡ shortK ⌝ }
     ensures pins { λ r. ⌜ r .pins ≡ mostPins ⌝ }
     ensures items { λ r. ⌜ r .items ≡ mostItems ⌝ }
     ensures nodes { λ r. ⌜ r .nodes ≡ mostNodes ⌝ }
@@ -130,6 +138,8 @@ pub fn agree() -> Limits
         luts: LUTS,
         area: AREA,
         scratch: SCRATCH,
+        short_gates: SHORT_GATES,
+        short_k: SHORT_K,
         pins: PINS,
         items: ITEMS,
         nodes: NODES,
@@ -167,6 +177,21 @@ pub fn long_course() -> Rules
         wide: false,
         gates: GATES,
         most: MOST_K,
+        period: PERIOD,
+        luts: LUTS,
+        area: AREA,
+        scratch: SCRATCH,
+    }
+}
+
+// Document 02's short course.
+pub fn short_course() -> Rules
+    ensures { λ r. ⌜ r ≡ short ⌝ }
+{
+    Rules {
+        wide: false,
+        gates: SHORT_GATES,
+        most: SHORT_K,
         period: PERIOD,
         luts: LUTS,
         area: AREA,

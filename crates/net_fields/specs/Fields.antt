@@ -2,7 +2,7 @@
 use mathlib.Core.Bool.{Bool, not, _&&_}
 use Prim.Native.Nat.{ℕ, _%_}
 use lib.Dec.{leb, ltb, eqb}
-use Rattle.limits.specs.Limits.{mostInputs, mostGates, mostOutputs, mostCount, mostPeriod, mostLuts}
+use Rattle.limits.specs.Limits.{mostInputs, mostGates, mostOutputs, mostCount, mostPeriod, mostLuts, shortGates}
 use Rattle.net_bytes.specs.Reading.{Reader, byte, number, between}
 use Rattle.net_bytes.specs.Walk.{onlyBits, tableByte}
 use Rattle.net_fields.specs.declared.Field.{Field}
@@ -10,7 +10,7 @@ use Rattle.net_fields.specs.declared.Field.the-variants.{Net, Cover}
 use Rattle.net_fields.specs.declared.NetField.the-variants.{Inputs, Outputs, PinMap, RegisterMap, Count, Table, OutputMap}
 use Rattle.net_fields.specs.declared.CoverField.the-variants as cover
 use Rattle.net_fields.specs.declared.NumberField.{NumberField}
-use Rattle.net_fields.specs.declared.NumberField.the-variants.{Gates, Source, Period, Luts, Root, Leaf, Depth, Lag}
+use Rattle.net_fields.specs.declared.NumberField.the-variants.{Gates, Source, Period, Luts, Root, Leaf, Depth, Lag, ShortGates}
 
 abbrev pub allowedOf : Field → ℕ → ℕ → Bool
 allowedOf (Net Inputs) limit = between 1 mostInputs
@@ -54,6 +54,7 @@ allowedNumber (Root least) limit = λ n. leb least n && ltb n limit
 allowedNumber Leaf limit = λ n. ltb n limit
 allowedNumber Depth limit = λ n. not (eqb n 0)
 allowedNumber Lag limit = λ n. not (eqb n 0)
+allowedNumber ShortGates limit = between 1 shortGates
 
 abbrev pub numberRefusal : NumberField → ℕ
 numberRefusal Gates = 5
@@ -64,6 +65,7 @@ numberRefusal (Root least) = 13
 numberRefusal Leaf = 13
 numberRefusal Depth = 13
 numberRefusal Lag = 13
+numberRefusal ShortGates = 5
 
 abbrev pub numberEarly : NumberField → ℕ
 numberEarly Gates = 4
@@ -74,6 +76,7 @@ numberEarly (Root least) = 13
 numberEarly Leaf = 13
 numberEarly Depth = 13
 numberEarly Lag = 13
+numberEarly ShortGates = 4
 
 -- one number of a field
 abbrev pub fieldNumber : Bool → NumberField → ℕ → Reader ℕ

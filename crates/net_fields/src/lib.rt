@@ -8,6 +8,7 @@ use limits::LUTS;
 use limits::OUTPUTS_BYTE;
 use limits::PERIOD_NUMBER;
 use limits::Rules;
+use limits::SHORT_GATES;
 ghost use mathlib.Core.Path.{_≡_};
 ghost use mathlib.Core.Bool.{Bool, true, false, _&&_};
 ghost use mathlib.Core.List.{List};
@@ -51,6 +52,7 @@ pub enum NumberField {
     Leaf,
     Depth,
     Lag,
+    ShortGates,
 }
 
 // What a byte of a cover record may be.
@@ -325,6 +327,10 @@ fn number_allowed(field: NumberField, value: usize, limit: usize) -> bool
             0 => false,
             _ => true,
         },
+        NumberField::ShortGates => match value {
+            1..=SHORT_GATES => true,
+            _ => false,
+        },
     }
 }
 
@@ -341,6 +347,7 @@ fn number_refusal(field: NumberField) -> u8
         NumberField::Leaf => 13,
         NumberField::Depth => 13,
         NumberField::Lag => 13,
+        NumberField::ShortGates => 5,
     }
 }
 
@@ -357,6 +364,7 @@ fn number_early(field: NumberField) -> u8
         NumberField::Leaf => 13,
         NumberField::Depth => 13,
         NumberField::Lag => 13,
+        NumberField::ShortGates => 4,
     }
 }
 
@@ -365,6 +373,9 @@ pub fn gates_field(rules: Rules) -> NumberField
     requires { ⌜ Offered rules ⌝ }
     ensures { λ r. ⌜ ((two : Bool) (limit : ℕ) → fieldNumber two r limit ≡ netNumber two 5 (between 1 (rules .gates))) ⌝ }
 {
+    if rules.gates == SHORT_GATES {
+        return NumberField::ShortGates;
+    }
     NumberField::Gates
 }
 

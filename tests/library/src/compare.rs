@@ -1,13 +1,13 @@
 //! The library against the second mapper on random nets and candidates: answers, cover
 //! areas and scratch, whole.
 
-use crate::nets::{net_a, net_b, net_c, of_family, FAMILIES};
+use crate::nets::{hand_made, net_a, net_b, net_c, of_family, FAMILIES};
 use crate::programs::printed;
 use kamfelu::STACK;
 use second::damage::{candidate, damaged, damaged_net};
 use second::encode::{encode, encode_with_holes};
 use second::generate::{random_net, wild_net, Shape};
-use second::jobs::{COVER_BYTES, SCRATCH_BYTES};
+use second::jobs::{Course, COVER_BYTES, LONG, SCRATCH_BYTES, SHORT};
 use second::listing::{listing_within, GAVE_UP};
 use second::mark::check_cover;
 use second::{read_net, read_record, Answer, Limits, Random};
@@ -150,8 +150,49 @@ pub fn on_threads(work: impl Fn(u64, u64) -> Tally + Sync) -> Tally {
     all
 }
 
+/// So many random calls of a course, made one after the other by `call`.
+pub fn random_calls(
+    course: Course,
+    all: u64,
+    salt: u64,
+    call: fn(&mut Sides, &mut Random),
+) -> Tally {
+    let tally = on_threads(|thread, threads| {
+        let mut random = Random::new(seed().wrapping_mul(salt).wrapping_add(thread));
+        let mut sides = Sides::of(course, &mut random);
+        while sides.tally.pairs < all / threads + 1 {
+            call(&mut sides, &mut random);
+        }
+        sides.tally
+    });
+    tally.print();
+    assert!(tally.pairs >= all);
+    tally
+}
+
+/// Map of the hand-made nets: every k from 0 to 8 and the huge ones, with these targets and the huge ones.
+pub fn hand_made_maps(course: Course, targets: &[u32]) {
+    let nets = hand_made();
+    let tally = on_threads(|thread, threads| {
+        let mut random = Random::new(thread);
+        let mut sides = Sides::of(course, &mut random);
+        for net in nets.iter().skip(thread as usize).step_by(threads as usize) {
+            for k in (0..=8).chain(HUGE) {
+                for target in targets.iter().copied().chain(HUGE) {
+                    let lengths = (COVER_BYTES + 1, SCRATCH_BYTES + 1);
+                    sides.map(&mut random, net, k, target, lengths);
+                }
+            }
+        }
+        sides.tally
+    });
+    tally.print();
+    tally.fail_on_differences();
+}
+
 /// The areas of both mappers, filled with the same bytes before each call.
 pub struct Sides {
+    course: Course,
     noise: Vec<u8>,
     /// Of the library and of the second mapper.
     pub cover: [Vec<u8>; 2],
@@ -161,7 +202,13 @@ pub struct Sides {
 
 impl Sides {
     pub fn new(random: &mut Random) -> Sides {
+        Sides::of(LONG, random)
+    }
+
+    /// Map and mark of a course.
+    pub fn of(course: Course, random: &mut Random) -> Sides {
         Sides {
+            course,
             noise: (0..200_000).map(|_| random.byte()).collect(),
             cover: [Vec::new(), Vec::new()],
             scratch: [Vec::new(), Vec::new()],
@@ -195,8 +242,14 @@ impl Sides {
         self.fill_scratch(random, lengths.1);
         let [cover, other_cover] = &mut self.cover;
         let [scratch, other_scratch] = &mut self.scratch;
-        let expected = second::map_within(LIMITS, net, k, target, other_cover, other_scratch);
-        let found = kamfelu::map(net, k, target, cover, scratch);
+        let course = self.course;
+        let expected =
+            second::map_within(course, LIMITS, net, k, target, other_cover, other_scratch);
+        let found = if course == SHORT {
+            kamfelu::short_map(net, k, target, cover, scratch)
+        } else {
+            kamfelu::map(net, k, target, cover, scratch)
+        };
         self.tally.count(expected);
         if expected == Answer::GaveUp {
             // What can be said without listing cuts.
@@ -252,13 +305,17 @@ impl Sides {
                 }
                 expected
             }
-            None => second::mark_within(LIMITS, net, k, record, other),
+            None => second::mark_within(self.course, LIMITS, net, k, record, other),
         };
         self.tally.count(expected);
         if expected == Answer::GaveUp {
             return;
         }
-        let found = answer(kamfelu::mark(net, k, record, scratch));
+        let found = answer(if self.course == SHORT {
+            kamfelu::short_mark(net, k, record, scratch)
+        } else {
+            kamfelu::mark(net, k, record, scratch)
+        });
         let told = || {
             format!(
                 "net {net:?} k {k} record {record:?} scratch {length}: \

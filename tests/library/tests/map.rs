@@ -1,24 +1,15 @@
 //! The library's map against the second mapper's: answers, cover areas and scratch, whole.
 
-use library::compare::{cases, on_threads, seed, Sides, HUGE};
-use library::nets::{hand_made, largest_record, net_a};
+use library::compare::{cases, hand_made_maps, on_threads, random_calls, Sides};
+use library::nets::{largest_record, net_a};
 use second::encode::encode;
-use second::jobs::{COVER_BYTES, SCRATCH_BYTES};
+use second::jobs::LONG;
 use second::Random;
 
 #[test]
 fn random_and_damaged_nets() {
     let all = cases();
-    let tally = on_threads(|thread, threads| {
-        let mut random = Random::new(seed().wrapping_mul(1_000_003).wrapping_add(thread));
-        let mut sides = Sides::new(&mut random);
-        while sides.tally.pairs < all / threads + 1 {
-            sides.random_maps(&mut random);
-        }
-        sides.tally
-    });
-    tally.print();
-    assert!(tally.pairs >= all);
+    let tally = random_calls(LONG, all, 1_000_003, Sides::random_maps);
     assert!(
         all < 100_000 || tally.seen[..=12].iter().all(|&n| n > 50),
         "an answer is rare"
@@ -29,22 +20,8 @@ fn random_and_damaged_nets() {
 /// Every k from 0 to 8 with every target from 0 to 40 and the huge ones.
 #[test]
 fn hand_made_nets_with_all_k_and_targets() {
-    let nets = hand_made();
-    let tally = on_threads(|thread, threads| {
-        let mut random = Random::new(thread);
-        let mut sides = Sides::new(&mut random);
-        for net in nets.iter().skip(thread as usize).step_by(threads as usize) {
-            for k in (0..=8).chain(HUGE) {
-                for target in (0..=40).chain(HUGE) {
-                    let lengths = (COVER_BYTES + 1, SCRATCH_BYTES + 1);
-                    sides.map(&mut random, net, k, target, lengths);
-                }
-            }
-        }
-        sides.tally
-    });
-    tally.print();
-    tally.fail_on_differences();
+    let targets: Vec<u32> = (0..=40).collect();
+    hand_made_maps(LONG, &targets);
 }
 
 /// All lengths around the limits, for a net that is mapped and some that are refused.

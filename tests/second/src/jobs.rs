@@ -3,7 +3,7 @@
 use crate::cover::{read_record, write_record};
 use crate::cuts::Limits;
 use crate::mark::check_cover;
-use crate::net::read_net;
+use crate::net::{read_net, Net};
 use crate::solve::{least_period_within, solve, Stop};
 
 /// The least lengths of the two areas.
@@ -12,6 +12,16 @@ pub const SCRATCH_BYTES: usize = 65_536;
 
 /// The largest target.
 pub const MOST_TARGET: u32 = 32;
+
+/// A course of the examination: the most gates of its nets, and its largest k.
+#[derive(Clone, Copy, Debug, PartialEq, Eq)]
+pub struct Course {
+    pub gates: u8,
+    pub k: u32,
+}
+
+pub const LONG: Course = Course { gates: 32, k: 6 };
+pub const SHORT: Course = Course { gates: 8, k: 4 };
 
 #[derive(Clone, Copy, Debug, PartialEq, Eq)]
 pub enum Answer {
@@ -33,11 +43,12 @@ impl From<Stop> for Answer {
 
 /// The cover of a net for k and a target is written to the cover area.
 pub fn map(net: &[u8], k: u32, target: u32, cover: &mut [u8], scratch: &mut [u8]) -> Answer {
-    map_within(Limits::default(), net, k, target, cover, scratch)
+    map_within(LONG, Limits::default(), net, k, target, cover, scratch)
 }
 
-/// The same with limits of one's own.
+/// The same of a course, with limits of one's own.
 pub fn map_within(
+    course: Course,
     limits: Limits,
     net: &[u8],
     k: u32,
@@ -45,7 +56,7 @@ pub fn map_within(
     cover: &mut [u8],
     scratch: &mut [u8],
 ) -> Answer {
-    if !(2..=6).contains(&k) {
+    if !(2..=course.k).contains(&k) {
         return Answer::Refused(1);
     }
     if target > MOST_TARGET {
@@ -54,7 +65,7 @@ pub fn map_within(
     if cover.len() < COVER_BYTES || scratch.len() < SCRATCH_BYTES {
         return Answer::Refused(3);
     }
-    match map_record(limits, net, k, target) {
+    match map_record(course, limits, net, k, target) {
         Ok(record) => {
             cover[..record.len()].copy_from_slice(&record);
             scratch[..SCRATCH_BYTES].fill(0);
@@ -68,32 +79,48 @@ pub fn map_within(
     }
 }
 
-fn map_record(limits: Limits, net: &[u8], k: u32, target: u32) -> Result<Vec<u8>, Stop> {
-    let net = read_net(net, k).map_err(Stop::Refused)?;
+/// A net of a course. Where its second byte says too many gates the walk ends there at the latest,
+/// and its first byte can only be refused with 5 too.
+fn net_of(course: Course, net: &[u8], k: u32) -> Result<Net, Stop> {
+    if net.get(1).is_some_and(|&gates| gates > course.gates) {
+        return Err(Stop::Refused(5));
+    }
+    read_net(net, k).map_err(Stop::Refused)
+}
+
+fn map_record(
+    course: Course,
+    limits: Limits,
+    net: &[u8],
+    k: u32,
+    target: u32,
+) -> Result<Vec<u8>, Stop> {
+    let net = net_of(course, net, k)?;
     let (cover, _) = solve(&net, k, target, limits)?;
     Ok(write_record(&cover))
 }
 
 /// The excess of a candidate's record: its period less the least period.
 pub fn mark(net: &[u8], k: u32, record: &[u8], scratch: &mut [u8]) -> Answer {
-    mark_within(Limits::default(), net, k, record, scratch)
+    mark_within(LONG, Limits::default(), net, k, record, scratch)
 }
 
-/// The same with limits of one's own.
+/// The same of a course, with limits of one's own.
 pub fn mark_within(
+    course: Course,
     limits: Limits,
     net: &[u8],
     k: u32,
     record: &[u8],
     scratch: &mut [u8],
 ) -> Answer {
-    if !(2..=6).contains(&k) {
+    if !(2..=course.k).contains(&k) {
         return Answer::Refused(1);
     }
     if scratch.len() < SCRATCH_BYTES {
         return Answer::Refused(3);
     }
-    let answer = match mark_excess(limits, net, k, record) {
+    let answer = match mark_excess(course, limits, net, k, record) {
         Ok(excess) => Answer::Done(excess),
         Err(stop) => Answer::from(stop),
     };
@@ -103,8 +130,14 @@ pub fn mark_within(
     answer
 }
 
-fn mark_excess(limits: Limits, net: &[u8], k: u32, record: &[u8]) -> Result<u32, Stop> {
-    let net = read_net(net, k).map_err(Stop::Refused)?;
+fn mark_excess(
+    course: Course,
+    limits: Limits,
+    net: &[u8],
+    k: u32,
+    record: &[u8],
+) -> Result<u32, Stop> {
+    let net = net_of(course, net, k)?;
     let cover = read_record(&net, k, record).map_err(Stop::Refused)?;
     check_cover(&net, &cover).map_err(Stop::Refused)?;
     let least = least_period_within(&net, k, limits).ok_or(Stop::GaveUp)?;

@@ -6,7 +6,7 @@ use common::{map, mark};
 use second::damage::{candidate, damaged_net};
 use second::encode::{encode, encode_with_holes};
 use second::generate::{random_net, wild_net, Shape};
-use second::jobs::{COVER_BYTES, SCRATCH_BYTES};
+use second::jobs::{COVER_BYTES, LONG, SCRATCH_BYTES};
 use second::run::cover_runs_as_net;
 use second::{check_net, parse_net, read_net, read_record, write_record, Answer, Limits, Random};
 
@@ -140,7 +140,7 @@ fn giving_up_is_no_refusal() {
         let bytes = encode(&random_net(&mut random, &shape));
         let mut cover = vec![7; COVER_BYTES];
         let mut scratch = vec![9; SCRATCH_BYTES];
-        let answer = second::map_within(limits, &bytes, 4, 0, &mut cover, &mut scratch);
+        let answer = second::map_within(LONG, limits, &bytes, 4, 0, &mut cover, &mut scratch);
         let record = map(&bytes, 4, 0).unwrap();
         if answer == Answer::GaveUp {
             gave_up += 1;
@@ -149,7 +149,7 @@ fn giving_up_is_no_refusal() {
         } else {
             assert_eq!(answer, Answer::Done(record.len() as u32));
         }
-        let marked = second::mark_within(limits, &bytes, 4, &record, &mut scratch);
+        let marked = second::mark_within(LONG, limits, &bytes, 4, &record, &mut scratch);
         assert_eq!(marked == Answer::GaveUp, answer == Answer::GaveUp);
     }
     assert!(gave_up > 50, "{gave_up}");

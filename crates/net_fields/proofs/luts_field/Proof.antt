@@ -3,7 +3,7 @@ use mathlib.Core.Path.{_≡_, refl}
 use mathlib.Core.Bool.{Bool}
 use Prim.Native.Nat.{ℕ}
 use Rattle.limits.specs.declared.Rules.{Rules}
-use Rattle.limits.specs.Courses.{Offered, is-long}
+use Rattle.limits.specs.Courses.{Offered, is-long, is-short}
 use Rattle.net_bytes.specs.Reading.{between, number}
 use Rattle.net_fields.specs.declared.NumberField.the-variants.{Luts}
 use Rattle.net_fields.specs.Fields.{fieldNumber}
@@ -15,6 +15,7 @@ returns c = kind (c .pre)
   where
     kind : {R : Rules} → Offered R → (two : Bool) (limit : ℕ) → fieldNumber two Luts limit ≡ number two 13 13 (between 1 (R .luts))
     kind is-long two limit = refl
+    kind is-short two limit = refl
 
 pub luts-field-spec : {M : Type 1} → statement M
 luts-field-spec = tie.close (tie.spec returns)

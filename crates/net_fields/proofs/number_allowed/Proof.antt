@@ -1,7 +1,7 @@
 -- `net_fields::number_allowed` meets its contract: each field and its range.
 use mathlib.Core.Path.{refl}
 use native.Mathlib.Omega.{arith}
-use Rattle.limits.specs.Limits.{mostGates, mostLuts, mostPeriod}
+use Rattle.limits.specs.Limits.{mostGates, mostLuts, mostPeriod, shortGates}
 use Rattle.net_fields.specs.FieldLaws.{in-range, below-range, above-range, some-not-zero, none-zero}
 use borrow.Author.Needs.{needs}
 use Rattle.net_fields.proofs.number_allowed.Statement.{statement}
@@ -33,6 +33,9 @@ enum-told-6 c = search needs
 
 enum-told-7 : tie.Need-enum-told-7
 enum-told-7 c = search needs
+
+enum-told-8 : tie.Need-enum-told-8
+enum-told-8 c = search needs
 
 returns : tie.Need-returns
 returns c = rw (c .before .before .enum-told .given .1) (in-range 1 mostGates (c .before .before .before .before .args .value) (omega arith) (omega arith))
@@ -82,6 +85,15 @@ returns-15 c = rw (c .before .enum-told7 .given .1) (none-zero (c .before .befor
 returns-16 : tie.Need-returns-16
 returns-16 c = rw (c .before .enum-told7 .given .1) (some-not-zero (c .before .before .before .args .value) (omega arith))
 
+returns-17 : tie.Need-returns-17
+returns-17 c = rw (c .before .before .enum-told8 .given .1) (in-range 1 shortGates (c .before .before .before .before .args .value) (omega arith) (omega arith))
+
+returns-18 : tie.Need-returns-18
+returns-18 c = rw (c .before .enum-told8 .given .1) (below-range 1 shortGates (c .before .before .before .args .value) (omega arith))
+
+returns-19 : tie.Need-returns-19
+returns-19 c = rw (c .before .before .enum-told8 .given .1) (above-range 1 shortGates (c .before .before .before .before .args .value) (omega arith) (omega arith))
+
 pub number-allowed-spec : {M : Type 1} → statement M
 number-allowed-spec =
     tie.close
@@ -95,6 +107,7 @@ number-allowed-spec =
     enum-told-5
     enum-told-6
     enum-told-7
+    enum-told-8
     returns
     returns-2
     returns-3
@@ -110,4 +123,7 @@ number-allowed-spec =
     returns-13
     returns-14
     returns-15
-    returns-16)
+    returns-16
+    returns-17
+    returns-18
+    returns-19)

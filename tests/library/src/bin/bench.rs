@@ -9,7 +9,7 @@ use library::abc;
 use library::nets::{of_family, FAMILIES};
 use second::encode::encode;
 use second::generate::{random_net, Shape};
-use second::jobs::{COVER_BYTES, SCRATCH_BYTES};
+use second::jobs::{COVER_BYTES, LONG, SCRATCH_BYTES};
 use second::{Answer, Gate, Limits, Net, Random};
 use std::cmp::Ordering;
 use std::collections::BTreeSet;
@@ -89,7 +89,9 @@ impl Areas {
 
     /// The second mapper's answer and time.
     fn second(&mut self, net: &[u8], k: u32) -> (Answer, Duration) {
-        self.best(|Areas { cover, scratch }| second::map_within(LIMITS, net, k, 0, cover, scratch))
+        self.best(|Areas { cover, scratch }| {
+            second::map_within(LONG, LIMITS, net, k, 0, cover, scratch)
+        })
     }
 }
 

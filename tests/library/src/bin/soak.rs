@@ -1,10 +1,11 @@
-//! Map, mark and now and then the listing program against the second mapper for some
-//! minutes, on nets and candidates of every kind.
+//! Map, mark, those of the short course and now and then the listing program against the second mapper
+//! for some minutes, on nets and candidates of every kind.
 //!
 //! `soak [minutes] [seed]`: 20 minutes, and a seed from the clock. The exit code is 1 if
 //! there is a difference.
 
 use library::compare::{each_thread, random_listing, Sides, Tally};
+use second::jobs::SHORT;
 use second::Random;
 use std::collections::BTreeMap;
 use std::process::ExitCode;
@@ -59,6 +60,7 @@ fn main() -> ExitCode {
         let mut random = Random::new(seed.wrapping_mul(1_000_151).wrapping_add(thread));
         let mut maps = Sides::new(&mut random);
         let mut marks = Sides::new(&mut random);
+        let mut short = Sides::of(SHORT, &mut random);
         let mut texts = Tally::default();
         while Instant::now() < end {
             maps.random_maps(&mut random);
@@ -70,26 +72,32 @@ fn main() -> ExitCode {
                 3 => marks.luts_piece(&mut random, false),
                 _ => marks.random_mark(&mut random),
             }
+            short.random_maps(&mut random);
+            short.random_mark(&mut random);
             if random.below(50) == 0 {
                 random_listing(&mut texts, &mut random);
             }
         }
-        [maps.tally, marks.tally, texts]
+        [maps.tally, marks.tally, short.tally, texts]
     });
     let mut maps = Tally::default();
     let mut marks = Tally::default();
+    let mut shorts = Tally::default();
     let mut texts = Tally::default();
-    for [map, mark, text] in told {
+    for [map, mark, short, text] in told {
         maps.add(map);
         marks.add(mark);
+        shorts.add(short);
         texts.add(text);
     }
     let of_map: Vec<usize> = (1..=12).collect();
     let of_mark: Vec<usize> = [1].into_iter().chain(3..=11).chain(13..=18).collect();
     print("map", &maps, &of_map, "length", 100);
     print("mark", &marks, &of_mark, "excess", 1);
+    let of_both: Vec<usize> = (1..=18).collect();
+    print("short course", &shorts, &of_both, "done", 100);
     print("listing", &texts, &[], "", 1);
     println!("seed {seed}");
-    let differences = maps.differences + marks.differences + texts.differences;
+    let differences = maps.differences + marks.differences + shorts.differences + texts.differences;
     ExitCode::from(u8::from(differences > 0))
 }

@@ -1,0 +1,31 @@
+-- `job_map::short_map` meets its contract: map under the rules of the short course.
+use mathlib.Core.Path.{sym, ap, subst, _∙_}
+use denote.Ref.{now}
+use Rattle.limits.specs.Courses.{Offered, is-short}
+use Rattle.limits.specs.declared.Rules.{Rules}
+use Rattle.cover_records.specs.Outcomes.{mapOutcome}
+use borrow.Author.Needs.{needs}
+use Rattle.job_map.proofs.short_map.Statement.{statement}
+use Rattle.job_map.proofs.short_map.Tie as tie
+
+short-course-requires : tie.Need-short-course-requires
+short-course-requires c κs = search needs
+
+map-under-requires : tie.Need-map-under-requires
+map-under-requires c κs = subst Offered (sym (c .short-course .ensures)) is-short
+
+same-length : tie.Need-same-length
+same-length c = search needs
+
+same-length-2 : tie.Need-same-length-2
+same-length-2 c = search needs
+
+returns : tie.Need-returns
+returns c =
+    let a = c .before .before .before .before .before .before .before .before .before .before .before .args in
+    let m = c .before .before .before .before .map-under .ensures in
+    (ap (λ (R : Rules). mapOutcome R (now (a .net)) (a .k) (a .target) (now (a .area)) (now (a .scratch))) (sym (c .before .before .before .before .before .short-course .ensures)) ∙ m .0, m .1)
+
+pub short-map-spec : {M : Type 1} → statement M
+short-map-spec =
+    tie.close (tie.spec short-course-requires map-under-requires same-length same-length-2 returns)
