@@ -11,7 +11,13 @@ ghost use Rattle.cone_copies.specs.CopyLists.{copiesIn, SmallWires, memb
 ghost use Rattle.cone_copies.specs.Ordering.{Arranged};
 
 // Whether the copy at place j is this one.
-fn is_copy(cone_nodes: &[usize], cone_backs: &[usize], j: usize, node: usize, back: usize) -> bool
+pub fn is_copy(
+    cone_nodes: &[usize],
+    cone_backs: &[usize],
+    j: usize,
+    node: usize,
+    back: usize,
+) -> bool
     requires { ⌜ (j < length (now «cone_nodes»)) × (j < length (now «cone_backs»)) ⌝ }
     ensures { λ r. ⌜ Tells r (copyAt (now («cone_nodes» .entry)) (now («cone_backs» .entry)) j ≡ copy node back) ⌝ }
 {

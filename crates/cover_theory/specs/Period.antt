@@ -17,7 +17,7 @@ use Rattle.net_model.specs.Checks.{Passed, Drives}
 use Rattle.net_model.specs.Copies.{copy}
 use Rattle.cone_theory.specs.Basics.{leavesOf}
 use Rattle.cone_theory.specs.CopyOrder.{Levels, levels}
-use Rattle.label_theory.specs.Labels.{LowCut, Labelling, OutputsMet, Reachable}
+use Rattle.label_theory.specs.Labels.{plain, LowCut, Labelling, OutputsMet, Reachable}
 use Rattle.label_theory.specs.Lower.{outputs-from}
 use Rattle.label_theory.specs.Bounds.{alone-cut, alone-leaves}
 use Rattle.label_theory.specs.LabelDecision.{reachable?, labelling-reaches}
@@ -55,7 +55,7 @@ module _ {N : Net} {k : ℕ} (P : Passed N k) where
         let e : (pos (O .level v - 1) +ℤ pos 1) ≡ pos (O .level v) = omega (arith, ints, +-parts (pos (O .level v - 1)) (pos 1)) in
         let reach : (q : Pin) → q ∈ pins N v → (lineLabel (q .src) -ℤ pos (φ * q .count)) ≤ℤ pos (O .level v - 1) = λ q i. line-pins v g q i (q .count) refl in
         subst (λ (h : ℤ). (J : LowCut N k φ lineLabel v h) × (leavesOf N (copy v 0 ∷ []) .0 ≡ J .leaves)) e
-        (alone-cut N k φ (P .sound) lineLabel v (pos (O .level v - 1)) (P .fits) g reach, alone-leaves N k φ (P .sound) lineLabel v (pos (O .level v - 1)) (P .fits) g reach)
+        (alone-cut N k φ (P .sound) plain lineLabel v (pos (O .level v - 1)) (P .fits) g reach tt, alone-leaves N k φ (P .sound) plain lineLabel v (pos (O .level v - 1)) (P .fits) g reach tt)
 
     pub line-labelling : Labelling N k φ lineLabel
     unfolding lineLabel

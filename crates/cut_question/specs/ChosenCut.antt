@@ -1,12 +1,15 @@
 -- Under labels that do not fall along pins the separation told is the chosen cut: "one with fewest leaves; of these, that whose cone lies inside all the others' cones".
 use mathlib.Core.Path.{_∙_}
-use Prim.Native.Nat.{ℕ}
+use Prim.Native.Nat.{ℕ, _*_}
+use native.Mathlib.Nat.{le-refl}
 use native.Mathlib.Omega.{arith}
 use lib.IntN.{ℤ}
 use Rattle.net_model.specs.Net.{Net}
 use Rattle.net_model.specs.Copies.{Any, Chosen}
 use Rattle.cone_theory.specs.Ranks.{Ranked}
-use Rattle.label_theory.specs.Labels.{Low, LowCut}
+use Rattle.cone_theory.specs.Reach.{reachOf}
+use Rattle.label_theory.specs.Labels.{Low, LowCut, plain}
+use Rattle.label_theory.specs.Modes.{bordered-plain}
 use Rattle.label_theory.specs.Forced.{Falling, separation-cut, separation-chosen}
 use Rattle.cut_question.specs.Question.{Parted, Separated}
 
@@ -16,11 +19,11 @@ module _ {N : Net} {v φ : ℕ} {lab : ℕ → ℤ} {h : ℤ} {border k r : ℕ}
 
   -- **the separation is a k-cut of height at most h,**
   unfoldable pub told-cut : LowCut N k φ lab v h
-  told-cut = separation-cut N v φ lab h (P .set) (P .cone) border falling (P .forced) (P .separation) k (P .isLeaves) (P .few)
+  told-cut = separation-cut N v φ lab h (P .set) (P .cone) border falling (P .forced) (P .separation) plain (bordered-plain φ h (le-refl border)) k (P .isLeaves) (P .few)
 
   -- **and it is the chosen one.**
   pub told-chosen : Ranked N → Chosen N k v (Low φ lab h) Any told-cut
   unfolding told-cut
   told-chosen R =
-      separation-chosen N v φ lab h (P .set) (P .cone) border falling (P .forced) (P .separation) R k (P .isLeaves) (P .few)
+      separation-chosen N v φ lab h (P .set) (P .cone) border falling (P .forced) (P .separation) R plain (bordered-plain φ h (le-refl border)) k (k * reachOf N) (bordered-plain φ h (le-refl (k * reachOf N))) (P .isLeaves) (P .few)
       (λ D L s l. let a = w .fewest D L s l in let e = w .count in omega arith) (λ D L s l e. w .smallest D L s l (e ∙ w .count))

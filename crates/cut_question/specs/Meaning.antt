@@ -2,7 +2,7 @@
 use mathlib.Core.Path.{_≡_, refl, sym, subst, _∙_}
 use mathlib.Core.List.{List}
 use Prim.Native.Nat.{ℕ, _+_, _*_, _≤_, _<_}
-use native.Mathlib.Nat.{mul-le-mul-left, mul-le-mul-right}
+use native.Mathlib.Nat.{le-refl, mul-le-mul-left, mul-le-mul-right}
 use native.Mathlib.Omega.{arith}
 use lib.IntN.{ℤ}
 use lib.ListN.{length, getD, take}
@@ -16,6 +16,7 @@ use Rattle.cone_theory.specs.Ranks.{Ranked}
 use Rattle.cone_theory.specs.Reach.{reachOf}
 use Rattle.cone_theory.specs.Basics.{leavesOf}
 use Rattle.label_theory.specs.Labels.{LowCut}
+use Rattle.label_theory.specs.Modes.{bordered-plain}
 use Rattle.label_theory.specs.Forced.{ForcedSet, Separation, no-cut}
 use Rattle.signed.specs.Range.{labelIn}
 use Rattle.cut_circuit.specs.Circuit.{Circuit, Layout, total}
@@ -170,7 +171,7 @@ module _ {C : Circuit} {ls : List ℤ} {φ k g : ℕ} {h : ℤ} {t₀ l₀ membe
     }
 
     none-of : k < r → ¬ LowCut N k φ (labelIn ls) (C .inputs + g) h
-    none-of p = no-cut R set-of (λ D L s w. none-few marked-layout (holds-marked marks H) loopless room o p (separates s) w)
+    none-of p = no-cut R (k * reachOf N) (bordered-plain φ h (le-refl (k * reachOf N))) set-of (λ D L s w. none-few marked-layout (holds-marked marks H) loopless room o p (separates s) w)
 
     module _ (few : r ≤ k) where
       leads-of : ForcedLeads (marked C marks) N (C .inputs + g) (copiesOf G)

@@ -22,7 +22,7 @@ use Rattle.cone_theory.specs.ChecksDecided.{passed?}
 use Rattle.cone_theory.specs.Part.{isCone?}
 use Rattle.cone_theory.specs.Ranks.{ranked}
 use Rattle.cone_theory.specs.Reach.{reachOf}
-use Rattle.label_theory.specs.Labels.{LowCut}
+use Rattle.label_theory.specs.Labels.{plain, LowCut}
 use Rattle.label_theory.specs.Lower.{replace}
 use Rattle.label_theory.specs.Bounds.{LowerBound, raise}
 use Rattle.label_theory.specs.LabelDecision.{start, starting, start-bound}
@@ -53,7 +53,7 @@ gateA v a b = record { low = a; high = b }
 boundA : (k : ℕ) → Passed netA k → LowerBound netA k 1 (labels netA (pos 1 ∷ pos 1 ∷ pos 1 ∷ []))
 unfolding weaker? replace start isGate? reachOf gate ℕ-discrete
 boundA k P =
-    let b0 = start-bound P 1 (ranked (P .reached)) in
+    let b0 = start-bound P 1 plain (ranked (P .reached)) in
     let b2 = by-input (P .sound) b0 2 (pin 0 0) (gateA 2 (omega arith) (omega arith)) (here refl) (omega arith) in
     let b3 = by-pin (P .sound) b2 3 (pin 2 0) (gateA 3 (omega arith) (omega arith)) (here refl) in
     let b4 = by-pin (P .sound) b3 4 (pin 3 0) (gateA 4 (omega arith) (omega arith)) (here refl) in
@@ -85,7 +85,7 @@ unfolding weaker? noCut? replace start starting isGate? reachOf gate ℕ-discret
 boundB2 w P =
     let R = ranked (P .reached) in
     let g : IsGate (throughB w) 4 = record { low = omega arith; high = omega arith } in
-    let b4 = raise (throughB w) 2 1 (P .sound) (start P 1) 4 (start-bound P 1 R) g (given (noCut? (throughB w) 2 1 R (start P 1) 4) tt) in
+    let b4 = raise (throughB w) 2 1 (P .sound) (start P 1) 4 (start-bound P 1 plain R) g (given (noCut? (throughB w) 2 1 R (start P 1) 4) tt) in
     weaken b4 (given (weaker? (throughB w) _ (labels (throughB w) (pos 1 ∷ pos 2 ∷ []))) tt)
 
 b-2 : Maps bytesB netB 2 1 (pos 1 ∷ pos 2 ∷ []) (lut 3 (copy 0 0 ∷ copy 1 0 ∷ []) (pos 0) 8 ∷ lut 4 (copy 2 0 ∷ copy 3 0 ∷ []) (pos 1) 8 ∷ [])
@@ -115,7 +115,7 @@ boundD k P = from-floor 1 P (pos 1 ∷ []) tt
 boundE : (k : ℕ) → Passed netE k → LowerBound netE k 1 (labels netE (pos 1 ∷ []))
 unfolding weaker? replace start starting isGate? reachOf gate ℕ-discrete
 boundE k P =
-    let b1 = by-input (P .sound) (start-bound P 1 (ranked (P .reached))) 1 (pin 0 0) (record { low = omega arith; high = omega arith }) (here refl) (omega arith) in
+    let b1 = by-input (P .sound) (start-bound P 1 plain (ranked (P .reached))) 1 (pin 0 0) (record { low = omega arith; high = omega arith }) (here refl) (omega arith) in
     weaken b1 (given (weaker? netE _ (labels netE (pos 1 ∷ []))) tt)
 
 -- ---- a tie

@@ -31,11 +31,12 @@ use Rattle.cone_theory.specs.Ranks.{Ranked, ranked}
 use Rattle.cone_theory.specs.Reach.{reachOf}
 use Rattle.cut_theory.specs.Choice.{tighten}
 use Rattle.cut_theory.specs.CutDecision.{CutSet, cutSet?, cut?}
-use Rattle.label_theory.specs.Labels.{Low, LowCut, OutputsMet}
+use Rattle.label_theory.specs.Labels.{plain, Low, LowCut, OutputsMet}
 use Rattle.label_theory.specs.Lower.{InputsZero, outputs-under, replace}
 use Rattle.label_theory.specs.Pins.{pin-input}
 use Rattle.label_theory.specs.Bounds.{LowerBound, settled-least, raised, pin-bound}
 use Rattle.label_theory.specs.Forced.{Forced, root, behind, forced-inside}
+use Rattle.label_theory.specs.Modes.{inside?}
 use Rattle.label_theory.specs.LabelDecision.{lowCut?, start, start-bound}
 use Rattle.cover_theory.specs.Key.{Key, Entry, entries}
 use Rattle.cover_theory.specs.KeyOf.{rootList, rootOf?, rootList-root, root-rootList, numbers-rising, rising-gates}
@@ -93,12 +94,12 @@ module _ {N : Net} {k φ : ℕ} where
 
 -- from the floor
 pub from-floor : {N : Net} {k : ℕ} (φ : ℕ) (P : Passed N k) (zs : List ℤ) → T (isYes (weaker? N (start P φ) (labels N zs))) → LowerBound N k φ (labels N zs)
-from-floor {N} φ P zs w = weaken (start-bound P φ (ranked (P .reached))) (given (weaker? N (start P φ) (labels N zs)) w)
+from-floor {N} φ P zs w = weaken (start-bound P φ plain (ranked (P .reached))) (given (weaker? N (start P φ) (labels N zs)) w)
 
 -- no cut of the height of gate v's number
 unfoldable pub noCut? : (N : Net) (k φ : ℕ) → Ranked N → (lab : ℕ → ℤ) (v : ℕ) → Dec (¬ LowCut N k φ lab v (lab v))
-unfolding dec-¬ lowCut? cut? any-subset? isCone? leavesOf all? upTo decLe ≤ℤ? reachOf gate
-noCut? N k φ R lab v = dec-¬ (lowCut? N k φ R lab v (lab v))
+unfolding dec-¬ lowCut? inside? cut? any-subset? isCone? leavesOf all? upTo decLe ≤ℤ? reachOf gate
+noCut? N k φ R lab v = dec-¬ (lowCut? plain N k φ R lab v (lab v))
 
 unfoldable pub outputsMet? : (N : Net) (φ : ℕ) (lab : ℕ → ℤ) → Dec (OutputsMet N φ lab)
 unfolding all? ≤ℤ?
@@ -132,10 +133,10 @@ module _ (N : Net) (k φ : ℕ) (lab : ℕ → ℤ) (cone : ℕ → List Copy) w
   of-gatePlan p = (p .cut, (p .fewest, p .needed))
 
   unfoldable pub gatePlan? : Ranked N → (v : ℕ) → Dec (GatePlan v)
-  unfolding dec-map dec-× dec-¬ dec-⊎ all? upTo cutSet? isCone? leavesOf lowCut? cut? any-subset? Copy-dec ≤ℤ? decLe reachOf gate
+  unfolding dec-map dec-× dec-¬ dec-⊎ all? upTo cutSet? isCone? leavesOf lowCut? inside? cut? any-subset? Copy-dec ≤ℤ? decLe reachOf gate
   gatePlan? R v =
       let low : (y : Copy) → Dec (Low φ lab (lab v) y) = λ y. ≤ℤ? (height φ (lab (y .node)) (y .back)) (lab v) in
-      dec-map gatePlan-of of-gatePlan (dec-× (cutSet? low (λ x. yes tt) k (cone v)) (dec-× (dec-¬ (lowCut? N (length (leavesOf N (cone v) .0) - 1) φ R lab v (lab v)))
+      dec-map gatePlan-of of-gatePlan (dec-× (cutSet? low (λ x. yes tt) k (cone v)) (dec-× (dec-¬ (lowCut? plain N (length (leavesOf N (cone v) .0) - 1) φ R lab v (lab v)))
       (all? (cone v) (λ x h. dec-⊎ (Copy-dec x (copy v 0)) (dec-¬ (low x))))))
 
   unfoldable pub plan? : Ranked N → Dec Plan

@@ -1,5 +1,5 @@
 -- Lower bounds of all labellings: where one has a cut of its own height at every gate it is the least labelling; where a gate has none it may be raised; above a ceiling it refutes.
-use mathlib.Core.Path.{_≡_, refl, subst, ap}
+use mathlib.Core.Path.{_≡_, refl, sym, subst, ap}
 use mathlib.Core.List.{List, [], _∷_}
 use mathlib.Core.Logic.{_⊎_, inl, inr}
 use Prim.Native.Nat.{ℕ, suc, _+_, _*_, _≤_, _<_}
@@ -9,70 +9,79 @@ use lib.IntN.{ℤ, pos, _+ℤ_, _-ℤ_}
 use lib.ListN.{length}
 use lib.Signed.{_≤ℤ_, _<ℤ_, ≤ℤ-refl}
 use Rattle.integers.specs.Parts.{ints, +-parts, sub-parts, scale}
-use Rattle.integers.specs.Order.{≤ℤ-trans, ≤ℤ-total}
+use Rattle.integers.specs.Order.{≤ℤ-trans, ≤ℤ-total, ≤ℤ-antisym}
 use Rattle.integers.specs.Height.{height, height-parts}
 use Rattle.sequences.specs.Member.{_∈_, here, there, not-in-nil}
 use Rattle.net_model.specs.Net.{Net, Pin, IsGate, IsInput, IsNode, pins}
 use Rattle.net_model.specs.Checks.{Sound, Fits}
-use Rattle.net_model.specs.Copies.{Copy, copy, Feeds, Leads, IsCone, Leaf, IsLeaves, Cut, Any}
+use Rattle.net_model.specs.Copies.{Copy, copy, Feeds, Leads, IsCone, Leaf, IsLeaves, Cut}
 use Rattle.net_model.specs.Tables.{feeding}
 use Rattle.cone_theory.specs.Basics.{leavesOf, leaves-distinct, feeds-in}
 use Rattle.sequences.specs.Distinct.{pigeonhole}
-use Rattle.label_theory.specs.Labels.{Low, LowCut, Labelling, Least, OutputsMet}
+use Rattle.label_theory.specs.Labels.{Low, Mode, plain, Inside, LowCutIn, LabellingIn, LeastIn, OutputsMet}
+use Rattle.label_theory.specs.Modes.{Topped, topped-inside}
 use Rattle.label_theory.specs.Lower.{Under, InputsZero, input-or-gate, relabel, replace, replace-same, replace-other, replace-inputs}
-use Rattle.label_theory.specs.Pins.{Below, pin-lemma, pin-input, OutPath, ceiling}
+use Rattle.label_theory.specs.Pins.{BelowIn, pin-lemma, pin-input, OutPath, ceiling}
 
 -- `lo` is 0 at inputs and nowhere above any labelling
-pub record LowerBound (N : Net) (k φ : ℕ) (lo : ℕ → ℤ) : Type 0 where
+pub record LowerBoundIn (M : Mode) (N : Net) (k φ : ℕ) (lo : ℕ → ℤ) : Type 0 where
   pub inputs : InputsZero N lo
-  pub below : (lab : ℕ → ℤ) → Labelling N k φ lab → Under N lo lab
+  pub below : (lab : ℕ → ℤ) → LabellingIn M N k φ lab → Under N lo lab
+
+abbrev pub LowerBound : Net → ℕ → ℕ → (ℕ → ℤ) → Type 0
+LowerBound = LowerBoundIn plain
 
 -- every gate has a cut of the height of its number
+abbrev pub SettledIn : Mode → Net → ℕ → ℕ → (ℕ → ℤ) → Type 0
+SettledIn M N k φ lo = (v : ℕ) → IsGate N v → LowCutIn M N k φ lo v (lo v)
+
 abbrev pub Settled : Net → ℕ → ℕ → (ℕ → ℤ) → Type 0
-Settled N k φ lo = (v : ℕ) → IsGate N v → LowCut N k φ lo v (lo v)
+Settled = SettledIn plain
 
 -- **A settled lower bound is the least labelling.**
-pub settled-least : {N : Net} (k φ : ℕ) {lo : ℕ → ℤ} → LowerBound N k φ lo → Settled N k φ lo → Least N k φ lo
+pub settled-least : {M : Mode} {N : Net} (k φ : ℕ) {lo : ℕ → ℤ} → LowerBoundIn M N k φ lo → SettledIn M N k φ lo → LeastIn M N k φ lo
 settled-least k φ b s = record { labelling = record { inputs = b .inputs; gates = s }; least = b .below }
 
-module _ (N : Net) (k φ : ℕ) (sound : Sound N) where
+module _ {M : Mode} (N : Net) (k φ : ℕ) (sound : Sound N) where
   -- a gate without a cut of its number's height: every labelling is above it there
-  pub above : (lo : ℕ → ℤ) (v : ℕ) → LowerBound N k φ lo → IsGate N v → ¬ LowCut N k φ lo v (lo v) → (lab : ℕ → ℤ) → Labelling N k φ lab → lo v <ℤ lab v
+  pub above : (lo : ℕ → ℤ) (v : ℕ) → LowerBoundIn M N k φ lo → IsGate N v → ¬ LowCutIn M N k φ lo v (lo v) → (lab : ℕ → ℤ) → LabellingIn M N k φ lab → lo v <ℤ lab v
   above lo v b g n lab l = go (≤ℤ-total (lab v) (lo v))
     where
       go : (lab v ≤ℤ lo v) ⊎ (lo v <ℤ lab v) → lo v <ℤ lab v
-      go (inl h) = absurd (n (relabel N k φ sound v (b .inputs) (l .inputs) (b .below lab l) h (l .gates v g)))
+      go (inl h) = absurd (n (subst (LowCutIn M N k φ lo v) (≤ℤ-antisym h (b .below lab l v g)) (relabel N k φ sound M v (b .inputs) (l .inputs) (b .below lab l) (l .gates v g))))
       go (inr h) = h
 
   -- a gate's number may be replaced by anything that every labelling reaches there
-  pub raised : (lo : ℕ → ℤ) (v : ℕ) (h : ℤ) → LowerBound N k φ lo → IsGate N v → ((lab : ℕ → ℤ) → Labelling N k φ lab → h ≤ℤ lab v) → LowerBound N k φ (replace lo v h)
+  pub raised : (lo : ℕ → ℤ) (v : ℕ) (h : ℤ) → LowerBoundIn M N k φ lo → IsGate N v → ((lab : ℕ → ℤ) → LabellingIn M N k φ lab → h ≤ℤ lab v) → LowerBoundIn M N k φ (replace lo v h)
   raised lo v h b g f = record { inputs = replace-inputs N k φ sound lo v h g (b .inputs); below = λ lab l u i. go lab l u i (ℕ-discrete u v) }
     where
-      go : (lab : ℕ → ℤ) → Labelling N k φ lab → (u : ℕ) → IsGate N u → Dec (u ≡ v) → replace lo v h u ≤ℤ lab u
+      go : (lab : ℕ → ℤ) → LabellingIn M N k φ lab → (u : ℕ) → IsGate N u → Dec (u ≡ v) → replace lo v h u ≤ℤ lab u
       go lab l u i (yes e) = rw e (rw (replace-same lo v h) (f lab l))
       go lab l u i (no n) = rw (replace-other lo v h u n) (b .below lab l u i)
 
   -- **Raise**: without a cut of its number's height a gate's number may rise by 1.
-  pub raise : (lo : ℕ → ℤ) (v : ℕ) → LowerBound N k φ lo → IsGate N v → ¬ LowCut N k φ lo v (lo v) → LowerBound N k φ (replace lo v (lo v +ℤ pos 1))
+  pub raise : (lo : ℕ → ℤ) (v : ℕ) → LowerBoundIn M N k φ lo → IsGate N v → ¬ LowCutIn M N k φ lo v (lo v) → LowerBoundIn M N k φ (replace lo v (lo v +ℤ pos 1))
   raise lo v b g n = raised lo v (lo v +ℤ pos 1) b g (λ lab l. let a = above lo v b g n lab l in omega (arith, ints, +-parts (lo v) (pos 1)))
 
   -- **A lower bound above a ceiling refutes**: no labelling meets the outputs.
-  pub refutes : (lo : ℕ → ℤ) (v c : ℕ) → LowerBound N k φ lo → IsGate N v → OutPath N v c → pos (φ * suc c) <ℤ lo v
-      → (lab : ℕ → ℤ) → Labelling N k φ lab → ¬ OutputsMet N φ lab
+  pub refutes : (lo : ℕ → ℤ) (v c : ℕ) → LowerBoundIn M N k φ lo → IsGate N v → OutPath N v c → pos (φ * suc c) <ℤ lo v
+      → (lab : ℕ → ℤ) → LabellingIn M N k φ lab → ¬ OutputsMet N φ lab
   refutes lo v c b g path h lab l m =
       let B = ceiling N k φ sound lab l m g path in
       let a = B .at in
       let d = b .below (B .label) (B .labelling) v g in
       omega (arith, ints)
 
-  -- ---- the new label of a visited gate is p or p + 1
+-- ---- the new label of a visited gate is p or p + 1
 
+module _ (N : Net) (k φ : ℕ) (sound : Sound N) where
   -- p is at least lo(u) − φ·w for each pin (u, w) of v
   abbrev pub PinsReach : (ℕ → ℤ) → ℕ → ℤ → Type 0
   PinsReach lo v p = (q : Pin) → q ∈ pins N v → (lo (q .src) -ℤ pos (φ * q .count)) ≤ℤ p
 
+module _ {M : Mode} (N : Net) (k φ : ℕ) (sound : Sound N) where
   -- **every labelling reaches lo(u) − φ·w at v**, for each pin (u, w) of v
-  pub pin-bound : (lo : ℕ → ℤ) (v : ℕ) (q : Pin) → LowerBound N k φ lo → IsGate N v → q ∈ pins N v → (lab : ℕ → ℤ) → Labelling N k φ lab
+  pub pin-bound : (lo : ℕ → ℤ) (v : ℕ) (q : Pin) → LowerBoundIn M N k φ lo → IsGate N v → q ∈ pins N v → (lab : ℕ → ℤ) → LabellingIn M N k φ lab
       → (lo (q .src) -ℤ pos (φ * q .count)) ≤ℤ lab v
   pin-bound lo v q b g i lab l = go (input-or-gate N (q .src) (sound .pin v g q i))
     where
@@ -87,6 +96,7 @@ module _ (N : Net) (k φ : ℕ) (sound : Sound N) where
           let d = b .below (B .label) (B .labelling) (q .src) h in
           omega (arith, ints, +-parts (lab v) (pos (φ * q .count)), sub-parts (lo (q .src)) (pos (φ * q .count)))
 
+module _ (N : Net) (k φ : ℕ) (sound : Sound N) where
   -- the cone of the gate alone
   alone : ℕ → List Copy
   alone v = copy v 0 ∷ []
@@ -104,18 +114,22 @@ module _ (N : Net) (k φ : ℕ) (sound : Sound N) where
       leads c (there h) = absurd (not-in-nil h)
 
   -- **The gate alone is a k-cut of height p + 1.**
-  pub alone-cut : (lo : ℕ → ℤ) (v : ℕ) (p : ℤ) → Fits N k → IsGate N v → PinsReach lo v p → LowCut N k φ lo v (p +ℤ pos 1)
+  pub alone-cut : (M : Mode) (lo : ℕ → ℤ) (v : ℕ) (p : ℤ) → Fits N k → IsGate N v → PinsReach N k φ sound lo v p → Topped M φ (p +ℤ pos 1) → LowCutIn M N k φ lo v (p +ℤ pos 1)
   unfolding alone
-  alone-cut lo v p fits g reach = record {
+  alone-cut M lo v p fits g reach top = record {
     cone = alone v;
     leaves = leavesOf N (alone v) .0;
     isCone = alone-cone v g;
     isLeaves = leavesOf N (alone v) .1;
     few = few;
     allowed = λ y h. allowed y (leavesOf N (alone v) .1 .sound y h);
-    inside = λ x h. tt;
+    inside = members;
   }
     where
+      members : (x : Copy) → x ∈ copy v 0 ∷ [] → Inside M φ (p +ℤ pos 1) x
+      members x (here e) = subst (Inside M φ (p +ℤ pos 1)) (sym e) (topped-inside M φ (p +ℤ pos 1) v top)
+      members x (there h) = absurd (not-in-nil h)
+
       root-of : (y : Copy) → (l : Leaf N (alone v) y) → Feeds N y (copy v 0)
       root-of y l = go (l .member) (l .isMember) (l .feeds)
         where
@@ -140,7 +154,7 @@ module _ (N : Net) (k φ : ℕ) (sound : Sound N) where
           omega (arith, ints, height-parts φ (lo (y .node)) (y .back), scale φ e, sub-parts (lo (q .src)) (pos (φ * q .count)), +-parts p (pos 1))
 
   -- its leaves are what feeds the gate
-  pub alone-leaves : (lo : ℕ → ℤ) (v : ℕ) (p : ℤ) (fits : Fits N k) (g : IsGate N v) (reach : PinsReach lo v p)
-      → leavesOf N (copy v 0 ∷ []) .0 ≡ (alone-cut lo v p fits g reach) .leaves
+  pub alone-leaves : (M : Mode) (lo : ℕ → ℤ) (v : ℕ) (p : ℤ) (fits : Fits N k) (g : IsGate N v) (reach : PinsReach N k φ sound lo v p) (top : Topped M φ (p +ℤ pos 1))
+      → leavesOf N (copy v 0 ∷ []) .0 ≡ (alone-cut M lo v p fits g reach top) .leaves
   unfolding alone-cut alone
-  alone-leaves lo v p fits g reach = refl
+  alone-leaves M lo v p fits g reach top = refl

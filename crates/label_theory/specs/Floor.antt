@@ -15,14 +15,14 @@ use Rattle.net_model.specs.Copies.{Copy, copy}
 use Rattle.cone_theory.specs.Basics.{member?}
 use Rattle.cone_theory.specs.Ranks.{Ranked, OnPath, starts, follows, behind, behind-feeds, path-end}
 use Rattle.cone_theory.specs.Reach.{reachOf, onPath-count}
-use Rattle.label_theory.specs.Labels.{Low, LowCut, Labelling}
+use Rattle.label_theory.specs.Labels.{Low, Mode, LowCutIn, LabellingIn}
 use Rattle.label_theory.specs.Lower.{input-or-gate}
 
 -- an input is no gate
 not-both : {N : Net} {u : ℕ} → IsInput N u → IsGate N u → ⊥
 not-both i g = omega (arith, g)
 
-module _ {N : Net} (k φ : ℕ) (sound : Sound N) (R : Ranked N) (lab : ℕ → ℤ) (l : Labelling N k φ lab) where
+module _ {M : Mode} {N : Net} (k φ : ℕ) (sound : Sound N) (R : Ranked N) (lab : ℕ → ℤ) (l : LabellingIn M N k φ lab) where
   -- a path from an input ends where it begins
   ends-there : {u s c : ℕ} → IsInput N u → OnPath R u s c → c ≡ 0
   ends-there i (starts e z) = z
@@ -40,7 +40,7 @@ module _ {N : Net} (k φ : ℕ) (sound : Sound N) (R : Ranked N) (lab : ℕ → 
       u : ℕ
       u = R .pin x .src
 
-      K : LowCut N k φ lab v (lab v)
+      K : LowCutIn M N k φ lab v (lab v)
       K = l .gates v g
 
       depth : e + w + d ≡ e + c

@@ -14,11 +14,12 @@ use Rattle.integers.specs.Height.{height, height-parts}
 use Rattle.sequences.specs.Member.{_∈_, Within}
 use Rattle.sequences.specs.Decide.{dec-stable}
 use Rattle.net_model.specs.Net.{Net, Pin, IsGate, pins}
-use Rattle.net_model.specs.Copies.{Copy, copy, Feeds, Leads, stop, step, IsCone, Leaf, IsLeaves, Cut, Any, Chosen}
+use Rattle.net_model.specs.Copies.{Copy, copy, Feeds, Leads, stop, step, IsCone, Leaf, IsLeaves, Cut, Chosen}
 use Rattle.cone_theory.specs.Basics.{member?}
 use Rattle.cone_theory.specs.Ranks.{Ranked}
 use Rattle.cone_theory.specs.Reach.{reachOf, cut-reach}
-use Rattle.label_theory.specs.Labels.{Low, LowCut}
+use Rattle.label_theory.specs.Labels.{Low, Mode, Inside, LowCutIn}
+use Rattle.label_theory.specs.Modes.{Bordered}
 
 -- The copies that every cut with allowed leaves has in its cone: the root's, and what feeds one of them and is no allowed leaf.
 pub data Forced (N : Net) (v : ℕ) (Allowed : Copy → Type 0) : Copy → Type 0 where
@@ -51,14 +52,14 @@ module _ {N : Net} {v : ℕ} {A B : Copy → Type 0} {n : ℕ} (K : Cut N n v A 
   pub cut-separates : {S : List Copy} (border : ℕ) → ForcedSet N v A S → ((x : Copy) → x ∈ K .cone → x .back ≤ border) → Separation N v S border (K .cone)
   cut-separates border s near = record { isCone = K .isCone; contains = λ x m. forced-inside (s .sound x m); near = near }
 
--- **With the reach as border a cut is a separation.**
-pub reach-separates : {N : Net} (R : Ranked N) {v k : ℕ} {A B : Copy → Type 0} {S : List Copy} (K : Cut N k v A B) → ForcedSet N v A S → Separation N v S (k * reachOf N) (K .cone)
-reach-separates {N} R {k = k} K s = cut-separates K (k * reachOf N) s (λ x m. let a = cut-reach R K x m in omega arith)
+-- **With a border that is, up to the reach, what is asked of members, a cut is a separation.**
+pub reach-separates : {N : Net} (R : Ranked N) {v k : ℕ} {A B : Copy → Type 0} {S : List Copy} (border : ℕ) → Bordered B (k * reachOf N) border → (K : Cut N k v A B) → ForcedSet N v A S → Separation N v S border (K .cone)
+reach-separates {N} R {k = k} border near K s = cut-separates K border s (λ x m. near .within x (K .inside x m) (let a = cut-reach R K x m in omega arith))
 
 -- **No cut**: where every separation has more than k leaves there is none.
-pub no-cut : {N : Net} (R : Ranked N) {v k : ℕ} {A B : Copy → Type 0} {S : List Copy} → ForcedSet N v A S
-    → ((C L : List Copy) → Separation N v S (k * reachOf N) C → IsLeaves N C L → k < length L) → ¬ Cut N k v A B
-no-cut R s more K = let a = more (K .cone) (K .leaves) (reach-separates R K s) (K .isLeaves) in let b = K .few in omega arith
+pub no-cut : {N : Net} (R : Ranked N) {v k : ℕ} {A B : Copy → Type 0} {S : List Copy} (border : ℕ) → Bordered B (k * reachOf N) border → ForcedSet N v A S
+    → ((C L : List Copy) → Separation N v S border C → IsLeaves N C L → k < length L) → ¬ Cut N k v A B
+no-cut R border near s more K = let a = more (K .cone) (K .leaves) (reach-separates R border near K s) (K .isLeaves) in let b = K .few in omega arith
 
 -- ---- labels that do not fall along pins
 
@@ -103,24 +104,24 @@ module _ (N : Net) (v φ : ℕ) (lab : ℕ → ℤ) (h : ℤ) (S C : List Copy) 
       go (inr a) = a
 
   -- **A separation with few leaves is a cut.**
-  unfoldable pub separation-cut : (k : ℕ) {L : List Copy} → IsLeaves N C L → length L ≤ k → LowCut N k φ lab v h
-  separation-cut k {L} l few = record {
+  unfoldable pub separation-cut : (M : Mode) {reach : ℕ} → Bordered (Inside M φ h) reach border → (k : ℕ) {L : List Copy} → IsLeaves N C L → length L ≤ k → LowCutIn M N k φ lab v h
+  separation-cut M near k {L} l few = record {
     cone = C;
     leaves = L;
     isCone = sep .isCone;
     isLeaves = l;
     few = few;
     allowed = λ y m. leaf-allowed y (l .sound y m);
-    inside = λ x m. tt;
+    inside = λ x m. near .inside x (sep .near x m);
   }
 
   -- **The separation with fewest leaves and smallest cone is the chosen cut.**
-  pub separation-chosen : (R : Ranked N) (k : ℕ) {L : List Copy} (l : IsLeaves N C L) (few : length L ≤ k)
-      → ((C′ L′ : List Copy) → Separation N v S (k * reachOf N) C′ → IsLeaves N C′ L′ → length L ≤ length L′)
-      → ((C′ L′ : List Copy) → Separation N v S (k * reachOf N) C′ → IsLeaves N C′ L′ → length L′ ≡ length L → Within C C′)
-      → Chosen N k v (Low φ lab h) Any (separation-cut k l few)
+  pub separation-chosen : (R : Ranked N) (M : Mode) {reach : ℕ} (near : Bordered (Inside M φ h) reach border) (k other : ℕ) → Bordered (Inside M φ h) (k * reachOf N) other → {L : List Copy} (l : IsLeaves N C L) (few : length L ≤ k)
+      → ((C′ L′ : List Copy) → Separation N v S other C′ → IsLeaves N C′ L′ → length L ≤ length L′)
+      → ((C′ L′ : List Copy) → Separation N v S other C′ → IsLeaves N C′ L′ → length L′ ≡ length L → Within C C′)
+      → Chosen N k v (Low φ lab h) (Inside M φ h) (separation-cut M near k l few)
   unfolding separation-cut
-  separation-chosen R k l few fewest smallest = record {
-    fewest = λ J. fewest (J .cone) (J .leaves) (reach-separates R J s) (J .isLeaves);
-    smallest = λ J e. smallest (J .cone) (J .leaves) (reach-separates R J s) (J .isLeaves) e;
+  separation-chosen R M near k other far l few fewest smallest = record {
+    fewest = λ J. fewest (J .cone) (J .leaves) (reach-separates R other far J s) (J .isLeaves);
+    smallest = λ J e. smallest (J .cone) (J .leaves) (reach-separates R other far J s) (J .isLeaves) e;
   }

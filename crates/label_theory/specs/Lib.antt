@@ -1,4 +1,5 @@
 pub mod Labels
+pub mod Modes
 pub mod Lower
 pub mod Pins
 pub mod Floor

@@ -13,8 +13,8 @@ use Rattle.integers.specs.Height.{height, height-mono}
 use Rattle.sequences.specs.Member.{_∈_}
 use Rattle.net_model.specs.Net.{Net, Pin, IsGate, IsInput, IsNode, size}
 use Rattle.net_model.specs.Checks.{Sound}
-use Rattle.net_model.specs.Copies.{Copy, Cut, Any, IsLeaves}
-use Rattle.label_theory.specs.Labels.{Low, LowCut, Labelling, Least, OutputsMet}
+use Rattle.net_model.specs.Copies.{Copy, Cut, IsLeaves}
+use Rattle.label_theory.specs.Labels.{Low, Mode, LowCutIn, LabellingIn, LeastIn, OutputsMet}
 
 -- a node is an input or a gate
 pub input-or-gate : (N : Net) (u : ℕ) → IsNode N u → IsInput N u ⊎ IsGate N u
@@ -40,6 +40,18 @@ recut K f = record {
   few = K .few;
   allowed = λ y h. f y h (K .allowed y h);
   inside = K .inside;
+}
+
+-- the same, and whose members do
+unfoldable pub remember : {N : Net} {k v : ℕ} {A B B′ : Copy → Type 0} (K : Cut N k v A B) → ((x : Copy) → x ∈ K .cone → B x → B′ x) → Cut N k v A B′
+remember K f = record {
+  cone = K .cone;
+  leaves = K .leaves;
+  isCone = K .isCone;
+  isLeaves = K .isLeaves;
+  few = K .few;
+  allowed = K .allowed;
+  inside = λ x h. f x h (K .inside x h);
 }
 
 -- `low` is nowhere above `lab`, gate by gate
@@ -92,10 +104,8 @@ replace-under lab v h le u = go (ℕ-discrete u v)
 
 module _ (N : Net) (k φ : ℕ) (s : Sound N) where
   -- with lower labels a cut is no higher
-  pub relabel : {low lab : ℕ → ℤ} {h h′ : ℤ} (v : ℕ) → InputsZero N low → InputsZero N lab → Under N low lab → h ≤ℤ h′
-      → LowCut N k φ lab v h → LowCut N k φ low v h′
-  relabel v z z′ b le K =
-      recut K (λ y m a. ≤ℤ-trans (≤ℤ-trans (height-mono φ (y .back) (under-node z z′ b (y .node) (leaf-node s (K .isLeaves) m))) a) le)
+  pub relabel : (M : Mode) {low lab : ℕ → ℤ} {h : ℤ} (v : ℕ) → InputsZero N low → InputsZero N lab → Under N low lab → LowCutIn M N k φ lab v h → LowCutIn M N k φ low v h
+  relabel M v z z′ b K = recut K (λ y m a. ≤ℤ-trans (height-mono φ (y .back) (under-node z z′ b (y .node) (leaf-node s (K .isLeaves) m))) a)
 
   pub replace-inputs : (lab : ℕ → ℤ) (v : ℕ) (h : ℤ) → IsGate N v → InputsZero N lab → InputsZero N (replace lab v h)
   replace-inputs lab v h g z u i =
@@ -103,8 +113,8 @@ module _ (N : Net) (k φ : ℕ) (s : Sound N) where
       rw (replace-other lab v h u other) (z u i)
 
   -- a gate's label may be lowered to any height at which it has a cut
-  pub lowered : (lab : ℕ → ℤ) (v : ℕ) (h : ℤ) → Labelling N k φ lab → IsGate N v → h ≤ℤ lab v → LowCut N k φ lab v h → Labelling N k φ (replace lab v h)
-  lowered lab v h l g le K = record { inputs = z; gates = λ u i. go u i (ℕ-discrete u v) }
+  pub lowered : {M : Mode} (lab : ℕ → ℤ) (v : ℕ) (h : ℤ) → LabellingIn M N k φ lab → IsGate N v → h ≤ℤ lab v → LowCutIn M N k φ lab v h → LabellingIn M N k φ (replace lab v h)
+  lowered {M} lab v h l g le K = record { inputs = z; gates = λ u i. go u i (ℕ-discrete u v) }
     where
       z : InputsZero N (replace lab v h)
       z = replace-inputs lab v h g (l .inputs)
@@ -112,13 +122,13 @@ module _ (N : Net) (k φ : ℕ) (s : Sound N) where
       under : Under N (replace lab v h) lab
       under u i = replace-under lab v h le u
 
-      go : (u : ℕ) → IsGate N u → Dec (u ≡ v) → LowCut N k φ (replace lab v h) u (replace lab v h u)
-      go u i (yes e) = rw e (rw (replace-same lab v h) (relabel v z (l .inputs) under (≤ℤ-refl h) K))
-      go u i (no n) = rw (replace-other lab v h u n) (relabel u z (l .inputs) under (≤ℤ-refl (lab u)) (l .gates u i))
+      go : (u : ℕ) → IsGate N u → Dec (u ≡ v) → LowCutIn M N k φ (replace lab v h) u (replace lab v h u)
+      go u i (yes e) = rw e (rw (replace-same lab v h) (relabel M v z (l .inputs) under K))
+      go u i (no n) = rw (replace-other lab v h u n) (relabel M u z (l .inputs) under (l .gates u i))
 
   -- the smaller of two labellings, gate by gate, is one
-  pub minimum : (lab lab′ : ℕ → ℤ) → Labelling N k φ lab → Labelling N k φ lab′ → Labelling N k φ (λ u. minℤ (lab u) (lab′ u))
-  minimum lab lab′ l l′ = record { inputs = z; gates = λ v g. go v g (minℤ-cases (lab v) (lab′ v)) }
+  pub minimum : {M : Mode} (lab lab′ : ℕ → ℤ) → LabellingIn M N k φ lab → LabellingIn M N k φ lab′ → LabellingIn M N k φ (λ u. minℤ (lab u) (lab′ u))
+  minimum {M} lab lab′ l l′ = record { inputs = z; gates = λ v g. go v g (minℤ-cases (lab v) (lab′ v)) }
     where
       z : InputsZero N (λ u. minℤ (lab u) (lab′ u))
       z v i = zero-of (minℤ-cases (lab v) (lab′ v))
@@ -128,12 +138,12 @@ module _ (N : Net) (k φ : ℕ) (s : Sound N) where
           zero-of (inr e) = e ∙ l′ .inputs v i
 
       go : (v : ℕ) → IsGate N v → (minℤ (lab v) (lab′ v) ≡ lab v) ⊎ (minℤ (lab v) (lab′ v) ≡ lab′ v)
-          → LowCut N k φ (λ u. minℤ (lab u) (lab′ u)) v (minℤ (lab v) (lab′ v))
-      go v g (inl e) = relabel v z (l .inputs) (λ u i. minℤ-left (lab u) (lab′ u)) (omega (arith, ints)) (l .gates v g)
-      go v g (inr e) = relabel v z (l′ .inputs) (λ u i. minℤ-right (lab u) (lab′ u)) (omega (arith, ints)) (l′ .gates v g)
+          → LowCutIn M N k φ (λ u. minℤ (lab u) (lab′ u)) v (minℤ (lab v) (lab′ v))
+      go v g (inl e) = subst (LowCutIn M N k φ (λ u. minℤ (lab u) (lab′ u)) v) (sym e) (relabel M v z (l .inputs) (λ u i. minℤ-left (lab u) (lab′ u)) (l .gates v g))
+      go v g (inr e) = subst (LowCutIn M N k φ (λ u. minℤ (lab u) (lab′ u)) v) (sym e) (relabel M v z (l′ .inputs) (λ u i. minℤ-right (lab u) (lab′ u)) (l′ .gates v g))
 
 -- the least labelling is unique on gates
-pub least-unique : (N : Net) (k φ : ℕ) (lab lab′ : ℕ → ℤ) → Least N k φ lab → Least N k φ lab′ → (v : ℕ) → IsGate N v → lab v ≡ lab′ v
+pub least-unique : {M : Mode} (N : Net) (k φ : ℕ) (lab lab′ : ℕ → ℤ) → LeastIn M N k φ lab → LeastIn M N k φ lab′ → (v : ℕ) → IsGate N v → lab v ≡ lab′ v
 least-unique N k φ lab lab′ l l′ v g = ≤ℤ-antisym (l .least lab′ (l′ .labelling) v g) (l′ .least lab (l .labelling) v g)
 
 -- where a labelling satisfies the outputs, so does any lower one

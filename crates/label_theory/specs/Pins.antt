@@ -12,16 +12,17 @@ use Rattle.integers.specs.Height.{height, height-parts, height-shift}
 use Rattle.sequences.specs.Member.{_∈_}
 use Rattle.net_model.specs.Net.{Net, Pin, IsGate, IsInput, IsNode, pins}
 use Rattle.net_model.specs.Checks.{Sound, Leading, output, along}
-use Rattle.net_model.specs.Copies.{Copy, copy, Feeds, Cut, Any}
+use Rattle.net_model.specs.Copies.{Copy, copy, Feeds, Cut}
 use Rattle.cone_theory.specs.Basics.{member?}
 use Rattle.cone_theory.specs.Part.{partCut, lift}
-use Rattle.label_theory.specs.Labels.{Low, LowCut, Labelling, OutputsMet}
-use Rattle.label_theory.specs.Lower.{Under, recut, replace, replace-same, replace-under, lowered}
+use Rattle.label_theory.specs.Labels.{Low, Mode, plain, LowCutIn, LabellingIn, OutputsMet}
+use Rattle.label_theory.specs.Modes.{inside-shift}
+use Rattle.label_theory.specs.Lower.{Under, recut, remember, replace, replace-same, replace-under, lowered}
 
 -- some labelling nowhere above `lab` is at most h at v
-pub record Below (N : Net) (k φ : ℕ) (lab : ℕ → ℤ) (v : ℕ) (h : ℤ) : Type 0 where
+pub record BelowIn (M : Mode) (N : Net) (k φ : ℕ) (lab : ℕ → ℤ) (v : ℕ) (h : ℤ) : Type 0 where
   pub label : ℕ → ℤ
-  pub labelling : Labelling N k φ label
+  pub labelling : LabellingIn M N k φ label
   pub under : Under N label lab
   pub at : label v ≤ℤ h
 
@@ -29,15 +30,18 @@ pub record Below (N : Net) (k φ : ℕ) (lab : ℕ → ℤ) (v : ℕ) (h : ℤ) 
 pub pin-feeds : {N : Net} {x : ℕ} (p : Pin) → IsGate N x → p ∈ pins N x → Feeds N (copy (p .src) (p .count)) (copy x 0)
 pin-feeds p g i = record { gate = g; pin = p; isPin = i; source = refl; depth = sym (zero-add (p .count)) }
 
-module _ (N : Net) (k φ : ℕ) (s : Sound N) where
+abbrev pub Below : Net → ℕ → ℕ → (ℕ → ℤ) → ℕ → ℤ → Type 0
+Below = BelowIn plain
+
+module _ {M : Mode} (N : Net) (k φ : ℕ) (s : Sound N) where
   -- a cut of height h at u bounds a labelling at u
-  pub below-cut : (lab : ℕ → ℤ) (u : ℕ) (h : ℤ) → Labelling N k φ lab → IsGate N u → LowCut N k φ lab u h → Below N k φ lab u h
+  pub below-cut : (lab : ℕ → ℤ) (u : ℕ) (h : ℤ) → LabellingIn M N k φ lab → IsGate N u → LowCutIn M N k φ lab u h → BelowIn M N k φ lab u h
   below-cut lab u h l g K = go (minℤ-cases (lab u) h)
     where
       m : ℤ
       m = minℤ (lab u) h
 
-      from : LowCut N k φ lab u m → Below N k φ lab u h
+      from : LowCutIn M N k φ lab u m → BelowIn M N k φ lab u h
       from J = record {
         label = replace lab u m;
         labelling = lowered N k φ s lab u m l g (minℤ-left (lab u) h) J;
@@ -45,25 +49,26 @@ module _ (N : Net) (k φ : ℕ) (s : Sound N) where
         at = rw (replace-same lab u m) (minℤ-right (lab u) h);
       }
 
-      go : (minℤ (lab u) h ≡ lab u) ⊎ (minℤ (lab u) h ≡ h) → Below N k φ lab u h
+      go : (minℤ (lab u) h ≡ lab u) ⊎ (minℤ (lab u) h ≡ h) → BelowIn M N k φ lab u h
       go (inl e) = from (rw e (l .gates u g))
       go (inr e) = from (rw e K)
 
   -- **Pin lemma**, for a pin whose source is a gate
-  pub pin-lemma : (lab : ℕ → ℤ) (x : ℕ) (p : Pin) → Labelling N k φ lab → IsGate N x → p ∈ pins N x → IsGate N (p .src)
-      → Below N k φ lab (p .src) (lab x +ℤ pos (φ * p .count))
+  pub pin-lemma : (lab : ℕ → ℤ) (x : ℕ) (p : Pin) → LabellingIn M N k φ lab → IsGate N x → p ∈ pins N x → IsGate N (p .src)
+      → BelowIn M N k φ lab (p .src) (lab x +ℤ pos (φ * p .count))
   pin-lemma lab x p l g i gs = go (member? (copy (p .src) (p .count)) ((l .gates x g) .cone))
     where
-      K : LowCut N k φ lab x (lab x)
+      K : LowCutIn M N k φ lab x (lab x)
       K = l .gates x g
 
       y : Copy
       y = copy (p .src) (p .count)
 
-      go : Dec (y ∈ K .cone) → Below N k φ lab (p .src) (lab x +ℤ pos (φ * p .count))
+      go : Dec (y ∈ K .cone) → BelowIn M N k φ lab (p .src) (lab x +ℤ pos (φ * p .count))
       go (yes m) =
           below-cut lab (p .src) (lab x +ℤ pos (φ * p .count)) l gs
-          (recut (partCut K (p .src) (p .count) m) (λ z h a. height-shift φ (z .back) (p .count) (lab (z .node)) (lab x) a))
+          (remember (recut (partCut K (p .src) (p .count) m) (λ z h a. height-shift φ (z .back) (p .count) (lab (z .node)) (lab x) a))
+          (λ z h a. inside-shift M φ (lab x) (p .count) z a))
       go (no n) = record {
         label = lab;
         labelling = l;
@@ -75,7 +80,7 @@ module _ (N : Net) (k φ : ℕ) (s : Sound N) where
       }
 
   -- the same for a pin whose source is an input: an input copy is never a member, so it is a leaf
-  pub pin-input : (lab : ℕ → ℤ) (x : ℕ) (p : Pin) → Labelling N k φ lab → IsGate N x → p ∈ pins N x → IsInput N (p .src)
+  pub pin-input : (lab : ℕ → ℤ) (x : ℕ) (p : Pin) → LabellingIn M N k φ lab → IsGate N x → p ∈ pins N x → IsInput N (p .src)
       → height φ (pos 0) (p .count) ≤ℤ lab x
   pin-input lab x p l g i n =
       let K = l .gates x g in
@@ -92,9 +97,9 @@ pub out-path : {N : Net} {v : ℕ} → Leading N v → (c : ℕ) × OutPath N v 
 out-path (output o i e) = (o .count, last o i e refl)
 out-path (along u p g i e l) = let r = out-path l in (p .count + r .0, then u p (r .0) g i e refl (r .1))
 
-module _ (N : Net) (k φ : ℕ) (s : Sound N) where
+module _ {M : Mode} (N : Net) (k φ : ℕ) (s : Sound N) where
   -- **Ceiling**: where the outputs are met, a labelling no higher is at most φ·(1 + c) at v, c the registers on a path from v to an output.
-  pub ceiling : (lab : ℕ → ℤ) → Labelling N k φ lab → OutputsMet N φ lab → {v c : ℕ} → IsGate N v → OutPath N v c → Below N k φ lab v (pos (φ * suc c))
+  pub ceiling : (lab : ℕ → ℤ) → LabellingIn M N k φ lab → OutputsMet N φ lab → {v c : ℕ} → IsGate N v → OutPath N v c → BelowIn M N k φ lab v (pos (φ * suc c))
   ceiling lab l m {v} {c} g (last o i e f) = record {
     label = lab;
     labelling = l;

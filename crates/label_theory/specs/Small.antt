@@ -11,20 +11,16 @@ use Rattle.integers.specs.Parts.{ints, +-parts, sub-parts}
 use Rattle.integers.specs.Order.{≤ℤ-trans, ≤ℤ-total, <ℤ?, ℤ-dec}
 use Rattle.integers.specs.Height.{height, height-parts}
 use Rattle.sequences.specs.Member.{_∈_, here, there, not-in-nil}
-use Rattle.sequences.specs.Decide.{any?, all?, not-all, count-from, in-count-from, count-from-in}
+use Rattle.sequences.specs.Decide.{any?, all?, not-all, count-from, in-count-from, count-from-in, length-count-from}
 use Rattle.sequences.specs.Distinct.{inject, distinct-count-from, remove, length-remove, remove-cases}
 use Rattle.net_model.specs.Net.{Net, Pin, IsGate, IsInput, IsNode, size}
 use Rattle.net_model.specs.Checks.{Sound}
 use Rattle.net_model.specs.Copies.{Copy, Cut}
 use Rattle.cone_theory.specs.Basics.{isGate?}
 use Rattle.cone_theory.specs.FewCopies.{gateNumbers, in-gateNumbers, gateNumbers-in, length-gateNumbers}
-use Rattle.label_theory.specs.Labels.{Low, LowCut, Labelling, Least}
-use Rattle.label_theory.specs.Lower.{recut, input-or-gate, leaf-node}
-
-length-count-from : (b n : ℕ) → length (count-from b n) ≡ n
-unfolding count-from
-length-count-from b zero = refl
-length-count-from b (suc n) = ap suc (length-count-from (suc b) n)
+use Rattle.label_theory.specs.Labels.{Low, Mode, LabellingIn, LeastIn}
+use Rattle.label_theory.specs.Modes.{inside-lower}
+use Rattle.label_theory.specs.Lower.{recut, remember, input-or-gate, leaf-node}
 
 -- numbers above t fall by 1
 fallAt : (t : ℕ) (z : ℤ) → Dec (pos t <ℤ z) → ℤ
@@ -53,6 +49,13 @@ fall-below t z h = go (<ℤ? (pos t) z)
     go (yes k) = absurd (clash k h)
     go (no n) = refl
 
+fall-under : (t : ℕ) (z : ℤ) → fall t z ≤ℤ z
+fall-under t z = go (≤ℤ-total z (pos t))
+  where
+    go : (z ≤ℤ pos t) ⊎ (pos t <ℤ z) → fall t z ≤ℤ z
+    go (inl h) = rw (fall-below t z h) (≤ℤ-refl z)
+    go (inr h) = rw (fall-above t z h) (omega (arith, ints, sub-parts z (pos 1)))
+
 -- where t itself is no label, heights of leaves fall with the labels
 fall-height : (φ t d : ℕ) (l h : ℤ) → ¬ (l ≡ pos t) → ¬ (h ≡ pos t) → height φ l d ≤ℤ h → height φ (fall t l) d ≤ℤ fall t h
 fall-height φ t d l h nl nh le = go (≤ℤ-total l (pos t)) (≤ℤ-total h (pos t))
@@ -78,13 +81,14 @@ fall-height φ t d l h nl nh le = go (≤ℤ-total l (pos t)) (≤ℤ-total h (p
     go (inr a) (inr b) =
         rw (fall-above t l a) (rw (fall-above t h b) (omega (arith, ints, height-parts φ l d, height-parts φ (l -ℤ pos 1) d, sub-parts l (pos 1), sub-parts h (pos 1))))
 
-module _ (N : Net) (k φ : ℕ) (sound : Sound N) (lab : ℕ → ℤ) where
+module _ {M : Mode} (N : Net) (k φ : ℕ) (sound : Sound N) (lab : ℕ → ℤ) where
   -- all labels above an unused t may fall by 1
-  fallen : (t : ℕ) → 1 ≤ t → ((v : ℕ) → IsGate N v → ¬ (lab v ≡ pos t)) → Labelling N k φ lab → Labelling N k φ (λ v. fall t (lab v))
+  fallen : (t : ℕ) → 1 ≤ t → ((v : ℕ) → IsGate N v → ¬ (lab v ≡ pos t)) → LabellingIn M N k φ lab → LabellingIn M N k φ (λ v. fall t (lab v))
   fallen t p unused l = record {
     inputs = λ v i. ap (fall t) (l .inputs v i) ∙ fall-below t (pos 0) (omega (arith, ints));
-    gates = λ v g. recut (l .gates v g)
-        (λ y m a. fall-height φ t (y .back) (lab (y .node)) (lab v) (node (y .node) (leaf-node sound (l .gates v g .isLeaves) m)) (unused v g) a);
+    gates = λ v g. remember (recut (l .gates v g)
+        (λ y m a. fall-height φ t (y .back) (lab (y .node)) (lab v) (node (y .node) (leaf-node sound (l .gates v g .isLeaves) m)) (unused v g) a))
+        (λ x m. inside-lower M φ x (fall-under t (lab v)));
   }
     where
       node : (u : ℕ) → IsNode N u → ¬ (lab u ≡ pos t)
@@ -95,7 +99,7 @@ module _ (N : Net) (k φ : ℕ) (sound : Sound N) (lab : ℕ → ℤ) where
           go (inr g) e = unused u g e
 
   -- **A least labelling has no label above G.**
-  pub least-small : Least N k φ lab → (v : ℕ) → IsGate N v → lab v ≤ℤ pos (length (N .gates))
+  pub least-small : LeastIn M N k φ lab → (v : ℕ) → IsGate N v → lab v ≤ℤ pos (length (N .gates))
   least-small b v g = go (≤ℤ-total (lab v) (pos (length (N .gates))))
     where
       G : ℕ

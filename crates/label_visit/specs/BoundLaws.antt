@@ -4,21 +4,23 @@ use mathlib.Core.List.{List}
 use mathlib.Core.Logic.{_⊎_, inl, inr}
 use Prim.Native.Nat.{ℕ, suc, _+_, _-_, _*_, _<_}
 use native.Mathlib.Decide.{ℕ-discrete}
+use native.Mathlib.Nat.{le-refl}
 use native.Mathlib.Omega.{arith}
 use lib.IntN.{ℤ, pos, _+ℤ_, _-ℤ_}
 use lib.ListN.{length, getD, set}
 use lib.Seq.{getD-set-same, getD-set-other}
 use lib.Signed.{_≤ℤ_, _<ℤ_}
 use Rattle.integers.specs.Parts.{ints, +-parts}
-use Rattle.integers.specs.Order.{≤ℤ-trans}
+use Rattle.integers.specs.Order.{≤ℤ-trans, ≤ℤ-antisym}
 use Rattle.sequences.specs.Member.{_∈_}
 use Rattle.net_model.specs.Net.{Net, Pin, IsGate, pins}
 use Rattle.net_model.specs.Arrays.{stride}
 use Rattle.net_model.specs.ArrayLaws.{pinAt, pinsIn-in, in-pinsIn}
 use Rattle.net_model.specs.Checks.{Sound}
-use Rattle.label_theory.specs.Labels.{LowCut, Labelling, Least}
+use Rattle.label_theory.specs.Labels.{plain, LowCut, Labelling, Least}
 use Rattle.label_theory.specs.Lower.{relabel, replace, replace-same, replace-other}
 use Rattle.label_theory.specs.Bounds.{LowerBound, PinsReach, pin-bound, raised, refutes, alone-cut, settled-least}
+use Rattle.label_theory.specs.Modes.{bordered-plain}
 use Rattle.label_theory.specs.Forced.{Falling, separation-cut}
 use Rattle.signed.specs.Range.{labelIn}
 use Rattle.cut_circuit.specs.Circuit.{Circuit}
@@ -67,7 +69,8 @@ module _ {C : Circuit} {k φ : ℕ} {tops : List ℕ} where
       v = C .inputs + g
 
       go : (lab v ≤ℤ p) ⊎ (p <ℤ lab v) → (p +ℤ pos 1) ≤ℤ lab v
-      go (inl h) = absurd (n (relabel N k φ (S .sound) v (b .inputs) (x .inputs) (b .below lab x) h (x .gates v (gate-of (S .holds) g l))))
+      go (inl h) = absurd (n (subst (LowCut N k φ (labelIn ls) v) (≤ℤ-antisym h (reaches-p {ls = ls} S g l m b lab x))
+          (relabel N k φ (S .sound) plain v (b .inputs) (x .inputs) (b .below lab x) (x .gates v (gate-of (S .holds) g l)))))
       go (inr h) = omega (arith, ints, +-parts p (pos 1))
 
   -- a label raised to what every labelling reaches
@@ -108,12 +111,12 @@ module _ {C : Circuit} {k φ : ℕ} {tops : List ℕ} where
   quiet-cut : {N : Net} {ls : List ℤ} (S : Suits C k tops N) → Falling N φ (labelIn ls) → (g : ℕ) → g < C .gates → Quiet C k φ tops ls g
       → LowCut N k φ (labelIn ls) (C .inputs + g) (labelIn ls (C .inputs + g))
   quiet-cut {N} {ls} S f g l (higher p m h) =
-      Rattle.label_theory.specs.Lower.recut (alone-cut N k φ (S .sound) (labelIn ls) (C .inputs + g) p (S .fits) (gate-of (S .holds) g l) (pins-reach k φ {ls = ls} (S .holds) (S .sound) g l m))
+      Rattle.label_theory.specs.Lower.recut (alone-cut N k φ (S .sound) plain (labelIn ls) (C .inputs + g) p (S .fits) (gate-of (S .holds) g l) (pins-reach k φ {ls = ls} (S .holds) (S .sound) g l m) tt)
       (λ y i a. ≤ℤ-trans a h)
   quiet-cut {N} {ls} S f g l (level p m e s) =
       let x = s N S in
       subst (LowCut N k φ (labelIn ls) (C .inputs + g)) (sym e)
-      (separation-cut N (C .inputs + g) φ (labelIn ls) p (x .set) (x .cone) (C .border) f (x .forced) (x .separation) k (x .isLeaves) (x .few))
+      (separation-cut N (C .inputs + g) φ (labelIn ls) p (x .set) (x .cone) (C .border) f (x .forced) (x .separation) plain (bordered-plain φ p (le-refl (C .border))) k (x .isLeaves) (x .few))
 
   -- **Where all gates are quiet a lower bound is the least labelling.**
   pub quiet-least : {ls : List ℤ} → Bounds C k φ tops ls → ((g : ℕ) → g < C .gates → Quiet C k φ tops ls g) → (N : Net) → Suits C k tops N → Least N k φ (labelIn ls)

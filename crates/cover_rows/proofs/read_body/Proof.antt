@@ -109,7 +109,8 @@ returns-4 c =
     let t = c .before .before .before .before .before .read-tail in
     let fits : SFits w64 (t .result .lag) = search needs in
     record {
-      result = rw (back (t .result .lag) fits) (onward-went _ (h .ensures .result (a .two) (a .nodes) (a .root)) (c .before .before .before .before .before .before .before .before .before .enum-told .given .1)
+      result = rw (back (t .result .lag) fits) (onward-went _ (h .ensures .result (a .two) (a .nodes) (a .root))
+          (c .before .before .before .before .before .before .before .before .before .enum-told .given .1)
           ∙ onward-went _ (l .ensures .result (a .root)) (c .before .before .before .before .before .before .enum-told2 .given .1)
           ∙ went _ (drop (t .result .at) s) (t .ensures (a .root) (copiesFrom (l .result .nodes) (l .result .backs) 0 (h .result .size))) (c .before .before .before .enum-told3 .given .1));
       keeps = record {

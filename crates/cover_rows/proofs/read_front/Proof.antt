@@ -35,7 +35,8 @@ returns c =
     let f = c .before .before .before .before .before .period-field in
     let p = c .before .before .before .before .read-number in
     let n = c .no-front in
-    stopping _ _ (period-stops (start .pre) s (as-said (f .ensures (a .rules .wide) 0) (stopped (p .result .value) (drop (p .result .at) s) (p .ensures .result) (c .before .before .v .given .1)))) (n .ensures)
+    stopping _ _ (period-stops (start .pre) s (as-said (f .ensures (a .rules .wide) 0)
+    (stopped (p .result .value) (drop (p .result .at) s) (p .ensures .result) (c .before .before .v .given .1)))) (n .ensures)
 
 enum-told : tie.Need-enum-told
 enum-told c = search needs

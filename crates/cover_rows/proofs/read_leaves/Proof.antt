@@ -27,7 +27,8 @@ returns c =
     let s = now (a .bytes) in
     let x = c .before .before .before .before .read-numbers in
     let n = c .no-leaves in
-    nodes-stop (a .two) s (a .at) (a .nodes) (a .n) (a .map) (n .result) (stopped (take (a .n) (x .result .values)) (drop (x .result .at) s) (x .ensures .result) (c .before .before .v .given .1)) (n .ensures)
+    nodes-stop (a .two) s (a .at) (a .nodes) (a .n) (a .map) (n .result)
+    (stopped (take (a .n) (x .result .values)) (drop (x .result .at) s) (x .ensures .result) (c .before .before .v .given .1)) (n .ensures)
 
 enum-told : tie.Need-enum-told
 enum-told c = search needs

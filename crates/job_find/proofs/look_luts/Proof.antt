@@ -35,7 +35,8 @@ returns c =
     let l = c .before .before .before .before .loop in
     let more : l .i < a .n = omega (arith, c .before .before .before .loop-test .taken) in
     let m = c .before .before .read-number in
-    sym (ap told (root-stops (a .two) s (a .g) (a .n) (a .at) (l .next) (l .least) (l .i) (l .inv) more (stopped (m .result .value) (drop (m .result .at) s) (m .ensures .result) (c .enum-told .given .1))))
+    sym (ap told (root-stops (a .two) s (a .g) (a .n) (a .at) (l .next) (l .least) (l .i) (l .inv) more
+    (stopped (m .result .value) (drop (m .result .at) s) (m .ensures .result) (c .enum-told .given .1))))
 
 enum-told-2 : tie.Need-enum-told-2 Inv-loop μ-loop
 enum-told-2 c = search needs
@@ -83,7 +84,9 @@ enum-told-4 : tie.Need-enum-told-4 Inv-loop μ-loop
 enum-told-4 c = search needs
 
 add-least : tie.Need-add-least Inv-loop μ-loop
-add-least c = let two = c .before .before .before .before .before .before .before .before .before .before .before .args .two in omega (arith, c .before .before .before .before .before .before .before .read-number .ensures .small, halves two, half-small two)
+add-least c =
+    let two = c .before .before .before .before .before .before .before .before .before .before .before .args .two in
+    omega (arith, c .before .before .before .before .before .before .before .read-number .ensures .small, halves two, half-small two)
 
 add-i : tie.Need-add-i Inv-loop μ-loop
 add-i c = search needs

@@ -79,7 +79,8 @@ returns-3 c =
     (onward-went (fromSizes (a .rules .wide) (a .k) (a .inputs) (z .result .gates) (z .result .outputs) (drop (z .result .at) s)) (z .ensures .result (a .k) (a .inputs))
     (c .before .before .before .before .before .before .enum-told .given .1)) (w .ensures .0) (w .ensures .1) (w .ensures .2) in
     let y = c .before .before .before .before .read-gates in
-    body-read (a .rules) (a .k) (a .inputs) s (a .at) (z .result .at) (w .result) e (y .result) (y .ensures) (c .before .before .enum-told2 .given .1) (c .read-outputs .result) (c .read-outputs .ensures)
+    body-read (a .rules) (a .k) (a .inputs) s (a .at) (z .result .at) (w .result) e (y .result) (y .ensures)
+    (c .before .before .enum-told2 .given .1) (c .read-outputs .result) (c .read-outputs .ensures)
 
 pub read-body-spec : {M : Type 1} → statement M
 read-body-spec =

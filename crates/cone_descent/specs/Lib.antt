@@ -1,0 +1,9 @@
+pub mod Descent
+pub mod TrailLaws
+pub mod DescentLaws
+pub mod DescentEnds
+pub mod DescentSteps
+pub mod DescentStepLaws
+pub mod DescentTold
+pub mod Owner
+pub mod Seats
