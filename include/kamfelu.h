@@ -18,8 +18,7 @@ extern "C" {
      its length is 0.
    - Areas that are written (cover, scratch) overlap no other area, and no other thread uses them during the call. Net
      and record are only read.
-   - The calling thread must have a stack of 8 MiB: on Linux the main thread has one by default, other threads must
-     ask for it.
+   - A call takes less than 256 KiB of the calling thread's stack.
    - The library keeps nothing between calls; calls on different areas may run at the same time.
 
    Refusals. Map checks 1 to 12, mark 1, 3 to 11 and 13 to 18, find root 19, align 23; the first that fails is told, of 4

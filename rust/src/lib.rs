@@ -15,7 +15,7 @@
 //! - `Err` has the number of a refusal. README.md of the repository lists them, "Refusals".
 //! - Nothing is assumed of the contents of any argument. docs/FORMATS.md explains net records and
 //!   cover records.
-//! - The calling thread must have a stack of 8 MiB: on Linux the main thread has one by default, other threads must ask for it.
+//! - A call takes less than 256 KiB of the calling thread's stack.
 //!   See [`STACK`].
 //! - Nothing is kept between calls; threads may call at the same time.
 
@@ -25,14 +25,14 @@ pub const COVER_AREA: usize = 962;
 /// The least length of a scratch, in bytes.
 pub const SCRATCH: usize = 65_536;
 
-/// The stack of a thread that calls, in bytes. Threads of Rust have less unless they ask for it:
+/// More than the stack that a call takes, in bytes. A thread may have so little:
 ///
 /// ```
 /// let thread = std::thread::Builder::new().stack_size(kamfelu::STACK);
 /// let class = thread.spawn(|| kamfelu::class(232)).unwrap();
 /// assert_eq!(class.join().unwrap(), 23);
 /// ```
-pub const STACK: usize = 8 << 20;
+pub const STACK: usize = 256 << 10;
 
 type Map = unsafe extern "C" fn(*const u8, usize, u32, u32, *mut u8, usize, *mut u8, usize) -> i64;
 type Mark = unsafe extern "C" fn(*const u8, usize, u32, *const u8, usize, *mut u8, usize) -> i64;

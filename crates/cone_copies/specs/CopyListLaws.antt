@@ -1,23 +1,26 @@
 -- Laws of lists of copies kept in arrays.
 use mathlib.Core.Path.{_≡_, refl, sym, ap, _∙_, subst}
-use mathlib.Core.Bool.{Bool, true, false, true≢false, false≢true}
-use mathlib.Core.List.{List, [], _∷_, _++_}
+use mathlib.Core.Bool.{Bool, true, false}
+use mathlib.Core.List.{List}
 use Prim.Native.Nat.{ℕ, _+_, _-_, _*_, _≤_, _<_}
 use native.Mathlib.Decide.{ℕ-discrete}
 use native.Mathlib.Nat.{zero-add}
 use native.Mathlib.Omega.{arith}
 use borrow.Author.Tests.{eqb-true, eqb-false}
 use lib.Dec.{eqb}
-use lib.ListN.{length, getD, set, length-append, List·getD-append}
-use lib.Seq.{getD-set-same, getD-set-other, ext-getD, getD-append-seam}
+use lib.ListN.{length, getD, set}
+use lib.Seq.{getD-set-same, getD-set-other}
 use Rattle.sequences.specs.TestLaws.{tells-no, tells-yes}
 use Rattle.sequences.specs.Member.{_∈_, in-getD, getD-in, in-equal}
-use Rattle.net_model.specs.Copies.{Copy, copy}
+use Rattle.net_model.specs.Net.{Net}
+use Rattle.net_model.specs.Copies.{Copy, copy, IsCone, IsLeaves}
 use Rattle.net_model.specs.CopyLaws.{copy-path}
 use Rattle.net_model.specs.ArrayLaws.{length-copiesFrom, getD-copiesFrom}
 use Rattle.net_model.specs.Arrays.{copyAt}
 use Rattle.sequences.specs.Tests.{Tells, First}
-use Rattle.cone_copies.specs.CopyLists.{copiesIn, SmallWires, Place, Bounded, most}
+use Rattle.cone_theory.specs.Basics.{leaf-same}
+use Rattle.cone_theory.specs.Part.{leads-mono}
+use Rattle.cone_copies.specs.CopyLists.{copiesIn, SmallWires, Place, Bounded, most, Mixed}
 
 -- ---- equal copies
 
@@ -62,37 +65,6 @@ found-in nodes backs n r y f h = in-equal (sym (f .found h)) (in-copiesIn nodes 
 pub missing : (nodes backs : List ℕ) (n r : ℕ) (y : Copy) → First (λ j. copyAt nodes backs j ≡ y) n r → n ≤ r → ¬ (y ∈ copiesIn nodes backs n)
 missing nodes backs n r y f h m = let q = copiesIn-in nodes backs n m in f .before (q .0) (omega (arith, q .1)) (q .2)
 
--- one copy more
-pub copiesIn-set : (nodes backs : List ℕ) (n u d : ℕ) → n < length nodes → n < length backs
-    → copiesIn (set nodes n u) (set backs n d) (n + 1) ≡ copiesIn nodes backs n ++ (copy u d ∷ [])
-copiesIn-set nodes backs n u d h k =
-    ext-getD nobody (copiesIn (set nodes n u) (set backs n d) (n + 1)) (copiesIn nodes backs n ++ (copy u d ∷ [])) sizes each
-  where
-    sizes : length (copiesIn (set nodes n u) (set backs n d) (n + 1)) ≡ length (copiesIn nodes backs n ++ (copy u d ∷ []))
-    sizes =
-        let a = length-copiesIn (set nodes n u) (set backs n d) (n + 1) in
-        let b = length-copiesIn nodes backs n in
-        let c = length-append (copiesIn nodes backs n) (copy u d ∷ []) in
-        omega arith
-
-    at : (i : ℕ) → i < n + 1 → Dec (i ≡ n) → copyAt (set nodes n u) (set backs n d) i ≡ getD (copiesIn nodes backs n ++ (copy u d ∷ [])) i nobody
-    at i l (yes e) =
-        ap (copyAt (set nodes n u) (set backs n d)) e
-        ∙ copy-path (getD-set-same nodes n u 0 h) (getD-set-same backs n d 0 k)
-        ∙ sym (getD-append-seam (copiesIn nodes backs n) (copy u d) [] nobody)
-        ∙ ap (λ (x : ℕ). getD (copiesIn nodes backs n ++ (copy u d ∷ [])) x nobody) (length-copiesIn nodes backs n ∙ sym e)
-    at i l (no m) =
-        let q : i < n = omega arith in
-        let z : i < length (copiesIn nodes backs n) = omega (arith, length-copiesIn nodes backs n) in
-        copy-path (getD-set-other nodes n i u 0 m) (getD-set-other backs n i d 0 m)
-        ∙ sym (getD-copiesIn nodes backs n i nobody q)
-        ∙ sym (List·getD-append (copiesIn nodes backs n) (copy u d ∷ []) nobody i z)
-
-    each : (i : ℕ) → i < length (copiesIn (set nodes n u) (set backs n d) (n + 1)) → getD (copiesIn (set nodes n u) (set backs n d) (n + 1)) i nobody ≡ getD (copiesIn nodes backs n ++ (copy u d ∷ [])) i nobody
-    each i l =
-        let q : i < n + 1 = omega (arith, length-copiesIn (set nodes n u) (set backs n d) (n + 1)) in
-        getD-copiesIn (set nodes n u) (set backs n d) (n + 1) i nobody q ∙ at i q (ℕ-discrete i n)
-
 -- ---- places
 
 pub place : {I G : ℕ} {ps sources counts : List ℕ} (g j : ℕ) → SmallWires I G ps sources counts → g < G → j < getD ps g 0 → Place sources counts g j
@@ -101,7 +73,7 @@ place g j w h k =
     let b = w .wires .room in
     let c = w .wires .room′ in
     let d = w .gates in
-    record { room = omega arith; room′ = omega arith; small = omega arith; count = w .count g j h k }
+    record { room = omega arith; room′ = omega arith; small = omega arith; count = w .count g j h k; node = omega (arith, w .wires .node g j h k, w .inputs) }
 
 -- the copy at place i of the list
 pub record Member (I G : ℕ) (nodes backs : List ℕ) (len i : ℕ) : Type 0 where
@@ -140,3 +112,20 @@ each-set P l j x h f p i k = go (ℕ-discrete i j)
     go : Dec (i ≡ j) → P i (getD (set l j x) i 0)
     go (yes e) = subst (P i) (sym (ap (λ (n : ℕ). getD (set l j x) n 0) e ∙ getD-set-same l j x 0 h)) (subst (λ (n : ℕ). P n x) (sym e) p)
     go (no m) = subst (P i) (sym (getD-set-other l j i x 0 m)) (f i (omega arith))
+
+-- ---- the same copies in another order
+
+module _ {C C′ : List Copy} (m : Mixed C C′) where
+  pub mixed-cone : {N : Net} {v : ℕ} → IsCone N v C → IsCone N v C′
+  mixed-cone {v = v} k = record {
+    gates = λ c i. k .gates c (m .come c i);
+    root = m .stay (copy v 0) (k .root);
+    leads = λ c i. leads-mono (m .stay) (k .leads c (m .come c i));
+  }
+
+  pub mixed-leaves : {N : Net} {L : List Copy} → IsLeaves N C L → IsLeaves N C′ L
+  mixed-leaves l = record {
+    rising = l .rising;
+    sound = λ y i. leaf-same (m .stay) (m .come) (l .sound y i);
+    complete = λ y i. l .complete y (leaf-same (m .come) (m .stay) i);
+  }

@@ -3,10 +3,10 @@ use mathlib.Core.Path.{_≡_}
 use mathlib.Core.List.{List}
 use Prim.Native.Nat.{ℕ, _+_, _-_, _*_, _≤_, _<_}
 use lib.ListN.{length, getD}
-use Rattle.limits.specs.Limits.{mostInputs, mostGates, mostCount, mostCopies}
+use Rattle.limits.specs.Limits.{mostInputs, mostGates, mostNodes, mostCount, mostCopies}
 use Rattle.sequences.specs.Member.{_∈_, Within}
 use Rattle.net_model.specs.Net.{Net}
-use Rattle.net_model.specs.Arrays.{stride, copyAt, copiesFrom}
+use Rattle.net_model.specs.Arrays.{stride, copiesFrom}
 use Rattle.net_model.specs.Copies.{Copy, copy, Feeds}
 use Rattle.net_model.specs.Wired.{Wires}
 
@@ -34,12 +34,13 @@ sourceAt sources counts g b j = copy (getD sources (stride * g + j) 0) (b + getD
 abbrev pub members : ℕ
 members = mostCopies
 
--- the place of pin j of gate g
+-- the place of pin j of gate g, and what stands there
 pub record Place (sources counts : List ℕ) (g j : ℕ) : Type 0 where
   pub room : stride * g + j < length sources
   pub room′ : stride * g + j < length counts
   pub small : stride * g + j < members
   pub count : getD counts (stride * g + j) 0 ≤ most
+  pub node : getD sources (stride * g + j) 0 < mostNodes
 
 -- the arrays of a list of len copies
 pub record Room (us ds : List ℕ) (len : ℕ) : Type 0 where
@@ -63,21 +64,3 @@ pub record Mixed (C C′ : List Copy) : Type 0 where
   pub long : length C′ ≡ length C
   pub stay : Within C C′
   pub come : Within C′ C
-
--- the copies at places i and j have changed places
-pub record Swapped (us ds us′ ds′ : List ℕ) (i j : ℕ) : Type 0 where
-  pub first : copyAt us′ ds′ i ≡ copyAt us ds j
-  pub second : copyAt us′ ds′ j ≡ copyAt us ds i
-  pub others : (k : ℕ) → ¬ (k ≡ i) → ¬ (k ≡ j) → copyAt us′ ds′ k ≡ copyAt us ds k
-
--- y, if it is one of the first len copies, is one of the first m
-abbrev pub Early : List ℕ → List ℕ → ℕ → ℕ → Copy → Type 0
-Early us ds len m y = y ∈ copiesIn us ds len → y ∈ copiesIn us ds m
-
--- so is each copy that feeds the copy of gate g, b registers back, at one of n pins
-abbrev pub Ready : List ℕ → List ℕ → List ℕ → List ℕ → ℕ → ℕ → ℕ → ℕ → ℕ → Type 0
-Ready sources counts us ds len m g n b = (j : ℕ) → j < n → Early us ds len m (sourceAt sources counts g b j)
-
--- so is each copy that feeds x
-abbrev pub ReadyCopy : ℕ → List ℕ → List ℕ → List ℕ → List ℕ → List ℕ → ℕ → ℕ → Copy → Type 0
-ReadyCopy I ps sources counts us ds len m x = Ready sources counts us ds len m (x .node - I) (getD ps (x .node - I) 0) (x .back)

@@ -1,9 +1,11 @@
--- Definitions: a walk from a root to its leaves, depth first. Copies that were left stand in a list, sources first; open ones on a stack, each with the number of its pins that were passed; a table of marks has a byte for each copy u:d, at place u·width + d.
+-- Definitions: a walk from a root to its leaves, depth first. Copies that were left stand in a list, sources first; open ones on a stack, each with the number of its pins that were passed; a
+-- table of marks has a byte for each copy u:d, at place u·width + d.
 use mathlib.Core.Path.{_≡_}
 use mathlib.Core.List.{List}
 use mathlib.Core.Logic.{_⊎_}
 use Prim.Native.Nat.{ℕ, _+_, _-_, _*_, _%_, _≤_, _<_}
 use lib.ListN.{length, getD}
+use Rattle.limits.specs.Limits.{mostReach, mostBeyond}
 use Rattle.sequences.specs.Member.{_∈_}
 use Rattle.sequences.specs.Tests.{First}
 use Rattle.net_model.specs.Net.{Net}
@@ -16,6 +18,8 @@ use Rattle.cone_theory.specs.Reach.{reachOf}
 use Rattle.cone_theory.specs.CopyOrder.{Levels, measure}
 use Rattle.cone_copies.specs.CopyLists.{sourceAt, copiesIn, SourcesFirst}
 use Rattle.cone_walk.specs.Walking.{Walked, Refuted}
+use Rattle.cone_walk.specs.WalkTold.{numberOf}
+use Rattle.cone_walk.specs.declared.Cone.{Cone}
 
 abbrev pub nobody : Copy
 nobody = copy 0 0
@@ -23,6 +27,10 @@ nobody = copy 0 0
 -- the copy's place in the table
 abbrev pub place : ℕ → Copy → ℕ
 place width c = c .node * width + c .back
+
+-- with document 01's limits: places for a node's copies in the table
+abbrev pub wideMost : ℕ
+wideMost = mostReach + mostBeyond
 
 -- a table without marks
 abbrev pub Clear : List ℕ → Type 0
@@ -95,9 +103,13 @@ pub record State (I G width border : ℕ) (ps so co : List ℕ) (L : List Copy) 
 abbrev pub Denied : ℕ → ℕ → ℕ → List ℕ → List ℕ → List ℕ → List Copy → ℕ → Type 0
 Denied I G border ps so co L v = (N : Net) → Wired N I G ps so co → Ranked N → length L * reachOf N ≤ border → Refuted N v L
 
--- each copy of the list has its place as its mark
+-- the copies of the list have their places as marks
+abbrev pub Marked : ℕ → List ℕ → List ℕ → ℕ → List ℕ → Type 0
+Marked width us ds len marks = (p : ℕ) → p < len → getD marks (place width (copyAt us ds p)) 0 ≡ seatMark p
+
+-- and nothing else is marked
 pub record Seated (width : ℕ) (us ds : List ℕ) (len : ℕ) (marks : List ℕ) : Type 0 where
-  pub byte : (p : ℕ) → p < len → getD marks (place width (copyAt us ds p)) 0 ≡ seatMark p
+  pub byte : Marked width us ds len marks
   pub sound : (q : ℕ) → ¬ (getD marks q 0 ≡ 0) → (p : ℕ) × (p < len) × (place width (copyAt us ds p) ≡ q)
 
 -- the marks of the first len copies are gone, the others stay
@@ -118,4 +130,14 @@ pub record Told (I G width border : ℕ) (ps so co : List ℕ) (L : List Copy) (
 
 -- r is the place in the list of the copy y, whose place in the table is `at`, or len
 abbrev pub Seat : List ℕ → List ℕ → ℕ → List ℕ → ℕ → Copy → ℕ → Type 0
-Seat us ds len marks at y r = (width : ℕ) → place width y ≡ at → Seated width us ds len marks → First (λ j. copyAt us ds j ≡ y) len r
+Seat us ds len marks at y r = (width : ℕ) → place width y ≡ at → Marked width us ds len marks → First (λ j. copyAt us ds j ≡ y) len r
+
+-- y stands at no place before p whose mark is this
+abbrev pub Missed : List ℕ → List ℕ → Copy → ℕ → ℕ → Type 0
+Missed us ds y mark p = (q : ℕ) → q < p → seatMark q ≡ mark → ¬ (copyAt us ds q ≡ y)
+
+-- with document 01's limits: the marks that the walk from gate g leaves, and where the root stands
+pub record Placed (I g : ℕ) (r : Cone) (marks : List ℕ) : Type 0 where
+  pub seated : Seated wideMost (r .nodes) (r .backs) (r .len) marks
+  pub last : numberOf (r .verdict) ≡ 0 → copyAt (r .nodes) (r .backs) (r .len - 1) ≡ copy (I + g) 0
+  pub clear : numberOf (r .verdict) ≡ 14 → Clear marks

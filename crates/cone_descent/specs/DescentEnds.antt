@@ -1,6 +1,6 @@
 -- How the walk ends: there is no cut, or the list is the cone.
 use mathlib.Core.Path.{_≡_, refl, sym, ap, _∙_, subst}
-use mathlib.Core.List.{List, [], _∷_, _++_}
+use mathlib.Core.List.{List, [], _∷_}
 use mathlib.Core.Logic.{_⊎_, inl, inr}
 use Prim.Native.Nat.{ℕ, zero, suc, _+_, _-_, _*_, _≤_, _<_}
 use native.Mathlib.Nat.{not-suc-le-zero, lt-irrefl}
@@ -11,18 +11,16 @@ use Rattle.sequences.specs.Member.{_∈_, here, there, in-equal, in-getD, getD-
 use Rattle.net_model.specs.Net.{Net}
 use Rattle.net_model.specs.Checks.{Loopless}
 use Rattle.net_model.specs.Arrays.{copyAt}
-use Rattle.net_model.specs.Copies.{Copy, copy, Feeds, Before, Rising, Leaf, IsCone, IsLeaves}
+use Rattle.net_model.specs.Copies.{Copy, copy, Feeds, Before, Rising, Leaf}
 use Rattle.net_model.specs.CopyLaws.{before-irrefl}
 use Rattle.net_model.specs.Wired.{Wired}
-use Rattle.cone_theory.specs.Ranks.{Ranked}
-use Rattle.cone_theory.specs.Reach.{reachOf, most, reach}
+use Rattle.cone_theory.specs.Reach.{reach}
 use Rattle.cone_theory.specs.CopyOrder.{levels}
 use Rattle.cone_copies.specs.CopyLists.{copiesIn, Mixed, SourcesFirst}
-use Rattle.cone_copies.specs.CopyListLaws.{length-copiesIn, getD-copiesIn, in-copiesIn, copiesIn-in}
+use Rattle.cone_copies.specs.CopyListLaws.{length-copiesIn, getD-copiesIn, in-copiesIn, copiesIn-in, mixed-cone, mixed-leaves}
 use Rattle.cone_copies.specs.CopyPinLaws.{feeds-pin}
-use Rattle.cone_copies.specs.OrderingLaws.{mixed-cone, mixed-leaves}
-use Rattle.cone_walk.specs.Walking.{Walked, Closed, Refuted, walked-more, walked-cone, walked-leaves, closed-all, refuted-input, refuted-full, refuted-cut, node-gate, input-no-gate}
-use Rattle.cone_descent.specs.Descent.{nobody, place, Clear, Inside, pinOf, pinsOf, Known, Trail, State, Denied, Seated, Wiped, Told}
+use Rattle.cone_walk.specs.Walking.{Closed, walked-more, walked-cone, walked-leaves, closed-all, refuted-input, refuted-full, node-gate, input-no-gate}
+use Rattle.cone_descent.specs.Descent.{nobody, place, Clear, pinOf, pinsOf, Known, Trail, State, Denied, Seated, Wiped, Told}
 use Rattle.cone_descent.specs.TrailLaws.{met-marked}
 use Rattle.cone_descent.specs.DescentLaws.{inside-copy, inside-gate, pin-of-feeds, known-copy}
 
@@ -51,6 +49,14 @@ seated-clear width us ds len marks marks′ s w q = go (ℕ-discrete (getD marks
     go (yes e) = e
     go (no n) = let a = w .each q n in let p = s .sound q (λ e. n (a .0 ∙ e)) in absurd (a .1 (p .0) (p .1) (p .2))
 
+-- a list of no copies leaves none
+pub seated-none : {width : ℕ} {us ds : List ℕ} {len : ℕ} {marks : List ℕ} → len ≡ 0 → Seated width us ds len marks → Clear marks
+seated-none {marks = marks} e s q = go (ℕ-discrete (getD marks q 0) 0)
+  where
+    go : Dec (getD marks q 0 ≡ 0) → getD marks q 0 ≡ 0
+    go (yes z) = z
+    go (no n) = let p = s .sound q n in absurd (omega (arith, p .1, e))
+
 module _ {I G width border : ℕ} {us ds : List ℕ} {len : ℕ} {hs bs : List ℕ} {depth : ℕ} {marks : List ℕ} {met : List Copy} (t : Trail I G width border us ds len hs bs depth marks met) where
   pub trail-clear : (marks′ marks″ : List ℕ) → Wiped width us ds len marks marks′ → Wiped width hs bs depth marks′ marks″ → Clear marks″
   trail-clear marks′ marks″ v w q = go (ℕ-discrete (getD marks″ q 0) 0)
@@ -71,7 +77,8 @@ module _ {I G width border : ℕ} {us ds : List ℕ} {len : ℕ} {hs bs : List �
   pub trail-seated : depth ≡ 0 → Seated width us ds len marks
   trail-seated e = record { byte = t .seats; sound = λ q n. let c = t .sound q n in go q (c .0) (c .2) (t .split (c .0) (c .1)) }
     where
-      go : (q : ℕ) (c : Copy) → place width c ≡ q → ((p : ℕ) × (p < len) × (copyAt us ds p ≡ c)) ⊎ ((k : ℕ) × (k < depth) × (copyAt hs bs k ≡ c)) → (p : ℕ) × (p < len) × (place width (copyAt us ds p) ≡ q)
+      go : (q : ℕ) (c : Copy) → place width c ≡ q → ((p : ℕ) × (p < len) × (copyAt us ds p ≡ c)) ⊎ ((k : ℕ) × (k < depth) × (copyAt hs bs k ≡ c))
+          → (p : ℕ) × (p < len) × (place width (copyAt us ds p) ≡ q)
       go q c z (inl p) = (p .0, p .1, ap (place width) (p .2) ∙ z)
       go q c z (inr k) = absurd (omega (arith, k .1, e))
 
@@ -94,7 +101,8 @@ module _ {I G width border : ℕ} {ps so co : List ℕ} {L : List Copy} {v : ℕ
     pub denied-beyond : I ≤ y .node → y .node < I + G → border < y .back → Denied I G border ps so co L v
     denied-beyond low high far N w R b K i l =
         let g = node-gate w (y .node) low high in
-        let k = walked-more x y (s .walked N w) m (y-feeds N w) g apart (λ n. lt-irrefl (y .back) (omega (arith, far, s .trail .inside y n .near))) .inside K i l y (in-append-right (s .met) (here refl)) in
+        let k = walked-more x y (s .walked N w) m (y-feeds N w) g apart (λ n. lt-irrefl (y .back) (omega (arith, far, s .trail .inside y n .near))) .inside K i l y (in-append-right (s .met)
+        (here refl)) in
         lt-irrefl border (omega (arith, far, b, reach R i l y k))
 
   -- ---- the end
@@ -148,7 +156,8 @@ module _ {I G width border : ℕ} {ps so co : List ℕ} {L : List Copy} {v : ℕ
           r : (j : ℕ) × (j < pinsOf I ps (copyAt us ds p)) × (pinOf I so co (copyAt us ds p) j ≡ y)
           r = pin-at N w (copyAt us ds p) y (s .trail .written p k) (subst (Feeds N y) (getD-copiesIn us ds len p (copy 0 0) k) f)
 
-          go : ((q : ℕ) × (q < p) × (copyAt us ds q ≡ pinOf I so co (copyAt us ds p) (r .0))) ⊎ (pinOf I so co (copyAt us ds p) (r .0) ∈ L) → (q : ℕ) × (q < p) × (getD (copiesIn us ds len) q (copy 0 0) ≡ y)
+          go : ((q : ℕ) × (q < p) × (copyAt us ds q ≡ pinOf I so co (copyAt us ds p) (r .0))) ⊎ (pinOf I so co (copyAt us ds p) (r .0) ∈ L)
+              → (q : ℕ) × (q < p) × (getD (copiesIn us ds len) q (copy 0 0) ≡ y)
           go (inl q) = (q .0, q .1, getD-copiesIn us ds len (q .0) (copy 0 0) (omega (arith, q .1, k)) ∙ q .2 ∙ r .2)
           go (inr l) = absurd (s .walked N w .apart y (met-listed y i) (in-equal (sym (r .2)) l))
 

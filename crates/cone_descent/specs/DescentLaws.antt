@@ -2,24 +2,22 @@
 use mathlib.Core.Path.{_≡_, refl, sym, ap, _∙_, subst}
 use mathlib.Core.List.{List, [], _∷_, _++_}
 use mathlib.Core.Logic.{_⊎_, inl, inr}
-use Prim.Native.Nat.{ℕ, zero, suc, _+_, _-_, _*_, _%_, _≤_, _<_}
+use Prim.Native.Nat.{ℕ, zero, suc, _+_, _-_, _*_, _≤_, _<_}
 use native.Mathlib.Nat.{not-suc-le-zero, lt-irrefl, suc-mul}
 use native.Mathlib.Decide.{ℕ-discrete}
 use native.Mathlib.Omega.{arith}
 use lib.ListN.{length, getD, set, length-append}
 use lib.Seq.{getD-set-same, getD-set-other}
 use Rattle.sequences.specs.Member.{_∈_, here, there, not-in-nil, in-equal, in-getD, Within, in-append-left, in-append-right, in-append-cases}
-use Rattle.net_model.specs.Net.{Net, IsGate}
-use Rattle.net_model.specs.Arrays.{stride, copyAt}
+use Rattle.net_model.specs.Net.{Net}
+use Rattle.net_model.specs.Arrays.{copyAt}
 use Rattle.net_model.specs.Copies.{Copy, copy, Feeds}
 use Rattle.net_model.specs.CopyLaws.{copy-path}
 use Rattle.net_model.specs.Wired.{Wired}
-use Rattle.net_model.specs.WiredLaws.{wired-gate}
 use Rattle.cone_theory.specs.CopyOrder.{Levels, measure, feeds-measure}
-use Rattle.cone_copies.specs.CopyLists.{sourceAt}
 use Rattle.cone_copies.specs.CopyPinLaws.{pin-feeds}
-use Rattle.cone_walk.specs.Walking.{Walked, walked-root, walked-more, node-gate}
-use Rattle.cone_descent.specs.Descent.{nobody, place, Clear, seatMark, openMark, Inside, Field, pinOf, pinsOf, Known, Counts, Trail, State}
+use Rattle.cone_walk.specs.Walking.{walked-root, walked-more, node-gate}
+use Rattle.cone_descent.specs.Descent.{nobody, place, Clear, seatMark, Inside, pinOf, pinsOf, Known, Counts, State}
 use Rattle.cone_descent.specs.TrailLaws.{copyAt-same, copyAt-other, less-other, trail-none, trail-push, trail-pop, met-marked}
 
 -- ---- pins
@@ -36,7 +34,8 @@ pin-of-feeds {N} {I} {so = so} {co = co} w c i j h = subst (Feeds N (pinOf I so 
 
 -- ---- what is known stays known
 
-pub known-more : (L : List Copy) (seen seen′ : List ℕ) {met met′ : List Copy} {y : Copy} → Within met met′ → ((i : ℕ) → ¬ (getD seen i 0 ≡ 0) → ¬ (getD seen′ i 0 ≡ 0)) → Known L seen met y → Known L seen′ met′ y
+pub known-more : (L : List Copy) (seen seen′ : List ℕ) {met met′ : List Copy} {y : Copy} → Within met met′ → ((i : ℕ) → ¬ (getD seen i 0 ≡ 0) → ¬ (getD seen′ i 0 ≡ 0)) → Known L seen met y
+    → Known L seen′ met′ y
 known-more L seen seen′ w s (inl m) = inl (w _ m)
 known-more L seen seen′ w s (inr (i, h, e, n)) = inr (i, h, e, s i n)
 
@@ -164,7 +163,8 @@ module _ {I G width border : ℕ} {ps so co : List ℕ} {L : List Copy} {v : ℕ
       few-push k h (yes z) = omega (arith, none k z)
       few-push k h (no n) = omega (arith, getD-set-other ts depth k 0 0 n, s .few k (omega arith), ap (pinsOf I ps) (old k n))
 
-      turned-push : (k : ℕ) → k < depth + 1 → (l : ℕ) → Dec (k ≡ depth) → l < getD (set ts depth 0) k 0 → Known L seen (s .met ++ (y ∷ [])) (pinOf I so co (copyAt (set hs depth (y .node)) (set bs depth (y .back)) k) l)
+      turned-push : (k : ℕ) → k < depth + 1 → (l : ℕ) → Dec (k ≡ depth) → l < getD (set ts depth 0) k 0
+          → Known L seen (s .met ++ (y ∷ [])) (pinOf I so co (copyAt (set hs depth (y .node)) (set bs depth (y .back)) k) l)
       turned-push k h l (yes z) q = absurd (not-suc-le-zero (subst (λ (x : ℕ). l < x) (none k z) q))
       turned-push k h l (no n) q = subst (λ (c : Copy). Known L seen (s .met ++ (y ∷ [])) (pinOf I so co c l)) (sym (old k n))
           (known-more L seen seen more (λ i b. b) (s .turned k (omega arith) l (omega (arith, getD-set-other ts depth k 0 0 n))))
@@ -194,7 +194,13 @@ module _ {I G width border : ℕ} {ps so co : List ℕ} {L : List Copy} {v : ℕ
 
           at : (c ∈ s .met) ⊎ (c ∈ y ∷ []) → c .back + k ≤ suc (length (s .met)) * k
           at (inl m) = omega (arith, s .close k counts c m, suc-mul (length (s .met)) k)
-          at (inr (here q)) = omega (arith, ap (λ (z : Copy). z .back) (q ∙ this), counts (getD hs d 0 - I) j (inside-gate (copyAt hs bs d) i) few, s .close k counts (copyAt hs bs d) top-met, suc-mul (length (s .met)) k)
+          at (inr (here q)) = omega (
+            arith,
+            ap (λ (z : Copy). z .back) (q ∙ this),
+            counts (getD hs d 0 - I) j (inside-gate (copyAt hs bs d) i) few,
+            s .close k counts (copyAt hs bs d) top-met,
+            suc-mul (length (s .met)) k,
+          )
           at (inr (there m)) = absurd (not-in-nil m)
 
       pub state-push : State I G width border ps so co L v us ds len (set hs depth (y .node)) (set bs depth (y .back)) (set ts depth 0) (depth + 1) (set marks (place width y) 1) seen
@@ -219,7 +225,8 @@ module _ {I G width border : ℕ} {ps so co : List ℕ} {L : List Copy} {v : ℕ
 
   -- the top copy x is left
   module _ (us ds : List ℕ) (len : ℕ) (hs bs ts : List ℕ) (d : ℕ) (marks seen : List ℕ) (s : State I G width border ps so co L v us ds len hs bs ts (d + 1) marks seen)
-      (wide : border < width) (full : pinsOf I ps (copyAt hs bs d) ≤ getD ts d 0) (x : Copy) (this : copyAt hs bs d ≡ x) (room : place width x < length marks) (hu : len < length us) (hd : len < length ds) where
+      (wide : border < width) (full : pinsOf I ps (copyAt hs bs d) ≤ getD ts d 0) (x : Copy) (this : copyAt hs bs d ≡ x) (room : place width x < length marks) (hu : len < length us)
+      (hd : len < length ds) where
     x-known : (j : ℕ) → j < pinsOf I ps x → Known L seen (s .met) (pinOf I so co x j)
     x-known j h = subst (λ (c : Copy). Known L seen (s .met) (pinOf I so co c j)) this (s .turned d (omega arith) j (omega (arith, full, ap (pinsOf I ps) this)))
 
@@ -269,7 +276,8 @@ module _ {I G width border : ℕ} {ps so co : List ℕ} {L : List Copy} {v : ℕ
     order-pop : (N : Net) → Wired N I G ps so co → Levels N → (p : ℕ) → p < len + 1 → Dec (p ≡ len) → (j : ℕ) → j < pinsOf I ps (copyAt (set us len (x .node)) (set ds len (x .back)) p)
         → Earlier p (pinOf I so co (copyAt (set us len (x .node)) (set ds len (x .back)) p) j)
     order-pop N w O p h (yes e) j q = subst (λ (c : Copy). Earlier p (pinOf I so co c j)) (sym (at-end p e))
-        (keep p (pinOf I so co x j) h (subst (λ (a : ℕ). ((q : ℕ) × (q < a) × (copyAt us ds q ≡ pinOf I so co x j)) ⊎ (pinOf I so co x j ∈ L)) (sym e) (x-order N w O j (omega (arith, q, ap (pinsOf I ps) (at-end p e))))))
+        (keep p (pinOf I so co x j) h (subst (λ (a : ℕ). ((q : ℕ) × (q < a) × (copyAt us ds q ≡ pinOf I so co x j)) ⊎ (pinOf I so co x j ∈ L)) (sym e) (x-order N w O j
+        (omega (arith, q, ap (pinsOf I ps) (at-end p e))))))
     order-pop N w O p h (no n) j q = subst (λ (c : Copy). Earlier p (pinOf I so co c j)) (sym (before p n))
         (keep p (pinOf I so co (copyAt us ds p) j) h (s .order N w O p (omega arith) j (omega (arith, q, ap (pinsOf I ps) (before p n)))))
 

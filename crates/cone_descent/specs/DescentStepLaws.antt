@@ -1,9 +1,9 @@
 -- Laws of the steps of the walk.
 use mathlib.Core.Path.{_≡_, refl, sym, ap, _∙_, subst}
 use mathlib.Core.List.{List}
-use mathlib.Core.Logic.{_⊎_, inl, inr}
+use mathlib.Core.Logic.{inl, inr}
 use Prim.Native.Nat.{ℕ, zero, suc, _+_, _-_, _*_, _≤_, _<_}
-use native.Mathlib.Nat.{not-suc-le-zero, suc-mul, mul-le-mul-right}
+use native.Mathlib.Nat.{not-suc-le-zero, suc-mul}
 use native.Mathlib.Decide.{ℕ-discrete}
 use native.Mathlib.Omega.{arith}
 use lib.ListN.{length, getD, set, length-set}
@@ -14,7 +14,7 @@ use Rattle.net_model.specs.Copies.{Copy, copy}
 use Rattle.cone_copies.specs.CopyLists.{copiesIn}
 use Rattle.cone_copies.specs.CopyListLaws.{length-copiesIn, getD-copiesIn, missing}
 use Rattle.sequences.specs.Tests.{First}
-use Rattle.cone_descent.specs.Descent.{nobody, place, Inside, Field, pinOf, pinsOf, Known, State, Denied, Wiped, seatMark}
+use Rattle.cone_descent.specs.Descent.{nobody, place, Inside, Field, pinOf, pinsOf, Known, State, Wiped, seatMark}
 use Rattle.cone_descent.specs.TrailLaws.{place-below, marked-met, copyAt-other}
 use Rattle.cone_descent.specs.DescentLaws.{inside-gate, state-turn, state-touch, state-push, push-known, state-pop}
 use Rattle.cone_descent.specs.DescentEnds.{denied-input, denied-beyond, denied-full}
@@ -48,9 +48,20 @@ pub work-push : (room size : ℕ) (ts : List ℕ) (d j : ℕ) → d + 1 < length
 work-push room size ts d j h e few g =
     let us = set ts (d + 1) 0 in
     let long = length-set ts (d + 1) 0 in
-    let m : (room - size) * (stride + 2) ≡ (room - (size + 1)) * (stride + 2) + (stride + 2) = ap (λ (z : ℕ). z * (stride + 2)) {x = room - size} {y = suc (room - (size + 1))} (omega arith) ∙ omega (arith, suc-mul (room - (size + 1)) (stride + 2)) in
+    let m : (room - size) * (stride + 2) ≡ (room - (size + 1)) * (stride + 2) + (stride + 2) = ap (λ (z : ℕ). z * (stride + 2)) {x = room - size} {y = suc (room - (size + 1))} (omega arith) ∙
+    omega (arith, suc-mul (room - (size + 1)) (stride + 2)) in
     let a : getD (set us d (j + 1)) (d + 1) 0 ≡ 0 = getD-set-other us d (d + 1) (j + 1) 0 (λ (z : d + 1 ≡ d). omega (arith, z)) ∙ getD-set-same ts (d + 1) 0 0 h in
-    omega (arith, m, rest-top ts d, rest-top (set us d (j + 1)) (d + 1), rest-top (set us d (j + 1)) d, rest-same us d (j + 1) d (omega arith), rest-same ts (d + 1) 0 d (omega arith), a, getD-set-same us d (j + 1) 0 (omega (arith, long)))
+    omega (
+      arith,
+      m,
+      rest-top ts d,
+      rest-top (set us d (j + 1)) (d + 1),
+      rest-top (set us d (j + 1)) d,
+      rest-same us d (j + 1) d (omega arith),
+      rest-same ts (d + 1) 0 d (omega arith),
+      a,
+      getD-set-same us d (j + 1) 0 (omega (arith, long)),
+    )
 
 -- a copy left
 pub work-pop : (room len : ℕ) (ts : List ℕ) (d : ℕ) → getD ts d 0 ≤ stride → work room (len + 1 + d) ts d < work room (len + (d + 1)) ts (d + 1)
@@ -76,9 +87,11 @@ module _ (I border room size : ℕ) (ln lb : List ℕ) (n : ℕ) (y : Copy) (mar
 
 -- ---- a pin passed
 
-module _ (I width border room : ℕ) (so co : List ℕ) (L : List Copy) (len : ℕ) (hs bs ts : List ℕ) (d : ℕ) (marks seen seen′ : List ℕ) (r : ℕ) (t : TopPin I width room len so co hs bs ts d marks) (long : length L ≤ length seen)
+module _ (I width border room : ℕ) (so co : List ℕ) (L : List Copy) (len : ℕ) (hs bs ts : List ℕ) (d : ℕ) (marks seen seen′ : List ℕ) (r : ℕ) (t : TopPin I width room len so co hs bs ts d marks)
+    (long : length L ≤ length seen)
     (y : Copy) (this : y ≡ pinOf I so co (copyAt hs bs d) (getD ts d 0)) (m : Meet I border room (len + (d + 1)) L y (getD marks (place width y) 0) seen r seen′) where
-  module _ (G v : ℕ) (ps us ds : List ℕ) (field : Field I G width border ps so co marks) (limit : length L * G ≤ room) (few : getD ts d 0 < pinsOf I ps (copyAt hs bs d)) (s : State I G width border ps so co L v us ds len hs bs ts (d + 1) marks seen) where
+  module _ (G v : ℕ) (ps us ds : List ℕ) (field : Field I G width border ps so co marks) (limit : length L * G ≤ room) (few : getD ts d 0 < pinsOf I ps (copyAt hs bs d)) (s : State I G width
+      border ps so co L v us ds len hs bs ts (d + 1) marks seen) where
     top-met : copyAt hs bs d ∈ s .met
     top-met = s .trail .stacked d (omega arith)
 
@@ -116,7 +129,8 @@ module _ (I width border room : ℕ) (so co : List ℕ) (L : List Copy) (len : �
     touched i h q =
         let lit : i < length seen = omega (arith, h, long) in
         Advanced.moved (omega arith) (t .fits) (work-turn room (len + (d + 1)) ts d (getD ts d 0) (omega (arith, t .fits, t .turns)) refl small)
-        (state-turn us ds len hs bs ts (d + 1) marks (set seen i 1) (state-touch us ds len hs bs ts (d + 1) marks seen s i h lit (copyAt hs bs d) top-met (getD ts d 0) few (sym this ∙ sym q)) d (getD ts d 0) (omega arith) (omega (arith, t .fits, t .turns)) refl few
+        (state-turn us ds len hs bs ts (d + 1) marks (set seen i 1) (state-touch us ds len hs bs ts (d + 1) marks seen s i h lit (copyAt hs bs d) top-met (getD ts d 0) few (sym this ∙ sym q)) d
+        (getD ts d 0) (omega arith) (omega (arith, t .fits, t .turns)) refl few
         (inr (i, h, q ∙ this, λ z. bad (getD-set-same seen i 1 0 lit) z)))
       where
         bad : {a : ℕ} → a ≡ 1 → a ≡ 0 → ⊥
@@ -136,7 +150,8 @@ module _ (I width border room : ℕ) (so co : List ℕ) (L : List Copy) (len : �
     one z (Meet.fresh e w a low b f g) = absurd (omega (arith, z, e))
 
     abbrev Pushed : List ℕ → Type 0
-    Pushed x = Advanced I G width border room ps so co L v us ds len ts (d + 1) (d + 1 + 1) (set hs (d + 1) (y .node)) (set bs (d + 1) (y .back)) (set (set ts (d + 1) 0) d (getD ts d 0 + 1)) (set marks (place width y) 1) x
+    Pushed x = Advanced I G width border room ps so co L v us ds len ts (d + 1) (d + 1 + 1) (set hs (d + 1) (y .node)) (set bs (d + 1) (y .back)) (set (set ts (d + 1) 0) d (getD ts d 0 + 1)) (set
+        marks (place width y) 1) x
 
     pushed : ¬ (y ∈ L) → I ≤ y .node → y .back ≤ border → getD marks (place width y) 0 ≡ 0 → len + (d + 1) < room → Pushed seen
     pushed a low b f g =
@@ -149,7 +164,8 @@ module _ (I width border room : ℕ) (so co : List ℕ) (L : List Copy) (len : �
         let k = push-known us ds len hs bs ts (d + 1) marks seen s d refl (getD ts d 0) few y this inside a f room′ hh hb ht in
         let other : ¬ (d ≡ d + 1) = λ (z : d ≡ d + 1). omega (arith, z) in
         let old = copyAt-other hs bs (d + 1) (y .node) (y .back) d other in
-        Advanced.moved (omega arith) (omega arith) (subst (λ (z : ℕ). work room z (set (set ts (d + 1) 0) d (getD ts d 0 + 1)) (d + 1 + 1) < work room (len + (d + 1)) ts (d + 1)) {x = len + (d + 1) + 1} {y = len + (d + 1 + 1)} (omega arith) (work-push room (len + (d + 1)) ts d (getD ts d 0) ht refl small g))
+        Advanced.moved (omega arith) (omega arith) (subst (λ (z : ℕ). work room z (set (set ts (d + 1) 0) d (getD ts d 0 + 1)) (d + 1 + 1) < work room (len + (d + 1)) ts (d + 1))
+        {x = len + (d + 1) + 1} {y = len + (d + 1 + 1)} (omega arith) (work-push room (len + (d + 1)) ts d (getD ts d 0) ht refl small g))
         (state-turn us ds len (set hs (d + 1) (y .node)) (set bs (d + 1) (y .back)) (set ts (d + 1) 0) (d + 1 + 1) (set marks (place width y) 1) seen p d (getD ts d 0) (omega arith)
         (omega (arith, ht, length-set ts (d + 1) 0)) (getD-set-other ts (d + 1) d 0 0 other) (omega (arith, few, ap (pinsOf I ps) old)) k)
 
@@ -167,7 +183,9 @@ module _ (I width border room : ℕ) (so co : List ℕ) (L : List Copy) (len : �
   pub advance-known : r ≡ 1 → Advances I width border room so co L len hs bs ts d marks seen (d + 1) hs bs (set ts d (getD ts d 0 + 1)) marks seen′
   advance-known z G v ps us ds field limit few s = one G v ps us ds field limit few s z m
 
-  pub advance-fresh : ¬ (r ≡ 0) → ¬ (r ≡ 1) → Advances I width border room so co L len hs bs ts d marks seen (d + 1 + 1) (set hs (d + 1) (y .node)) (set bs (d + 1) (y .back)) (set (set ts (d + 1) 0) d (getD ts d 0 + 1)) (set marks (place width y) 1) seen′
+  pub advance-fresh : ¬ (r ≡ 0) → ¬ (r ≡ 1)
+      → Advances I width border room so co L len hs bs ts d marks seen (d + 1 + 1) (set hs (d + 1) (y .node)) (set bs (d + 1) (y .back)) (set (set ts (d + 1) 0) d (getD ts d 0 + 1)) (set marks
+      (place width y) 1) seen′
   advance-fresh n o G v ps us ds field limit few s = two G v ps us ds field limit few s n o m
 
   pub fresh-free : ¬ (r ≡ 0) → ¬ (r ≡ 1) → len + (d + 1) < room
@@ -181,13 +199,16 @@ module _ (I width border room : ℕ) (so co : List ℕ) (L : List Copy) (len : �
       go (Meet.full e w a low f full) = absurd (n e)
       go (Meet.fresh e w a low b f g) = g
 
-  pub advance-pushed : {hs′ bs′ ts′ marks′ : List ℕ} → ¬ (r ≡ 0) → ¬ (r ≡ 1) → hs′ ≡ set hs (d + 1) (y .node) → bs′ ≡ set bs (d + 1) (y .back) → ts′ ≡ set ts (d + 1) 0 → marks′ ≡ set marks (place width y) 1
+  pub advance-pushed : {hs′ bs′ ts′ marks′ : List ℕ} → ¬ (r ≡ 0) → ¬ (r ≡ 1) → hs′ ≡ set hs (d + 1) (y .node) → bs′ ≡ set bs (d + 1) (y .back) → ts′ ≡ set ts (d + 1) 0
+      → marks′ ≡ set marks (place width y) 1
       → Advances I width border room so co L len hs bs ts d marks seen (d + 1 + 1) hs′ bs′ (set ts′ d (getD ts d 0 + 1)) marks′ seen′
   advance-pushed {hs′} {bs′} {ts′} {marks′} n o a b e f =
       subst (λ (x : List ℕ). Advances I width border room so co L len hs bs ts d marks seen (d + 1 + 1) x bs′ (set ts′ d (getD ts d 0 + 1)) marks′ seen′) (sym a)
       (subst (λ (x : List ℕ). Advances I width border room so co L len hs bs ts d marks seen (d + 1 + 1) (set hs (d + 1) (y .node)) x (set ts′ d (getD ts d 0 + 1)) marks′ seen′) (sym b)
-      (subst (λ (x : List ℕ). Advances I width border room so co L len hs bs ts d marks seen (d + 1 + 1) (set hs (d + 1) (y .node)) (set bs (d + 1) (y .back)) (set x d (getD ts d 0 + 1)) marks′ seen′) (sym e)
-      (subst (λ (x : List ℕ). Advances I width border room so co L len hs bs ts d marks seen (d + 1 + 1) (set hs (d + 1) (y .node)) (set bs (d + 1) (y .back)) (set (set ts (d + 1) 0) d (getD ts d 0 + 1)) x seen′) (sym f)
+      (subst (λ (x : List ℕ). Advances I width border room so co L len hs bs ts d marks seen (d + 1 + 1) (set hs (d + 1) (y .node)) (set bs (d + 1) (y .back)) (set x d (getD ts d 0 + 1)) marks′
+      seen′) (sym e)
+      (subst (λ (x : List ℕ). Advances I width border room so co L len hs bs ts d marks seen (d + 1 + 1) (set hs (d + 1) (y .node)) (set bs (d + 1) (y .back)) (set (set ts (d + 1) 0) d
+      (getD ts d 0 + 1)) x seen′) (sym f)
       (advance-fresh n o))))
 
 -- ---- the run
@@ -275,7 +296,8 @@ module _ {I G width border room : ℕ} {ps so co ln lb : List ℕ} {n v : ℕ} {
     pub run-denied : r ≡ 0 → Ran I G width border room ps so co ln lb n v us ds len hs′ bs′ ts′ depth seen′ marks′
     run-denied z = go stepped
       where
-        go : Advanced I G width border room ps so co (copiesIn ln lb n) v us ds len ts (depth - 1 + 1) r hs′ bs′ ts′ marks′ seen′ → Ran I G width border room ps so co ln lb n v us ds len hs′ bs′ ts′ depth seen′ marks′
+        go : Advanced I G width border room ps so co (copiesIn ln lb n) v us ds len ts (depth - 1 + 1) r hs′ bs′ ts′ marks′ seen′
+            → Ran I G width border room ps so co ln lb n v us ds len hs′ bs′ ts′ depth seen′ marks′
         go (Advanced.denied e a s) = record {
           turn = turned depth (t .fits) (subst (λ (q : ℕ). State I G width border ps so co (copiesIn ln lb n) v us ds len hs′ bs′ ts′ q marks′ seen′) {x = depth - 1 + 1} {y = depth} (omega arith) s);
           denied = λ h. a;
@@ -283,10 +305,13 @@ module _ {I G width border room : ℕ} {ps so co ln lb : List ℕ} {n v : ℕ} {
         go (Advanced.moved o fits less s) = absurd (omega (arith, o, z))
 
   -- the top copy has no pin left
-  module _ (full : getD ps (getD hs (depth - 1) 0 - I) 0 ≤ getD ts (depth - 1) 0) {us′ ds′ marks′ : List ℕ} (eu : us′ ≡ set us len (getD hs (depth - 1) 0)) (ed : ds′ ≡ set ds len (getD bs (depth - 1) 0))
+  module _ (full : getD ps (getD hs (depth - 1) 0 - I) 0 ≤ getD ts (depth - 1) 0) {us′ ds′ marks′ : List ℕ} (eu : us′ ≡ set us len (getD hs (depth - 1) 0)) (ed : ds′ ≡ set ds len
+      (getD bs (depth - 1) 0))
       (em : marks′ ≡ set marks (getD hs (depth - 1) 0 * width + getD bs (depth - 1) 0) (seatMark len)) where
-    left : State I G width border ps so co (copiesIn ln lb n) v (set us len (getD hs (depth - 1) 0)) (set ds len (getD bs (depth - 1) 0)) (len + 1) hs bs ts (depth - 1) (set marks (getD hs (depth - 1) 0 * width + getD bs (depth - 1) 0) (seatMark len)) seen
-    left = state-pop us ds len hs bs ts (depth - 1) marks seen top-state (t .field .wide) full (copyAt hs bs (depth - 1)) refl top-table (omega (arith, t .fits, t .listNodes)) (omega (arith, t .fits, t .listBacks))
+    left : State I G width border ps so co (copiesIn ln lb n) v (set us len (getD hs (depth - 1) 0)) (set ds len (getD bs (depth - 1) 0)) (len + 1) hs bs ts (depth - 1)
+        (set marks (getD hs (depth - 1) 0 * width + getD bs (depth - 1) 0) (seatMark len)) seen
+    left = state-pop us ds len hs bs ts (depth - 1) marks seen top-state (t .field .wide) full (copyAt hs bs (depth - 1)) refl top-table (omega (arith, t .fits, t .listNodes)) (omega
+        (arith, t .fits, t .listBacks))
 
     pub run-left : Turn I G width border room ps so co ln lb n v us′ ds′ (len + 1) hs bs ts (depth - 1) seen marks′
     run-left = record {
@@ -302,7 +327,8 @@ module _ {I G width border room : ℕ} {ps so co ln lb : List ℕ} {n v : ℕ} {
       state =
           subst (λ (x : List ℕ). State I G width border ps so co (copiesIn ln lb n) v x ds′ (len + 1) hs bs ts (depth - 1) marks′ seen) (sym eu)
           (subst (λ (x : List ℕ). State I G width border ps so co (copiesIn ln lb n) v (set us len (getD hs (depth - 1) 0)) x (len + 1) hs bs ts (depth - 1) marks′ seen) (sym ed)
-          (subst (λ (x : List ℕ). State I G width border ps so co (copiesIn ln lb n) v (set us len (getD hs (depth - 1) 0)) (set ds len (getD bs (depth - 1) 0)) (len + 1) hs bs ts (depth - 1) x seen) (sym em) left));
+          (subst (λ (x : List ℕ). State I G width border ps so co (copiesIn ln lb n) v (set us len (getD hs (depth - 1) 0)) (set ds len (getD bs (depth - 1) 0)) (len + 1) hs bs ts (depth - 1) x
+          seen) (sym em) left));
     }
 
   pub work-left : work room (len + 1 + (depth - 1)) ts (depth - 1) < work room (len + depth) ts depth
@@ -324,10 +350,12 @@ run-done {I} {G} {width} {border} {room} {ps} {so} {co} {ln} {lb} {n} {v} {us} {
 pub wiped-none : (width : ℕ) (us ds marks : List ℕ) → Wiped width us ds 0 marks marks
 wiped-none width us ds marks = record { each = λ q n. (refl, λ p h. absurd (not-suc-le-zero h)) }
 
-pub wiped-more : (width : ℕ) (us ds : List ℕ) (p : ℕ) (marks marks′ : List ℕ) → place width (copyAt us ds p) < length marks′ → Wiped width us ds p marks marks′ → Wiped width us ds (p + 1) marks (set marks′ (place width (copyAt us ds p)) 0)
+pub wiped-more : (width : ℕ) (us ds : List ℕ) (p : ℕ) (marks marks′ : List ℕ) → place width (copyAt us ds p) < length marks′ → Wiped width us ds p marks marks′
+    → Wiped width us ds (p + 1) marks (set marks′ (place width (copyAt us ds p)) 0)
 wiped-more width us ds p marks marks′ room w = record { each = λ q n. go q n (ℕ-discrete q (place width (copyAt us ds p))) }
   where
-    go : (q : ℕ) → ¬ (getD (set marks′ (place width (copyAt us ds p)) 0) q 0 ≡ 0) → Dec (q ≡ place width (copyAt us ds p)) → (getD (set marks′ (place width (copyAt us ds p)) 0) q 0 ≡ getD marks q 0) × ((i : ℕ) → i < p + 1 → ¬ (place width (copyAt us ds i) ≡ q))
+    go : (q : ℕ) → ¬ (getD (set marks′ (place width (copyAt us ds p)) 0) q 0 ≡ 0) → Dec (q ≡ place width (copyAt us ds p))
+        → (getD (set marks′ (place width (copyAt us ds p)) 0) q 0 ≡ getD marks q 0) × ((i : ℕ) → i < p + 1 → ¬ (place width (copyAt us ds i) ≡ q))
     go q n (yes e) = absurd (n (ap (λ (x : ℕ). getD (set marks′ (place width (copyAt us ds p)) 0) x 0) e ∙ getD-set-same marks′ (place width (copyAt us ds p)) 0 0 room))
     go q n (no m) =
         let o = getD-set-other marks′ (place width (copyAt us ds p)) q 0 0 m in

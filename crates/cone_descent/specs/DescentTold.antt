@@ -6,17 +6,16 @@ use native.Mathlib.Nat.{not-suc-le-zero, mul-le-mul}
 use native.Mathlib.Omega.{arith}
 use lib.ListN.{length, getD, set, length-set}
 use Rattle.sequences.specs.Tests.{First}
-use Rattle.sequences.specs.Member.{_∈_}
 use Rattle.net_model.specs.Arrays.{copyAt}
 use Rattle.net_model.specs.Copies.{Copy, copy}
 use Rattle.cone_copies.specs.CopyLists.{copiesIn}
 use Rattle.cone_copies.specs.CopyListLaws.{length-copiesIn, found-in, missing}
 use Rattle.cone_walk.specs.Walking.{refuted-root, refuted-cut}
-use Rattle.cone_descent.specs.Descent.{Clear, Inside, Field, State, Denied, Seated, Wiped, Told, place}
+use Rattle.cone_descent.specs.Descent.{Clear, Inside, State, Denied, Wiped, Told, place}
 use Rattle.cone_descent.specs.TrailLaws.{place-below}
 use Rattle.cone_descent.specs.DescentLaws.{state-start}
 use Rattle.cone_descent.specs.DescentEnds.{seated-clear, trail-clear, trail-seated, told-cut, denied-untouched}
-use Rattle.cone_descent.specs.DescentSteps.{Leaves, Turn, Ran, Asked}
+use Rattle.cone_descent.specs.DescentSteps.{Turn, Ran, Asked}
 use Rattle.cone_descent.specs.DescentStepLaws.{field-more}
 
 module _ {I G width border room : ℕ} {ps so co ln lb : List ℕ} {n g : ℕ} {us ds hs bs ts seen marks : List ℕ} (a : Asked I G width border room ps so co ln lb n g us ds hs bs ts seen marks) where
@@ -52,7 +51,8 @@ module _ {I G width border room : ℕ} {ps so co ln lb : List ℕ} {n g : ℕ} {
         subst (λ (x : List ℕ). State I G width border ps so co (copiesIn ln lb n) (I + g) us ds 0 x bs′ ts′ 1 marks′ seen) (sym eh)
         (subst (λ (x : List ℕ). State I G width border ps so co (copiesIn ln lb n) (I + g) us ds 0 (set hs 0 (I + g)) x ts′ 1 marks′ seen) (sym eb)
         (subst (λ (x : List ℕ). State I G width border ps so co (copiesIn ln lb n) (I + g) us ds 0 (set hs 0 (I + g)) (set bs 0 0) x 1 marks′ seen) (sym et)
-        (subst (λ (x : List ℕ). State I G width border ps so co (copiesIn ln lb n) (I + g) us ds 0 (set hs 0 (I + g)) (set bs 0 0) (set ts 0 0) 1 x seen) (ap (λ (q : ℕ). set marks q 1) at ∙ sym em) first)));
+        (subst (λ (x : List ℕ). State I G width border ps so co (copiesIn ln lb n) (I + g) us ds 0 (set hs 0 (I + g)) (set bs 0 0) (set ts 0 0) 1 x seen) (ap (λ (q : ℕ). set marks q 1) at ∙ sym
+        em) first)));
   }
     where
       at : (I + g) * width + 0 ≡ (I + g) * width
@@ -94,7 +94,8 @@ module _ {I G width border room : ℕ} {ps so co ln lb : List ℕ} {n v : ℕ} {
   pub told-stop : (marks′ marks″ : List ℕ) → 1 ≤ depth → Wiped width us ds len marks marks′ → Wiped width hs bs depth marks′ marks″ → Told I G width border ps so co (copiesIn ln lb n) v 0 us ds marks″
   told-stop marks′ marks″ h a b = told-none us ds marks″ (trail-clear (r .turn .state .trail) marks′ marks″ a b) (r .denied h)
 
-  pub told-some : (marks′ : List ℕ) (i : ℕ) → depth ≡ 0 → First (λ k. getD seen k 0 ≡ 0) n i → i < n → Wiped width us ds len marks marks′ → Told I G width border ps so co (copiesIn ln lb n) v 0 us ds marks′
+  pub told-some : (marks′ : List ℕ) (i : ℕ) → depth ≡ 0 → First (λ k. getD seen k 0 ≡ 0) n i → i < n → Wiped width us ds len marks marks′
+      → Told I G width border ps so co (copiesIn ln lb n) v 0 us ds marks′
   told-some marks′ i e f h a = told-none us ds marks′ (seated-clear width us ds len marks marks′ (trail-seated (r .turn .state .trail) e) a)
       (denied-untouched (r .turn .state) e (r .turn .leaves .rising) i (omega (arith, h, length-copiesIn ln lb n)) (f .found h))
 

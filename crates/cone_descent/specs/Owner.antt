@@ -1,33 +1,40 @@
 -- The walk with document 01's limits: what it asks follows from them, and what it tells is told as before.
-use mathlib.Core.Path.{_≡_, refl, sym, ap, _∙_, subst}
+use mathlib.Core.Path.{_≡_, sym, ap, _∙_, subst}
 use mathlib.Core.List.{List}
-use Prim.Native.Nat.{ℕ, zero, suc, _+_, _*_, _≤_, _<_}
+use Prim.Native.Nat.{ℕ, _+_, _*_, _≤_, _<_}
 use native.Mathlib.Nat.{mul-le-mul, mul-le-mul-right, le-trans}
 use native.Mathlib.Omega.{arith}
-use lib.ListN.{length, getD}
-use Rattle.limits.specs.Limits.{mostPins, mostGates, mostCount, mostReach, mostBeyond, mostTable, mostNodes}
+use lib.ListN.{length}
+use Rattle.limits.specs.Limits.{mostPins, mostGates, mostCount, mostReach, mostTable, mostNodes}
 use Rattle.sequences.specs.Member.{_∈_}
 use Rattle.net_model.specs.Net.{Net, Pin, IsGate, pins}
-use Rattle.net_model.specs.Arrays.{stride}
+use Rattle.net_model.specs.Arrays.{copyAt}
 use Rattle.net_model.specs.Copies.{Copy, copy, Rising, IsCone, IsLeaves}
 use Rattle.net_model.specs.Wired.{Wired}
 use Rattle.net_model.specs.WiredLaws.{gate-wired, pin-wired}
 use Rattle.cone_theory.specs.Reach.{reachOf, reachOf-le}
 use Rattle.cone_copies.specs.CopyLists.{copiesIn, SmallWires, members, most, Room, Bounded, SourcesFirst}
-use Rattle.cone_copies.specs.CopyListLaws.{length-copiesIn}
+use Rattle.cone_copies.specs.CopyListLaws.{length-copiesIn, in-copiesIn}
 use Rattle.cone_walk.specs.declared.Cone.{Cone}
 use Rattle.cone_walk.specs.WalkTold.{Walk, numberOf}
-use Rattle.cone_descent.specs.Descent.{Clear, Field, Told, Seated}
-use Rattle.cone_descent.specs.DescentSteps.{Leaves, Asked}
-
--- places for a node's copies in the table
-abbrev pub wideMost : ℕ
-wideMost = mostReach + mostBeyond
+use Rattle.cone_descent.specs.Descent.{wideMost, place, Clear, Field, Told, Seated}
+use Rattle.cone_descent.specs.TrailLaws.{place-below}
+use Rattle.cone_descent.specs.DescentSteps.{Asked}
 
 pub seated-at : (width : ℕ) (us ds marks : List ℕ) {len : ℕ} (k : ℕ) → len ≡ k → Seated width us ds len marks → Seated width us ds k marks
 seated-at width us ds marks k e s = subst (λ (z : ℕ). Seated width us ds z marks) e s
 
+-- a copy's place in the table
+pub small-place : (c : Copy) → c .node < mostNodes → c .back < wideMost → place wideMost c < mostTable
+small-place c h k = omega (arith, place-below wideMost mostNodes c h k)
+
 module _ {I G : ℕ} {ps so co : List ℕ} (w : SmallWires I G ps so co) where
+  -- so have the members of a cone
+  pub cone-place : {us ds : List ℕ} {len : ℕ} → Room us ds len → Bounded I G (copiesIn us ds len) → (p : ℕ) → p < len → place wideMost (copyAt us ds p) < mostTable
+  cone-place {us} {ds} {len} r b p h =
+      let m = in-copiesIn us ds len p h in
+      small-place (copyAt us ds p) (omega (arith, b .high (copyAt us ds p) m, w .inputs, w .gates)) (omega (arith, b .near (copyAt us ds p) m, length-copiesIn us ds len, r .fits))
+
   small-field : (marks : List ℕ) → mostTable ≤ length marks → Field I G wideMost mostReach ps so co marks
   small-field marks h =
       let nodes : I + G ≤ mostNodes = omega (arith, w .inputs, w .gates) in
@@ -38,7 +45,8 @@ module _ {I G : ℕ} {ps so co : List ℕ} (w : SmallWires I G ps so co) where
         table = le-trans (mul-le-mul-right wideMost nodes) h;
       }
 
-  pub small-asked : {ln lb : List ℕ} {n g : ℕ} {us ds hs bs ts seen marks : List ℕ} → n ≤ mostPins → n ≤ length ln → n ≤ length lb → g < G → Rising (copiesIn ln lb n) → mostTable ≤ length marks → Clear marks
+  pub small-asked : {ln lb : List ℕ} {n g : ℕ} {us ds hs bs ts seen marks : List ℕ} → n ≤ mostPins → n ≤ length ln → n ≤ length lb → g < G → Rising (copiesIn ln lb n) → mostTable ≤ length marks
+      → Clear marks
       → length us ≡ members → length ds ≡ members → length hs ≡ members → length bs ≡ members → length ts ≡ members → length seen ≡ mostPins → Clear seen
       → Asked I G wideMost mostReach members ps so co ln lb n g us ds hs bs ts seen marks
   small-asked {marks = marks} few a b root rising table clear eu ed eh eb et es unseen = record {

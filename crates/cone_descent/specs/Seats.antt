@@ -1,18 +1,14 @@
 -- The place of a copy in the list, by its mark.
 use mathlib.Core.Path.{_≡_, sym, ap, _∙_}
 use mathlib.Core.List.{List}
-use Prim.Native.Nat.{ℕ, _+_, _-_, _%_, _≤_, _<_}
+use Prim.Native.Nat.{ℕ, _+_, _-_, _≤_, _<_}
 use native.Mathlib.Decide.{ℕ-discrete, decLt}
 use native.Mathlib.Omega.{arith}
 use lib.ListN.{getD}
 use Rattle.sequences.specs.TestLaws.{first-here, first-none}
 use Rattle.net_model.specs.Arrays.{copyAt}
 use Rattle.net_model.specs.Copies.{Copy}
-use Rattle.cone_descent.specs.Descent.{place, seatMark, Seated, Seat}
-
--- y stands at no place before p whose mark is this
-abbrev pub Missed : List ℕ → List ℕ → Copy → ℕ → ℕ → Type 0
-Missed us ds y mark p = (q : ℕ) → q < p → seatMark q ≡ mark → ¬ (copyAt us ds q ≡ y)
+use Rattle.cone_descent.specs.Descent.{place, seatMark, Marked, Seat, Missed}
 
 pub missed-first : (us ds : List ℕ) (y : Copy) (mark : ℕ) → 2 ≤ mark → mark < 256 → (seatMark (mark - 2) ≡ mark) × Missed us ds y mark (mark - 2)
 missed-first us ds y mark h k = (omega arith, λ q l e. absurd (none q l e))
@@ -32,8 +28,8 @@ missed-more us ds y mark p e n m = (omega arith, λ q l z. go q l z (decLt q p) 
     go q l z (no a) (no b) = absurd (between q (omega arith) l z)
 
 module _ (us ds : List ℕ) (len : ℕ) (marks : List ℕ) (at : ℕ) (y : Copy) where
-  marked : (width : ℕ) → place width y ≡ at → Seated width us ds len marks → (q : ℕ) → q < len → copyAt us ds q ≡ y → seatMark q ≡ getD marks at 0
-  marked width e s q h c = sym (s .byte q h) ∙ ap (λ (x : Copy). getD marks (place width x) 0) c ∙ ap (λ (z : ℕ). getD marks z 0) e
+  marked : (width : ℕ) → place width y ≡ at → Marked width us ds len marks → (q : ℕ) → q < len → copyAt us ds q ≡ y → seatMark q ≡ getD marks at 0
+  marked width e s q h c = sym (s q h) ∙ ap (λ (x : Copy). getD marks (place width x) 0) c ∙ ap (λ (z : ℕ). getD marks z 0) e
 
   pub seat-none : (mark : ℕ) → mark ≡ getD marks at 0 → mark < 2 → Seat us ds len marks at y len
   seat-none mark e h width p s = first-none (λ j. copyAt us ds j ≡ y) len (λ j l c. bad j (marked width p s j l c))

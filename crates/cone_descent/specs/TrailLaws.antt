@@ -2,7 +2,7 @@
 use mathlib.Core.Path.{_≡_, refl, sym, ap, _∙_, subst}
 use mathlib.Core.List.{List, [], _∷_, _++_}
 use mathlib.Core.Logic.{_⊎_, inl, inr}
-use Prim.Native.Nat.{ℕ, zero, suc, _+_, _-_, _*_, _/_, _%_, _≤_, _<_}
+use Prim.Native.Nat.{ℕ, _+_, _-_, _*_, _/_, _%_, _<_}
 use native.Mathlib.Nat.{mul-add-div-right, mul-add-mod-self-right, div-eq-of-lt, mod-eq-of-lt, not-suc-le-zero, mul-le-mul-right, suc-mul}
 use native.Mathlib.Decide.{ℕ-discrete}
 use native.Mathlib.Omega.{arith}
@@ -95,7 +95,8 @@ module _ {I G width border : ℕ} where
       split′ : (c : Copy) → (c ∈ met) ⊎ (c ∈ y ∷ []) → ((p : ℕ) × (p < len) × (copyAt us ds p ≡ c)) ⊎ ((k : ℕ) × (k < depth + 1) × (copyAt (set hs depth (y .node)) (set bs depth (y .back)) k ≡ c))
       split′ c (inl m) = go (t .split c m)
         where
-          go : ((p : ℕ) × (p < len) × (copyAt us ds p ≡ c)) ⊎ ((k : ℕ) × (k < depth) × (copyAt hs bs k ≡ c)) → ((p : ℕ) × (p < len) × (copyAt us ds p ≡ c)) ⊎ ((k : ℕ) × (k < depth + 1) × (copyAt (set hs depth (y .node)) (set bs depth (y .back)) k ≡ c))
+          go : ((p : ℕ) × (p < len) × (copyAt us ds p ≡ c)) ⊎ ((k : ℕ) × (k < depth) × (copyAt hs bs k ≡ c))
+              → ((p : ℕ) × (p < len) × (copyAt us ds p ≡ c)) ⊎ ((k : ℕ) × (k < depth + 1) × (copyAt (set hs depth (y .node)) (set bs depth (y .back)) k ≡ c))
           go (inl p) = inl p
           go (inr k) = inr (k .0, omega (arith, k .1), under (k .0) (less-other (k .1)) ∙ k .2)
       split′ c (inr (here e)) = inr (depth, omega arith, at-top ∙ sym e)

@@ -10,16 +10,15 @@ use limits::COPIES;
 use limits::PINS;
 use limits::REACH;
 ghost use mathlib.Core.Path.{_≡_};
-ghost use Prim.Native.Nat.{ℕ, _+_, _-_, _*_, _≤_, _<_};
+ghost use Prim.Native.Nat.{ℕ, _+_, _≤_, _<_};
 ghost use lib.ListN.{length, getD, set};
 ghost use Rattle.sequences.specs.Tests.{First};
 ghost use Rattle.net_model.specs.Arrays.{copyAt};
 ghost use Rattle.net_model.specs.Copies.{copy, Rising};
 ghost use Rattle.limits.specs.Limits.{mostPins, mostTable};
 ghost use Rattle.cone_copies.specs.CopyLists.{copiesIn, SmallWires};
-ghost use Rattle.cone_walk.specs.WalkTold.{Walk, numberOf};
-ghost use Rattle.cone_descent.specs.Owner.{wideMost};
-ghost use Rattle.cone_descent.specs.Descent.{place, seatMark, Clear, Seated, Seat, Wiped};
+ghost use Rattle.cone_walk.specs.WalkTold.{Walk};
+ghost use Rattle.cone_descent.specs.Descent.{place, seatMark, Clear, Placed, Seat, Wiped};
 ghost use Rattle.cone_descent.specs.Descent as descent;
 ghost use Rattle.cone_descent.specs.DescentSteps.{Meet, Leaves, TopPin, Advances, Turn, Ran, Asked};
 
@@ -354,7 +353,7 @@ pub fn walk(
     marks: &mut [u8],
 ) -> Cone
     requires { ⌜ SmallWires inputs gates (now pins) (now sources) (now counts) × (n ≤ mostPins) × (n ≤ length (now «leaf_nodes»)) × (n ≤ length (now «leaf_backs»)) × (g < gates) × Rising (copiesIn (now «leaf_nodes») (now «leaf_backs») n) × (mostTable ≤ length (now marks)) × Clear (now marks) ⌝ }
-    ensures { λ r. ⌜ Walk inputs gates (now (pins .entry)) (now (sources .entry)) (now (counts .entry)) (now («leaf_nodes» .entry)) (now («leaf_backs» .entry)) n g r × Seated wideMost (r .nodes) (r .backs) (r .len) (now (marks .exit)) × (numberOf (r .verdict) ≡ 0 → copyAt (r .nodes) (r .backs) (r .len - 1) ≡ copy (inputs + g) 0) ⌝ }
+    ensures { λ r. ⌜ Walk inputs gates (now (pins .entry)) (now (sources .entry)) (now (counts .entry)) (now («leaf_nodes» .entry)) (now («leaf_backs» .entry)) n g r × Placed inputs g r (now (marks .exit)) ⌝ }
 {
     let mut nodes = [0usize; COPIES];
     let mut backs = [0usize; COPIES];

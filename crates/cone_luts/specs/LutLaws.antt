@@ -1,16 +1,15 @@
 -- Laws of LUTs' tables: the walk's cone gives the table of the cut, and one gate after the other is tabulated.
 use mathlib.Core.Path.{_≡_, refl, sym, ap, ap₂, subst, _∙_}
 use mathlib.Core.Bool.{Bool, true, false, true≢false, false≢true}
-use mathlib.Core.List.{List, [], _∷_}
-use Prim.Native.Nat.{ℕ, zero, suc, _+_, _-_, _*_, _≤_, _<_}
+use mathlib.Core.List.{List}
+use Prim.Native.Nat.{ℕ, _+_, _-_, _*_, _≤_, _<_}
 use native.Mathlib.Nat.{zero-add, not-suc-le-zero}
 use native.Mathlib.Decide.{ℕ-discrete}
 use native.Mathlib.Omega.{arith}
 use lib.ListN.{length, getD, set, take, drop}
 use lib.Seq.{getD-set-same, getD-set-other, getD-drop, ext-getD}
 use Rattle.sequences.specs.Behind.{behind}
-use Rattle.net_model.specs.Net.{Net}
-use Rattle.net_model.specs.Copies.{Copy, copy, IsCut, Rising}
+use Rattle.net_model.specs.Copies.{Copy, copy, Rising}
 use Rattle.net_model.specs.CopyLaws.{copy-path}
 use Rattle.net_model.specs.Arrays.{stride, copyAt, copiesFrom}
 use Rattle.net_model.specs.ArrayLaws.{length-copiesFrom, getD-copiesFrom}
@@ -73,7 +72,8 @@ copies-part nodes backs at n = ext-getD (copy 0 0) (copiesFrom (drop at nodes) (
 
 -- row i of the arrays
 row-part : (sizes nodes backs : List ℕ) (i : ℕ)
-    → copiesIn (take (length nodes - stride * i) (drop (stride * i) nodes)) (take (length backs - stride * i) (drop (stride * i) backs)) (getD sizes i 0) ≡ copiesFrom nodes backs (stride * i) (getD sizes i 0)
+    → copiesIn (take (length nodes - stride * i) (drop (stride * i) nodes)) (take (length backs - stride * i) (drop (stride * i) backs)) (getD sizes i 0) ≡ copiesFrom nodes backs (stride * i)
+    (getD sizes i 0)
 row-part sizes nodes backs i =
     ap₂ (λ (a b : List ℕ). copiesIn a b (getD sizes i 0)) (behind nodes (stride * i)) (behind backs (stride * i)) ∙ copies-part nodes backs (stride * i) (getD sizes i 0)
 

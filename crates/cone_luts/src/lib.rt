@@ -1,15 +1,19 @@
 // The LUT over given leaves: whether they are a cut of a gate, and the table over the cone between. The tables of a cover's LUTs.
+// The first bytes of work are the walk's table of marks: all 0 before and after.
+use cone_descent::clear;
+use cone_descent::walk;
 use cone_table::table;
 use cone_walk::Told;
-use cone_walk::walk;
+use limits::BEYOND;
 use limits::PINS;
-ghost use mathlib.Core.Path.{_≡_};
-ghost use Prim.Native.Nat.{ℕ, _+_, _*_, _≤_, _<_};
+use limits::REACH;
+ghost use Prim.Native.Nat.{_+_, _*_, _≤_, _<_};
 ghost use lib.ListN.{length, getD};
-ghost use Rattle.limits.specs.Limits.{mostPins};
+ghost use Rattle.limits.specs.Limits.{mostPins, mostTable};
 ghost use Rattle.cone_copies.specs.CopyLists.{SmallWires, copiesIn};
 ghost use Rattle.net_model.specs.Copies.{Rising};
 ghost use Rattle.net_model.specs.Arrays.{stride, copiesFrom};
+ghost use Rattle.cone_descent.specs.Descent.{Clear};
 ghost use Rattle.cone_luts.specs.Luts.{Row, LutTried, GateTable, Tabulates, Tabulated};
 
 // Whether leaves are no cut, and the table where they are one.
@@ -30,9 +34,12 @@ fn try_lut(
     leaf_backs: &[usize],
     n: usize,
     g: usize,
+    work: &mut [u8],
 ) -> Tried
     requires { ⌜ SmallWires inputs gates (now pins) (now sources) (now counts) × (gates ≤ length (now tables)) × (n ≤ mostPins) × (n ≤ length (now «leaf_nodes»)) × (n ≤ length (now «leaf_backs»)) × (g < gates) × Rising (copiesIn (now «leaf_nodes») (now «leaf_backs») n) ⌝ }
+    requires { ⌜ (mostTable ≤ length (now work)) × Clear (now work) ⌝ }
     ensures { λ r. ⌜ LutTried inputs gates (now (pins .entry)) (now (sources .entry)) (now (counts .entry)) (now (tables .entry)) (copiesIn (now («leaf_nodes» .entry)) (now («leaf_backs» .entry)) n) g r ⌝ }
+    ensures { λ _. ⌜ Clear (now (work .exit)) ⌝ }
 {
     let cone = walk(
         inputs,
@@ -44,6 +51,7 @@ fn try_lut(
         leaf_backs,
         n,
         g,
+        work,
     );
     let verdict = cone.verdict;
     if let Told::NoCut = verdict {
@@ -62,9 +70,12 @@ fn try_lut(
         leaf_nodes,
         leaf_backs,
         n,
-        g,
         cone,
+        work,
     );
+    let nodes = cone.nodes;
+    let backs = cone.backs;
+    clear(&nodes, &backs, cone.len, REACH + BEYOND, work);
     Tried {
         none: false,
         table: t,
@@ -84,9 +95,12 @@ pub fn try_row(
     backs: &[usize],
     i: usize,
     g: usize,
+    work: &mut [u8],
 ) -> Tried
     requires { ⌜ SmallWires inputs gates (now pins) (now sources) (now counts) × (gates ≤ length (now tables)) × Row (now sizes) (now nodes) (now backs) i × (g < gates) ⌝ }
+    requires { ⌜ (mostTable ≤ length (now work)) × Clear (now work) ⌝ }
     ensures { λ r. ⌜ LutTried inputs gates (now (pins .entry)) (now (sources .entry)) (now (counts .entry)) (now (tables .entry)) (copiesFrom (now (nodes .entry)) (now (backs .entry)) (stride * i) (getD (now (sizes .entry)) i 0)) g r ⌝ }
+    ensures { λ _. ⌜ Clear (now (work .exit)) ⌝ }
 {
     let at = PINS * i;
     let n = sizes[i];
@@ -101,6 +115,7 @@ pub fn try_row(
         &backs[at..],
         n,
         g,
+        work,
     )
 }
 
@@ -117,9 +132,12 @@ fn gate_table(
     nodes: &[usize],
     backs: &[usize],
     g: usize,
+    work: &mut [u8],
 ) -> u64
     requires { ⌜ Tabulates inputs gates (now pins) (now sources) (now counts) (now tables) (now marks) (now sizes) (now nodes) (now backs) × (g < gates) ⌝ }
+    requires { ⌜ (mostTable ≤ length (now work)) × Clear (now work) ⌝ }
     ensures { λ r. ⌜ GateTable inputs gates (now (pins .entry)) (now (sources .entry)) (now (counts .entry)) (now (tables .entry)) (now (marks .entry)) (now (sizes .entry)) (now (nodes .entry)) (now (backs .entry)) g r ⌝ }
+    ensures { λ _. ⌜ Clear (now (work .exit)) ⌝ }
 {
     if marks[g] == 0 {
         return 0;
@@ -136,6 +154,7 @@ fn gate_table(
         backs,
         g,
         g,
+        work,
     );
     t.table
 }
@@ -153,9 +172,12 @@ pub fn tabulate(
     nodes: &[usize],
     backs: &[usize],
     luts: &mut [u64],
+    work: &mut [u8],
 )
     requires { ⌜ Tabulates inputs gates (now pins) (now sources) (now counts) (now tables) (now marks) (now sizes) (now nodes) (now backs) × (gates ≤ length (now luts)) ⌝ }
+    requires { ⌜ (mostTable ≤ length (now work)) × Clear (now work) ⌝ }
     ensures { λ _. ⌜ Tabulated inputs gates (now (pins .entry)) (now (sources .entry)) (now (counts .entry)) (now (tables .entry)) (now (marks .entry)) (now (sizes .entry)) (now (nodes .entry)) (now (backs .entry)) (now (luts .exit)) gates ⌝ }
+    ensures { λ _. ⌜ Clear (now (work .exit)) ⌝ }
 {
     let mut g = 0;
     while g < gates {
@@ -171,6 +193,7 @@ pub fn tabulate(
             nodes,
             backs,
             g,
+            work,
         );
         g += 1;
     }

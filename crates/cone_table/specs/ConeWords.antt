@@ -4,7 +4,7 @@ use mathlib.Core.Bool.{Bool}
 use mathlib.Core.List.{List}
 use Prim.Native.Nat.{ℕ, _+_, _-_, _^_, _≤_, _<_}
 use lib.ListN.{length, getD}
-use Rattle.limits.specs.Limits.{mostPins}
+use Rattle.limits.specs.Limits.{mostPins, mostTable}
 use Rattle.sequences.specs.Member.{_∈_}
 use Rattle.net_model.specs.Net.{Net, gate}
 use Rattle.net_model.specs.Wired.{Wired}
@@ -12,9 +12,10 @@ use Rattle.net_model.specs.Copies.{Copy, copy, IsCone, IsLeaves, Rising}
 use Rattle.net_model.specs.Tables.{bit, atLeaf, valueIn, tableOf}
 use Rattle.cone_words.specs.LeafWords.{Composed}
 use Rattle.cone_copies.specs.CopyLists.{copiesIn, sourceAt, SmallWires, Room, Bounded, SourcesFirst}
+use Rattle.cone_descent.specs.Descent.{wideMost, Marked}
 
--- What a table over a cone asks: the wiring, the tables, n leaves that rise, and a list of gate copies.
-pub record Given (I G : ℕ) (ps sources counts ts ln lb : List ℕ) (n : ℕ) (us ds : List ℕ) (len : ℕ) : Type 0 where
+-- What a table over a cone asks: the wiring, the tables, n leaves that rise, a list of gate copies, and their places as marks.
+pub record Given (I G : ℕ) (ps sources counts ts ln lb : List ℕ) (n : ℕ) (us ds : List ℕ) (len : ℕ) (marks : List ℕ) : Type 0 where
   pub wires : SmallWires I G ps sources counts
   pub tables : G ≤ length ts
   pub few : n ≤ mostPins
@@ -23,6 +24,8 @@ pub record Given (I G : ℕ) (ps sources counts ts ln lb : List ℕ) (n : ℕ) (
   pub rising : Rising (copiesIn ln lb n)
   pub room : Room us ds len
   pub bounded : Bounded I G (copiesIn us ds len)
+  pub space : mostTable ≤ length marks
+  pub marked : Marked wideMost us ds len marks
 
 -- the tables of a net's gates
 pub record Tabled (N : Net) (I G : ℕ) (tables : List ℕ) : Type 0 where
@@ -52,7 +55,8 @@ Right N L C words n = (p : ℕ) → p < length C → (i : ℕ) → i < n → (t 
 -- the words of the first p of len copies are right for every net with this wiring and these tables, where the leaves of the copies are L and sources come first
 pub record WordsSettled (I G : ℕ) (ps sources counts tables : List ℕ) (L : List Copy) (nodes backs : List ℕ) (len : ℕ) (words : List ℕ) (n p : ℕ) : Type 0 where
   pub small : (q : ℕ) → q < p → getD words q 0 < 2 ^ n
-  pub right : (N : Net) → Wired N I G ps sources counts → Tabled N I G tables → IsLeaves N (copiesIn nodes backs len) L → SourcesFirst N (copiesIn nodes backs len) → Right N L (copiesIn nodes backs p) words n
+  pub right : (N : Net) → Wired N I G ps sources counts → Tabled N I G tables → IsLeaves N (copiesIn nodes backs len) L → SourcesFirst N (copiesIn nodes backs len)
+      → Right N L (copiesIn nodes backs p) words n
 
 -- r is the LUT's table for every such net, where C is a cone of v
 abbrev pub TableOver : ℕ → ℕ → List ℕ → List ℕ → List ℕ → List ℕ → List Copy → List Copy → ℕ → ℕ → Type 0

@@ -7,7 +7,7 @@ use Prim.Native.Nat.{ℕ, zero, suc, _+_, _-_, _*_, _/_, _%_, _^_, _≤_, _<_}
 use native.Mathlib.Nat.{not-suc-le-zero, le-of-suc-le-suc, add-zero, add-suc, suc-add, pow-le-pow-right}
 use native.Mathlib.Omega.{arith}
 use lib.ListN.{length, getD, set, take}
-use Rattle.limits.specs.Limits.{mostPins}
+use Rattle.limits.specs.Limits.{mostPins, mostTable}
 use Rattle.sequences.specs.Member.{_∈_, in-equal}
 use Rattle.net_model.specs.Net.{Net, Pin, gate}
 use Rattle.net_model.specs.Arrays.{stride, pinsIn, copyAt}
@@ -26,6 +26,7 @@ use Rattle.cone_copies.specs.CopyListLaws.{length-copiesIn, getD-copiesIn, in-c
 use Rattle.cone_copies.specs.CopyPinLaws.{pin-feeds}
 use Rattle.cone_walk.specs.WalkTold.{numberOf, Walk}
 use Rattle.cone_walk.specs.declared.Cone.{Cone}
+use Rattle.cone_descent.specs.Descent.{Placed}
 use Rattle.cone_table.specs.ConeWords.{Given, Tabled, Carries, CopyWord, WordAt, Right, WordsSettled, TableOver}
 
 -- ---- leaves
@@ -192,21 +193,22 @@ module _ {I G : ℕ} {ps sources counts tables : List ℕ} {L : List Copy} where
               (λ y f. fed-before nodes backs len p leaves first k y (subst (Feeds N y) (m .this) f)) word i a
               ∙ ap (valueIn N L i (suc t)) (m .this)
 
-  pub settled-all : {nodes backs words : List ℕ} {len n p : ℕ} → p ≡ len → WordsSettled I G ps sources counts tables L nodes backs len words n p → WordsSettled I G ps sources counts tables L nodes backs len words n len
+  pub settled-all : {nodes backs words : List ℕ} {len n p : ℕ} → p ≡ len → WordsSettled I G ps sources counts tables L nodes backs len words n p
+      → WordsSettled I G ps sources counts tables L nodes backs len words n len
   settled-all {nodes} {backs} {words} {len} {n} e s = subst (WordsSettled I G ps sources counts tables L nodes backs len words n) e s
 
-  -- a list without the root is no cone
-  pub table-missing : (nodes backs : List ℕ) (len v p r : ℕ) → First (λ j. copyAt nodes backs j ≡ copy v 0) len p → len ≤ p → TableOver I G ps sources counts tables L (copiesIn nodes backs len) v r
-  table-missing nodes backs len v p r f h N w tabled cone leaves first = absurd (missing nodes backs len p (copy v 0) f h (cone .root))
-
--- the root's word is the table
-pub table-found : {I G : ℕ} {ps sources counts tables : List ℕ} (ln lb : List ℕ) (n : ℕ) (nodes backs : List ℕ) (len : ℕ) (words : List ℕ) (v p : ℕ) → WordsSettled I G ps sources counts tables (copiesIn ln lb n) nodes backs len words (2 ^ n) len
-    → First (λ j. copyAt nodes backs j ≡ copy v 0) len p → p < len → TableOver I G ps sources counts tables (copiesIn ln lb n) (copiesIn nodes backs len) v (getD words p 0)
-table-found ln lb n nodes backs len words v p s f h N w tabled cone leaves first =
-    table-right N v (copiesIn ln lb n) (copiesIn nodes backs len) words p (omega (arith, length-copiesIn nodes backs len)) (getD-copiesIn nodes backs len p (copy 0 0) h ∙ f .found h)
-    (subst (λ (x : ℕ). getD words p 0 < 2 ^ (2 ^ x)) (sym many) (s .small p h))
+-- the last word is the table, where the root is last
+pub table-last : {I G : ℕ} {ps sources counts tables : List ℕ} (ln lb : List ℕ) (n : ℕ) (nodes backs : List ℕ) (len : ℕ) (words : List ℕ) (v : ℕ) → 1 ≤ len
+    → WordsSettled I G ps sources counts tables (copiesIn ln lb n) nodes backs len words (2 ^ n) len → copyAt nodes backs (len - 1) ≡ copy v 0
+    → TableOver I G ps sources counts tables (copiesIn ln lb n) (copiesIn nodes backs len) v (getD words (len - 1) 0)
+table-last ln lb n nodes backs len words v some s e N w tabled cone leaves first =
+    table-right N v (copiesIn ln lb n) (copiesIn nodes backs len) words (len - 1) (omega (arith, length-copiesIn nodes backs len)) (getD-copiesIn nodes backs len (len - 1) (copy 0 0) last ∙ e)
+    (subst (λ (x : ℕ). getD words (len - 1) 0 < 2 ^ (2 ^ x)) (sym many) (s .small (len - 1) last))
     (subst (λ (x : ℕ). Right N (copiesIn ln lb n) (copiesIn nodes backs len) words (2 ^ x)) (sym many) (s .right N w tabled leaves first))
   where
+    last : len - 1 < len
+    last = omega arith
+
     many : length (copiesIn ln lb n) ≡ n
     many = length-copiesIn ln lb n
 
@@ -214,6 +216,7 @@ table-found ln lb n nodes backs len words v p s f h N w tabled cone leaves first
 
 module _ {I G : ℕ} {ps sources counts ln lb : List ℕ} {n g : ℕ} {r : Cone} (t : Walk I G ps sources counts ln lb n g r) (e : numberOf (r .verdict) ≡ 0) where
   -- what a table over the cone asks
-  pub cone-given : {tables : List ℕ} → SmallWires I G ps sources counts → G ≤ length tables → n ≤ mostPins → n ≤ length ln → n ≤ length lb → Rising (copiesIn ln lb n)
-      → Given I G ps sources counts tables ln lb n (r .nodes) (r .backs) (r .len)
-  cone-given w h k a b r = record { wires = w; tables = h; few = k; leafNodes = a; leafBacks = b; rising = r; room = t .room e; bounded = t .bounded e }
+  pub cone-given : {tables marks : List ℕ} → SmallWires I G ps sources counts → G ≤ length tables → n ≤ mostPins → n ≤ length ln → n ≤ length lb → Rising (copiesIn ln lb n)
+      → mostTable ≤ length marks → Placed I g r marks → Given I G ps sources counts tables ln lb n (r .nodes) (r .backs) (r .len) marks
+  cone-given w h k a b u s p =
+      record { wires = w; tables = h; few = k; leafNodes = a; leafBacks = b; rising = u; room = t .room e; bounded = t .bounded e; space = s; marked = p .seated .byte }

@@ -1,15 +1,19 @@
-// The table of a LUT over a cone: a word for each copy, from the words of the copies before it.
-use cone_copies::find;
+// The table of a LUT over a cone: a word for each copy, from the words of the copies before it. A copy's place in the list is found by its mark in the walk's table.
+use cone_descent::seat;
 use cone_leaves::seek;
 use cone_walk::Cone;
+use limits::BEYOND;
 use limits::COPIES;
 use limits::PINS;
+use limits::REACH;
 ghost use mathlib.Core.Path.{_≡_};
-ghost use Prim.Native.Nat.{ℕ, _+_, _*_, _^_, _≤_, _<_};
+ghost use Prim.Native.Nat.{ℕ, _-_, _*_, _^_, _≤_, _<_};
 ghost use lib.ListN.{length, getD};
-ghost use Rattle.limits.specs.Limits.{mostPins};
+ghost use Rattle.limits.specs.Limits.{mostPins, mostNodes, mostTable};
+ghost use Rattle.net_model.specs.Arrays.{copyAt};
 ghost use Rattle.net_model.specs.Copies.{copy, Rising};
 ghost use Rattle.cone_copies.specs.CopyLists.{copiesIn, members, most, Place, sourceAt};
+ghost use Rattle.cone_descent.specs.Descent.{wideMost, Marked};
 ghost use Rattle.cone_table.specs.ConeWords.{Given, Carries, WordAt, WordsSettled, TableOver};
 
 // The word of a copy: a leaf's own, or a listed copy's from `words`.
@@ -21,17 +25,19 @@ fn source_word(
     cone_backs: &[usize],
     len: usize,
     words: &[u64],
+    marks: &[u8],
     node: usize,
     back: usize,
 ) -> u64
-    requires { ⌜ (n ≤ mostPins) × (n ≤ length (now «leaf_nodes»)) × (n ≤ length (now «leaf_backs»)) × (len ≤ length (now «cone_nodes»)) × (len ≤ length (now «cone_backs»)) × (len ≤ length (now words)) × Rising (copiesIn (now «leaf_nodes») (now «leaf_backs») n) ⌝ }
+    requires { ⌜ ((n ≤ mostPins) × (n ≤ length (now «leaf_nodes»)) × (n ≤ length (now «leaf_backs»)) × (len ≤ length (now «cone_nodes»)) × (len ≤ length (now «cone_backs»)) × (len ≤ length (now words)) × Rising (copiesIn (now «leaf_nodes») (now «leaf_backs») n) × (mostTable ≤ length (now marks)) × Marked wideMost (now «cone_nodes») (now «cone_backs») len (now marks)) × (node < mostNodes) × (back < wideMost) ⌝ }
     ensures { λ r. ⌜ Carries (copiesIn (now («leaf_nodes» .entry)) (now («leaf_backs» .entry)) n) (copiesIn (now («cone_nodes» .entry)) (now («cone_backs» .entry)) len) (now (words .entry)) (copy node back) r ⌝ }
 {
     let leaf = seek(leaf_nodes, leaf_backs, n, node, back);
     if leaf < n {
         return cone_words::leaf_word(leaf);
     }
-    let at = find(cone_nodes, cone_backs, len, node, back);
+    let place = node * (REACH + BEYOND) + back;
+    let at = seat(cone_nodes, cone_backs, len, marks, place, node, back);
     if at < len { words[at] } else { 0 }
 }
 
@@ -46,11 +52,12 @@ fn gather(
     cone_backs: &[usize],
     len: usize,
     words: &[u64],
+    marks: &[u8],
     g: usize,
     m: usize,
     base: usize,
 ) -> [u64; PINS]
-    requires { ⌜ ((n ≤ mostPins) × (n ≤ length (now «leaf_nodes»)) × (n ≤ length (now «leaf_backs»)) × (len ≤ length (now «cone_nodes»)) × (len ≤ length (now «cone_backs»)) × (len ≤ length (now words)) × Rising (copiesIn (now «leaf_nodes») (now «leaf_backs») n)) × ((j : ℕ) → j < m → Place (now sources) (now counts) g j) × (g ≤ members) × (m ≤ mostPins) × (base ≤ most * members) ⌝ }
+    requires { ⌜ ((n ≤ mostPins) × (n ≤ length (now «leaf_nodes»)) × (n ≤ length (now «leaf_backs»)) × (len ≤ length (now «cone_nodes»)) × (len ≤ length (now «cone_backs»)) × (len ≤ length (now words)) × Rising (copiesIn (now «leaf_nodes») (now «leaf_backs») n) × (mostTable ≤ length (now marks)) × Marked wideMost (now «cone_nodes») (now «cone_backs») len (now marks)) × ((j : ℕ) → j < m → Place (now sources) (now counts) g j) × (g ≤ members) × (m ≤ mostPins) × (base ≤ most * members) ⌝ }
     ensures { λ r. ⌜ (m ≤ length r) × ((j : ℕ) → j < m → Carries (copiesIn (now («leaf_nodes» .entry)) (now («leaf_backs» .entry)) n) (copiesIn (now («cone_nodes» .entry)) (now («cone_backs» .entry)) len) (now (words .entry)) (sourceAt (now (sources .entry)) (now (counts .entry)) g base j) (getD r j 0)) ⌝ }
 {
     let mut fed = [0u64; PINS];
@@ -65,6 +72,7 @@ fn gather(
             cone_backs,
             len,
             words,
+            marks,
             sources[at],
             base + counts[at],
         );
@@ -88,9 +96,10 @@ fn copy_word(
     cone_backs: &[usize],
     len: usize,
     words: &[u64],
+    marks: &[u8],
     p: usize,
 ) -> u64
-    requires { ⌜ Given inputs gates (now pins) (now sources) (now counts) (now tables) (now «leaf_nodes») (now «leaf_backs») n (now «cone_nodes») (now «cone_backs») len × (len ≤ length (now words)) × (p < len) ⌝ }
+    requires { ⌜ Given inputs gates (now pins) (now sources) (now counts) (now tables) (now «leaf_nodes») (now «leaf_backs») n (now «cone_nodes») (now «cone_backs») len (now marks) × (len ≤ length (now words)) × (p < len) ⌝ }
     ensures { λ r. ⌜ WordAt inputs (now (pins .entry)) (now (sources .entry)) (now (counts .entry)) (now (tables .entry)) (copiesIn (now («leaf_nodes» .entry)) (now («leaf_backs» .entry)) n) (now («cone_nodes» .entry)) (now («cone_backs» .entry)) p (now (words .entry)) (2 ^ n) r ⌝ }
 {
     let g = cone_nodes[p] - inputs;
@@ -105,6 +114,7 @@ fn copy_word(
         cone_backs,
         p,
         words,
+        marks,
         g,
         m,
         cone_backs[p],
@@ -126,8 +136,9 @@ fn fill_words(
     cone_nodes: &[usize],
     cone_backs: &[usize],
     len: usize,
+    marks: &[u8],
 ) -> [u64; COPIES]
-    requires { ⌜ Given inputs gates (now pins) (now sources) (now counts) (now tables) (now «leaf_nodes») (now «leaf_backs») n (now «cone_nodes») (now «cone_backs») len ⌝ }
+    requires { ⌜ Given inputs gates (now pins) (now sources) (now counts) (now tables) (now «leaf_nodes») (now «leaf_backs») n (now «cone_nodes») (now «cone_backs») len (now marks) ⌝ }
     ensures { λ r. ⌜ (length r ≡ members) × WordsSettled inputs gates (now (pins .entry)) (now (sources .entry)) (now (counts .entry)) (now (tables .entry)) (copiesIn (now («leaf_nodes» .entry)) (now («leaf_backs» .entry)) n) (now («cone_nodes» .entry)) (now («cone_backs» .entry)) len r (2 ^ n) len ⌝ }
 {
     let mut words = [0u64; COPIES];
@@ -147,6 +158,7 @@ fn fill_words(
             cone_backs,
             len,
             &words,
+            marks,
             p,
         );
         words[p] = word;
@@ -155,7 +167,7 @@ fn fill_words(
     words
 }
 
-// The table of the LUT over the cone of gate g with these leaves, in one pass over the cone.
+// The table of the LUT over the cone with these leaves, in one pass over the cone, whose last copy is the root.
 pub fn table(
     inputs: usize,
     gates: usize,
@@ -166,11 +178,11 @@ pub fn table(
     leaf_nodes: &[usize],
     leaf_backs: &[usize],
     n: usize,
-    g: usize,
     cone: Cone,
+    marks: &[u8],
 ) -> u64
-    requires { ⌜ Given inputs gates (now pins) (now sources) (now counts) (now tables) (now «leaf_nodes») (now «leaf_backs») n (cone .nodes) (cone .backs) (cone .len) × (g < gates) ⌝ }
-    ensures { λ r. ⌜ TableOver inputs gates (now (pins .entry)) (now (sources .entry)) (now (counts .entry)) (now (tables .entry)) (copiesIn (now («leaf_nodes» .entry)) (now («leaf_backs» .entry)) n) (copiesIn (cone .nodes) (cone .backs) (cone .len)) (inputs + g) r ⌝ }
+    requires { ⌜ Given inputs gates (now pins) (now sources) (now counts) (now tables) (now «leaf_nodes») (now «leaf_backs») n (cone .nodes) (cone .backs) (cone .len) (now marks) ⌝ }
+    ensures { λ r. ⌜ ((v : ℕ) → copyAt (cone .nodes) (cone .backs) (cone .len - 1) ≡ copy v 0 → TableOver inputs gates (now (pins .entry)) (now (sources .entry)) (now (counts .entry)) (now (tables .entry)) (copiesIn (now («leaf_nodes» .entry)) (now («leaf_backs» .entry)) n) (copiesIn (cone .nodes) (cone .backs) (cone .len)) v r) ⌝ }
 {
     let cone_nodes = cone.nodes;
     let cone_backs = cone.backs;
@@ -188,7 +200,7 @@ pub fn table(
         &cone_nodes,
         &cone_backs,
         len,
+        marks,
     );
-    let at = find(&cone_nodes, &cone_backs, len, inputs + g, 0);
-    if at < len { words[at] } else { 0 }
+    words[len - 1]
 }

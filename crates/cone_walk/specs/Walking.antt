@@ -5,7 +5,7 @@ use mathlib.Core.Logic.{_⊎_, inl, inr}
 use Prim.Native.Nat.{ℕ, _+_, _*_, _≤_, _<_}
 use native.Mathlib.Nat.{lt-irrefl}
 use native.Mathlib.Omega.{arith}
-use lib.ListN.{length, getD, length-append}
+use lib.ListN.{length, length-append}
 use Rattle.sequences.specs.Member.{_∈_, here, there, not-in-nil, in-equal, Within, in-append-left, in-append-cases}
 use Rattle.sequences.specs.Distinct.{Distinct, distinct-nil, distinct-cons, distinct-append}
 use Rattle.net_model.specs.Net.{Net, IsGate}
@@ -15,8 +15,6 @@ use Rattle.cone_theory.specs.Basics.{member?}
 use Rattle.cone_theory.specs.Part.{leads-mono}
 use Rattle.cone_theory.specs.Ranks.{Ranked}
 use Rattle.cone_theory.specs.FewCopies.{few-members}
-use Rattle.cone_copies.specs.CopyLists.{sourceAt}
-use Rattle.cone_copies.specs.CopyPinLaws.{feeds-pin}
 
 -- ---- what the list of met copies keeps
 
@@ -162,14 +160,9 @@ module _ {N : Net} {v : ℕ} {L : List Copy} where
 pub refuted-cut : {N : Net} {v : ℕ} {L : List Copy} → Refuted N v L → (k : ℕ) → ¬ IsCut N k v L
 refuted-cut r k c = r (c .cone) (c .isCone) (c .isLeaves)
 
--- ---- feeding by pins
+-- ---- gates and inputs
 
 module _ {N : Net} {I G : ℕ} {ps sources counts : List ℕ} (w : Wired N I G ps sources counts) where
-  pub closed-pins : (L C : List Copy) (g b : ℕ) → g < G → ((j : ℕ) → j < getD ps g 0 → (sourceAt sources counts g b j ∈ C) ⊎ (sourceAt sources counts g b j ∈ L)) → Closed N L C (copy (I + g) b)
-  closed-pins L C g b h each y f =
-      let r = feeds-pin w g b y h f in
-      subst (λ (c : Copy). (c ∈ C) ⊎ (c ∈ L)) (r .2) (each (r .0) (r .1))
-
   pub node-gate : (u : ℕ) → I ≤ u → u < I + G → IsGate N u
   node-gate u h k = let a = w .inputs in let b = w .gates in record { low = omega arith; high = omega arith }
 

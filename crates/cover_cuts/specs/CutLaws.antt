@@ -1,5 +1,5 @@
 -- Laws of checks 14 and 15: from the walk's answers to what the definitions ask of the LUTs.
-use mathlib.Core.Path.{_≡_, refl, sym, ap, ap₂, subst, _∙_}
+use mathlib.Core.Path.{_≡_, refl, sym, subst, _∙_}
 use mathlib.Core.Bool.{Bool, true, false, true≢false, false≢true}
 use mathlib.Core.List.{List}
 use Prim.Native.Nat.{ℕ, _+_, _-_, _*_, _≤_, _<_}
@@ -7,25 +7,24 @@ use native.Mathlib.Nat.{not-suc-le-zero}
 use native.Mathlib.Decide.{ℕ-discrete}
 use native.Mathlib.Omega.{arith}
 use lib.IntN.{ℤ}
-use lib.ListN.{length, getD, set, take, drop}
+use lib.ListN.{length, getD, set}
 use lib.Seq.{getD-set-same, getD-set-other}
-use Rattle.sequences.specs.Member.{_∈_}
 use Rattle.net_model.specs.Net.{Net}
 use Rattle.net_model.specs.Checks.{Loopless}
-use Rattle.net_model.specs.Copies.{Copy, IsCut, Rising}
+use Rattle.net_model.specs.Copies.{IsCut}
 use Rattle.net_model.specs.Arrays.{stride, copiesFrom}
 use Rattle.net_model.specs.ArrayLaws.{length-copiesFrom}
 use Rattle.net_model.specs.Tables.{tableOf}
 use Rattle.net_model.specs.Wired.{Wired}
 use Rattle.cone_theory.specs.Ranks.{Ranked}
 use Rattle.cover_theory.specs.Key.{Entry}
-use Rattle.cover_records.specs.Held.{Held, held, lutAt, lutsIn}
+use Rattle.cover_records.specs.Held.{held, lutAt, lutsIn}
 use Rattle.cover_records.specs.HeldLaws.{lutsIn-in, in-lutsIn}
 use Rattle.cover_records.specs.Marking.{CutsRight, TableRight, TablesRight}
 use Rattle.cone_table.specs.ConeWords.{Tabled}
 use Rattle.cone_luts.specs.Luts.{Row}
 use Rattle.cone_luts.specs.declared.Tried.{Tried}
-use Rattle.cover_cuts.specs.Cuts.{Cutting, TriedAt, Good, AllGood, CutsTried, Same, Compared, CutAs, noCut, wrong, right, CutsTold}
+use Rattle.cover_cuts.specs.Cuts.{Cutting, TriedAt, Good, AllGood, CutsTried, Same, Compared, noCut, wrong, right, CutsTold}
 
 -- ---- one LUT
 
@@ -56,7 +55,8 @@ module _ {I G : ℕ} {ps so co ts roots sizes nodes backs : List ℕ} where
     pub good-none : {ts′ : List ℕ} → AllGood I G ps so co ts roots sizes nodes backs k 0 ts′
     good-none = record { each = λ i h. absurd (not-suc-le-zero h) }
 
-    pub good-next : (tables : List ℕ) (m : ℕ) → m < n → m < length tables → AllGood I G ps so co ts roots sizes nodes backs k m tables → {r : Tried} → TriedAt I G ps so co ts roots sizes nodes backs m r → r .none ≡ false
+    pub good-next : (tables : List ℕ) (m : ℕ) → m < n → m < length tables → AllGood I G ps so co ts roots sizes nodes backs k m tables → {r : Tried}
+        → TriedAt I G ps so co ts roots sizes nodes backs m r → r .none ≡ false
         → AllGood I G ps so co ts roots sizes nodes backs k (m + 1) (set tables m (r .table))
     good-next tables m h room s {r} t e = record { each = λ i l. go i l (ℕ-discrete i m) }
       where
@@ -70,7 +70,8 @@ module _ {I G : ℕ} {ps so co ts roots sizes nodes backs : List ℕ} where
     pub cuts-all : {tables : List ℕ} {m : ℕ} → n ≤ m → AllGood I G ps so co ts roots sizes nodes backs k m tables → CutsTried I G ps so co ts roots sizes nodes backs k n tables false
     cuts-all h s = record { good = λ e. record { each = λ i l. s .each i (omega arith) }; bad = λ e. absurd (false≢true e) }
 
-    pub cuts-not : {tables : List ℕ} (i : ℕ) → i < n → {r : Tried} → TriedAt I G ps so co ts roots sizes nodes backs i r → r .none ≡ true → CutsTried I G ps so co ts roots sizes nodes backs k n tables true
+    pub cuts-not : {tables : List ℕ} (i : ℕ) → i < n → {r : Tried} → TriedAt I G ps so co ts roots sizes nodes backs i r → r .none ≡ true
+        → CutsTried I G ps so co ts roots sizes nodes backs k n tables true
     cuts-not i h t e = record {
       good = λ q. absurd (true≢false q);
       bad = λ q. (i, h, λ N w R. subst (λ (v : ℕ). ¬ IsCut N k v (copiesFrom nodes backs (stride * i) (getD sizes i 0))) (root-is i h) (t .none e N w R k));
@@ -80,7 +81,8 @@ module _ {I G : ℕ} {ps so co ts roots sizes nodes backs : List ℕ} where
 
     module _ (luts : List ℕ) where
       -- LUT i, whatever its lag
-      cut-at : (N : Net) (lags : List ℤ) (i : ℕ) → i < n → CutsRight N k (lutsIn (held roots sizes nodes backs lags luts) n) → IsCut N k (getD roots i 0) (copiesFrom nodes backs (stride * i) (getD sizes i 0))
+      cut-at : (N : Net) (lags : List ℤ) (i : ℕ) → i < n → CutsRight N k (lutsIn (held roots sizes nodes backs lags luts) n)
+          → IsCut N k (getD roots i 0) (copiesFrom nodes backs (stride * i) (getD sizes i 0))
       unfolding lutAt
       cut-at N lags i h c = c (lutAt (held roots sizes nodes backs lags luts) i) (in-lutsIn (held roots sizes nodes backs lags luts) n i h)
 
@@ -98,25 +100,31 @@ module _ {I G : ℕ} {ps so co ts roots sizes nodes backs : List ℕ} where
       told-no-cut s e = record { tells = λ N w t R A lags. let b = s .bad e in noCut refl (λ c. b .2 N w R (cut-at luts N lags (b .0) (b .1) c)) }
 
       table-right : AllGood I G ps so co ts roots sizes nodes backs k n found → (N : Net) → Wired N I G ps so co → Tabled N I G ts → Ranked N → Loopless N → (i : ℕ) → i < n
-          → (J : IsCut N k (getD roots i 0) (copiesFrom nodes backs (stride * i) (getD sizes i 0))) → getD found i 0 ≡ tableOf N (getD roots i 0) (J .cone) (copiesFrom nodes backs (stride * i) (getD sizes i 0))
+          → (J : IsCut N k (getD roots i 0) (copiesFrom nodes backs (stride * i) (getD sizes i 0))) → getD found i 0 ≡ tableOf N (getD roots i 0) (J .cone) (copiesFrom nodes backs (stride * i)
+          (getD sizes i 0))
       table-right s N w t R A i h J = moved (root-is i h) J
         where
-          moved : {v : ℕ} → I + (getD roots i 0 - I) ≡ v → (J : IsCut N k v (copiesFrom nodes backs (stride * i) (getD sizes i 0))) → getD found i 0 ≡ tableOf N v (J .cone) (copiesFrom nodes backs (stride * i) (getD sizes i 0))
-          moved e = subst (λ (v : ℕ). (J : IsCut N k v (copiesFrom nodes backs (stride * i) (getD sizes i 0))) → getD found i 0 ≡ tableOf N v (J .cone) (copiesFrom nodes backs (stride * i) (getD sizes i 0))) e
+          moved : {v : ℕ} → I + (getD roots i 0 - I) ≡ v → (J : IsCut N k v (copiesFrom nodes backs (stride * i) (getD sizes i 0)))
+              → getD found i 0 ≡ tableOf N v (J .cone) (copiesFrom nodes backs (stride * i) (getD sizes i 0))
+          moved e = subst (λ (v : ℕ). (J : IsCut N k v (copiesFrom nodes backs (stride * i) (getD sizes i 0))) → getD found i 0 ≡ tableOf N v (J .cone) (copiesFrom nodes backs (stride * i)
+              (getD sizes i 0))) e
               (λ K. s .each i h .table .table N w t R A k K)
 
       -- 15 fails
-      pub told-wrong : {b d : Bool} → CutsTried I G ps so co ts roots sizes nodes backs k n found b → b ≡ false → Compared luts found n d → d ≡ true → CutsTold I G ps so co ts roots sizes nodes backs luts k n 15
+      pub told-wrong : {b d : Bool} → CutsTried I G ps so co ts roots sizes nodes backs k n found b → b ≡ false → Compared luts found n d → d ≡ true
+          → CutsTold I G ps so co ts roots sizes nodes backs luts k n 15
       told-wrong s p d q = record { tells = λ N w t R A lags. wrong refl (all-cuts (s .good p) N w lags) (λ z. d .differ q (record { each = λ i h. same N w t R A lags z i h })) }
         where
-          same : (N : Net) → Wired N I G ps so co → Tabled N I G ts → Ranked N → Loopless N → (lags : List ℤ) → TablesRight N k (lutsIn (held roots sizes nodes backs lags luts) n) → (i : ℕ) → i < n → getD luts i 0 ≡ getD found i 0
+          same : (N : Net) → Wired N I G ps so co → Tabled N I G ts → Ranked N → Loopless N → (lags : List ℤ) → TablesRight N k (lutsIn (held roots sizes nodes backs lags luts) n) → (i : ℕ)
+              → i < n → getD luts i 0 ≡ getD found i 0
           same N w t R A lags z i h = at (z (lutAt (held roots sizes nodes backs lags luts) i) (in-lutsIn (held roots sizes nodes backs lags luts) n i h))
             where
               at : TableRight N k (lutAt (held roots sizes nodes backs lags luts) i) → getD luts i 0 ≡ getD found i 0
               at z = unfold lutAt in (z .table ∙ sym (table-right (s .good p) N w t R A i h (z .cut)))
 
       -- all are right
-      pub told-right : {b d : Bool} → CutsTried I G ps so co ts roots sizes nodes backs k n found b → b ≡ false → Compared luts found n d → d ≡ false → CutsTold I G ps so co ts roots sizes nodes backs luts k n 0
+      pub told-right : {b d : Bool} → CutsTried I G ps so co ts roots sizes nodes backs k n found b → b ≡ false → Compared luts found n d → d ≡ false
+          → CutsTold I G ps so co ts roots sizes nodes backs luts k n 0
       told-right s p d q = record { tells = λ N w t R A lags. right refl (all-cuts (s .good p) N w lags) (tables N w t R A lags) }
         where
           tables : (N : Net) → Wired N I G ps so co → Tabled N I G ts → Ranked N → Loopless N → (lags : List ℤ) → TablesRight N k (lutsIn (held roots sizes nodes backs lags luts) n)

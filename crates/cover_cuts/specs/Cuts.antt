@@ -7,7 +7,7 @@ use lib.IntN.{ℤ}
 use lib.ListN.{length, getD}
 use Rattle.net_model.specs.Net.{Net}
 use Rattle.net_model.specs.Checks.{Loopless}
-use Rattle.net_model.specs.Copies.{Copy, IsCut, Rising}
+use Rattle.net_model.specs.Copies.{IsCut, Rising}
 use Rattle.net_model.specs.Arrays.{stride, copiesFrom}
 use Rattle.net_model.specs.Wired.{Wired}
 use Rattle.cone_theory.specs.Ranks.{Ranked}

@@ -1,10 +1,10 @@
-// Checks 14 and 15 of a candidate's LUTs: leaves that are cuts of their roots, tables that are right.
+// Checks 14 and 15 of a candidate's LUTs: leaves that are cuts of their roots, tables that are right. The first bytes of work are the walk's table of marks: all 0 before and after.
 use cone_luts::try_row;
 use limits::LUTS;
-ghost use mathlib.Core.Path.{_≡_};
-ghost use Prim.Native.Nat.{ℕ, _+_, _*_, _≤_, _<_};
-ghost use lib.ListN.{length, getD};
-ghost use Rattle.limits.specs.Limits.{mostLuts};
+ghost use Prim.Native.Nat.{_+_, _≤_, _<_};
+ghost use lib.ListN.{length};
+ghost use Rattle.limits.specs.Limits.{mostLuts, mostTable};
+ghost use Rattle.cone_descent.specs.Descent.{Clear};
 ghost use Rattle.cover_cuts.specs.Cuts.{Cutting, CutsTried, Compared, CutsTold};
 
 // Whether some LUT's leaves are no cut. Where none are, right has the tables.
@@ -22,9 +22,12 @@ fn no_cuts(
     k: usize,
     n: usize,
     right: &mut [u64],
+    work: &mut [u8],
 ) -> bool
     requires { ⌜ Cutting inputs gates (now pins) (now sources) (now counts) (now tables) (now roots) (now sizes) (now nodes) (now backs) k n × (n ≤ mostLuts) × (n ≤ length (now right)) ⌝ }
+    requires { ⌜ (mostTable ≤ length (now work)) × Clear (now work) ⌝ }
     ensures { λ r. ⌜ CutsTried inputs gates (now (pins .entry)) (now (sources .entry)) (now (counts .entry)) (now (tables .entry)) (now (roots .entry)) (now (sizes .entry)) (now (nodes .entry)) (now (backs .entry)) k n (now (right .exit)) r ⌝ }
+    ensures { λ _. ⌜ Clear (now (work .exit)) ⌝ }
 {
     let mut i = 0;
     while i < n {
@@ -41,6 +44,7 @@ fn no_cuts(
             backs,
             i,
             g,
+            work,
         );
         if t.none {
             return true;
@@ -81,9 +85,12 @@ pub fn check_luts(
     luts: &[u64],
     k: usize,
     n: usize,
+    work: &mut [u8],
 ) -> usize
     requires { ⌜ Cutting inputs gates (now pins) (now sources) (now counts) (now tables) (now roots) (now sizes) (now nodes) (now backs) k n × (n ≤ mostLuts) × (n ≤ length (now luts)) ⌝ }
+    requires { ⌜ (mostTable ≤ length (now work)) × Clear (now work) ⌝ }
     ensures { λ r. ⌜ CutsTold inputs gates (now (pins .entry)) (now (sources .entry)) (now (counts .entry)) (now (tables .entry)) (now (roots .entry)) (now (sizes .entry)) (now (nodes .entry)) (now (backs .entry)) (now (luts .entry)) k n r ⌝ }
+    ensures { λ _. ⌜ Clear (now (work .exit)) ⌝ }
 {
     let mut right = [0u64; LUTS];
     let uncut = no_cuts(
@@ -100,6 +107,7 @@ pub fn check_luts(
         k,
         n,
         &mut right,
+        work,
     );
     let wrong = differ(luts, &right, n);
     if uncut {

@@ -11,7 +11,7 @@ use lib.Dec.{eqb}
 use lib.IntN.{ℤ, pos, _+ℤ_, _-ℤ_}
 use lib.ListN.{length, getD}
 use lib.Signed.{mag, _≤ℤ_}
-use Rattle.limits.specs.Limits.{mostInputs, mostGates}
+use Rattle.limits.specs.Limits.{mostInputs, mostGates, mostNodes}
 use Rattle.integers.specs.Parts.{ints, +-parts, sub-parts}
 use Rattle.sequences.specs.Member.{_∈_}
 use Rattle.net_model.specs.Net.{Net, Pin, size, IsGate}
@@ -25,7 +25,7 @@ use Rattle.cover_records.specs.Marking.{AllFed, EnoughRegisters, ShortChains}
 use Rattle.cover_records.specs.MarkingDecided.{shorter}
 use Rattle.cover_records.specs.Held.{Held, WellHeld, held, lutAt, lutsFrom, lutsIn}
 use Rattle.cover_records.specs.HeldLaws.{length-lutsIn, getD-lutsIn, lutsIn-in, in-lutsIn, root-lutAt, leaves-lutAt, lag-lutAt}
-use Rattle.cover_links.specs.LinkPlaces.{placeFrom, placeIn, Found, leafIn, LutsFed, OutputsFed, base, raise, raisedAt, levelOf, LutsEnough, OutputsEnough, LeafLong, LongAt, NoneLong, most, LutsJoined}
+use Rattle.cover_links.specs.LinkPlaces.{placeFrom, placeIn, Spotted, Found, leafIn, LutsFed, OutputsFed, base, raise, raisedAt, levelOf, LutsEnough, OutputsEnough, LeafLong, LongAt, NoneLong, most, LutsPlaced, LutsJoined}
 use Rattle.cover_links.specs.Links.{Linking, unfed, short, long, linked, LinksTold}
 use Rattle.cover_links.specs.LinkPlaceLaws.{lag-parts, level-input, level-gate}
 
@@ -85,9 +85,13 @@ pub wellHeld-wired : {I G k n : ℕ} (a : Held) → WellHeld I G k n a → I ≤
 wellHeld-wired a w i g k f = record {
   inputs = i;
   gates = g;
-  leafRoom = record { few = f; atRoots = w .atRoots; atSizes = w .atSizes; atNodes = w .atNodes; leaves = λ j h. let s = w .few j h in omega arith };
-  lagRoom = record { atRoots = w .atRoots; atLags = w .atLags; lag = w .lag };
+  few = f;
+  atRoots = w .atRoots;
+  atSizes = w .atSizes;
+  atNodes = w .atNodes;
   atBacks = w .atBacks;
+  leaves = λ j h. let s = w .few j h in omega arith;
+  lagRoom = record { atLags = w .atLags; lag = w .lag };
   low = w .low;
   high = w .high;
   node = w .node;
@@ -127,14 +131,28 @@ output-to c q s h = let v = lag-parts q s in omega (arith, ints, h, sub-parts (p
 output-from : (c : ℕ) (q : ℤ) → mag q ≤ 128 → raise q ≤ c + base → pos 0 ≤ℤ (pos c -ℤ q)
 output-from c q s h = let v = lag-parts q s in omega (arith, ints, h, sub-parts (pos c) q, v .0, v .1)
 
+-- the array by node has room for every node
+pub node-room : {I G : ℕ} {roots sizes nodes backs : List ℕ} {lags : List ℤ} {n l : ℕ} → LutsJoined I G roots sizes nodes backs lags n → l ≡ mostNodes → I + G ≤ l
+node-room w e = let a = w .inputs in let b = w .gates in omega arith
+
+-- what the functions ask of the arrays, with the array by node
+pub luts-placed : {I G : ℕ} {roots sizes nodes backs : List ℕ} {lags : List ℤ} {n : ℕ} (spots : List ℕ) → LutsJoined I G roots sizes nodes backs lags n → I + G ≤ length spots
+    → LutsPlaced spots sizes nodes backs lags n
+luts-placed spots w h = record {
+  leafRoom = record { few = w .few; atSizes = w .atSizes; atNodes = w .atNodes; leaves = w .leaves; node = λ i j a b. let c = w .node i j a b in omega arith };
+  lagRoom = w .lagRoom;
+  atBacks = w .atBacks;
+  back = w .back;
+}
+
 -- a source's lag: small, and the level when raised
-record Source (I : ℕ) (roots : List ℕ) (lags : List ℤ) (n u : ℕ) (q : ℤ) : Type 0 where
-  level : raise q ≡ levelOf I roots lags n u
+record Source (I : ℕ) (spots : List ℕ) (lags : List ℤ) (u : ℕ) (q : ℤ) : Type 0 where
+  level : raise q ≡ levelOf I spots lags u
   small : mag q ≤ 128
 
 module _
     {I G : ℕ} {outs delays : List ℕ} {O : ℕ} {roots sizes nodes backs : List ℕ} {lags : List ℤ} {n period : ℕ}
-    (p : Linking I G outs delays O roots sizes nodes backs lags n period)
+    (p : Linking I G outs delays O roots sizes nodes backs lags n period) {spots : List ℕ} (spotted : Spotted roots n spots) (room : I + G ≤ length spots)
     (N : Net) (inputs : N .inputs ≡ I) (all : size N ≡ I + G) (outputs : N .outputs ≡ pinsIn outs delays 0 O) (tables : List ℕ) where
   abbrev a : Held
   a = held roots sizes nodes backs lags tables
@@ -144,6 +162,16 @@ module _
 
   abbrev K : Cover
   K = asCover N es
+
+  -- the place by node is that of the definitions
+  place-is : (u : ℕ) → u < I + G → placeOf es u ≡ getD spots u 0
+  place-is u h = placeOf-lutsIn a n u ∙ sym (spotted .each u (omega arith))
+
+  spot-has : (u : ℕ) → u < I + G → getD spots u 0 < n → HasLut es u
+  spot-has u h k = found-has a n u (omega (arith, k, spotted .each u (omega arith)))
+
+  has-spot : (u : ℕ) → u < I + G → HasLut es u → getD spots u 0 < n
+  has-spot u h k = omega (arith, has-found a n u k, spotted .each u (omega arith))
 
   is-gate : (u : ℕ) → I ≤ u → u < I + G → IsGate N u
   is-gate u l h = record { low = omega arith; high = omega arith }
@@ -162,7 +190,7 @@ module _
       (subst (λ (x : ℕ). pinAt outs delays x ∈ pinsIn outs delays 0 O) (zero-add k) (in-pinsIn outs delays 0 O k h))
 
   -- 16
-  all-fed : LutsFed I roots sizes nodes n → OutputsFed I roots n outs O → AllFed N es
+  all-fed : LutsFed I spots sizes nodes n → OutputsFed I spots n outs O → AllFed N es
   all-fed f g = record { leaves = at-leaf; outputs = at-output }
     where
       at-leaf : (e : Entry) → e ∈ es → (y : Copy) → y ∈ e .leaves → IsGate N (y .node) → HasLut es (y .node)
@@ -170,21 +198,21 @@ module _
           let r = lutsIn-in a n e m in
           let s = in-leaf a (r .0) y (subst (λ (x : Entry). y ∈ x .leaves) (r .2) l) in
           let q : y .node ≡ leafIn nodes (r .0) (s .0) = ap (λ (x : Copy). x .node) (s .2) in
-          subst (HasLut es) (sym q) (found-has a n (leafIn nodes (r .0) (s .0)) (f (r .0) (r .1) (s .0) (s .1) (let b = gate-low t in omega arith)))
+          subst (HasLut es) (sym q) (spot-has (leafIn nodes (r .0) (s .0)) (p .luts .node (r .0) (s .0) (r .1) (s .1)) (f (r .0) (r .1) (s .0) (s .1) (let b = gate-low t in omega arith)))
 
       at-output : (o : Pin) → o ∈ N .outputs → IsGate N (o .src) → HasLut es (o .src)
       at-output o m t =
           let r = out-of o m in
           let q : o .src ≡ getD outs (r .0) 0 = ap (λ (x : Pin). x .src) (r .2) in
-          subst (HasLut es) (sym q) (found-has a n (getD outs (r .0) 0) (g (r .0) (r .1) (let b = gate-low t in omega arith)))
+          subst (HasLut es) (sym q) (spot-has (getD outs (r .0) 0) (p .out (r .0) (r .1)) (g (r .0) (r .1) (let b = gate-low t in omega arith)))
 
-  fed-luts : AllFed N es → LutsFed I roots sizes nodes n
+  fed-luts : AllFed N es → LutsFed I spots sizes nodes n
   fed-luts f i h j k l =
-      has-found a n (leafIn nodes i j)
+      has-spot (leafIn nodes i j) (p .luts .node i j h k)
       (f .leaves (lutAt a i) (in-lutsIn a n i h) (copyAt nodes backs (stride * i + j)) (leaf-in a i j k) (is-gate (leafIn nodes i j) l (p .luts .node i j h k)))
 
-  fed-outputs : AllFed N es → OutputsFed I roots n outs O
-  fed-outputs f o h l = has-found a n (getD outs o 0) (f .outputs (pinAt outs delays o) (of-out o h) (is-gate (getD outs o 0) l (p .out o h)))
+  fed-outputs : AllFed N es → OutputsFed I spots n outs O
+  fed-outputs f o h l = has-spot (getD outs o 0) (p .out o h) (f .outputs (pinAt outs delays o) (of-out o h) (is-gate (getD outs o 0) l (p .out o h)))
 
   -- the LUTs of the cover
   lut-at : (i : ℕ) → i < n → lut K i ≡ asLut (lutAt a i)
@@ -203,19 +231,19 @@ module _
   leaf-cover i j h k = subst (λ (x : Lut). copyAt nodes backs (stride * i + j) ∈ x .leaves) (sym (lut-at i h)) (leaf-in a i j k)
 
   -- the lag of a source found
-  source : (u : ℕ) → Found I roots n u → Source I roots lags n u (lagOf N K u (placeOf es u))
-  source u f = go (decLe I u)
+  source : (u : ℕ) → u < I + G → Found I spots n u → Source I spots lags u (lagOf N K u (placeOf es u))
+  source u b f = go (decLe I u)
     where
-      go : Dec (I ≤ u) → Source I roots lags n u (lagOf N K u (placeOf es u))
-      go (no k) = subst (Source I roots lags n u) (sym (ap (λ (b : Bool). cond b (pos 0) ((lut K (placeOf es u)) .lag)) (lt-ltb u (N .inputs) (omega (arith, inputs, k)))))
-          (record { level = level-input I roots lags n u (omega (arith, k)); small = omega arith })
+      go : Dec (I ≤ u) → Source I spots lags u (lagOf N K u (placeOf es u))
+      go (no k) = subst (Source I spots lags u) (sym (ap (λ (b : Bool). cond b (pos 0) ((lut K (placeOf es u)) .lag)) (lt-ltb u (N .inputs) (omega (arith, inputs, k)))))
+          (record { level = level-input I spots lags u (omega (arith, k)); small = omega arith })
       go (yes k) =
           let h = f k in
-          let e : lagOf N K u (placeOf es u) ≡ getD lags (placeIn roots n u) (pos 0) =
+          let e : lagOf N K u (placeOf es u) ≡ getD lags (getD spots u 0) (pos 0) =
           ap (λ (b : Bool). cond b (pos 0) ((lut K (placeOf es u)) .lag)) (le-ltb u (N .inputs) (omega (arith, inputs, k)))
-          ∙ ap (λ (x : ℕ). (lut K x) .lag) (placeOf-lutsIn a n u) ∙ lag-at (placeIn roots n u) h in
-          subst (Source I roots lags n u) (sym e)
-          (record { level = level-gate I roots lags n u (raisedAt lags (placeIn roots n u)) k refl; small = p .luts .lagRoom .lag (placeIn roots n u) h })
+          ∙ ap (λ (x : ℕ). (lut K x) .lag) (place-is u b) ∙ lag-at (getD spots u 0) h in
+          subst (Source I spots lags u) (sym e)
+          (record { level = level-gate I spots lags u (raisedAt lags (getD spots u 0)) k refl; small = p .luts .lagRoom .lag (getD spots u 0) h })
 
   -- the registers of leaf j of LUT i
   leaf-registers : (i j : ℕ) → i < n → registers N K i (copyAt nodes backs (stride * i + j))
@@ -231,11 +259,11 @@ module _
   output-registers o h = ap (λ (x : Pin). pos (x .count) -ℤ lagOf N K (x .src) (placeOf es (x .src))) (output-at o h)
 
   -- 17
-  module _ (f : LutsFed I roots sizes nodes n) where
-    leaf-source : (i j : ℕ) → i < n → j < getD sizes i 0 → Source I roots lags n (leafIn nodes i j) (lagOf N K (leafIn nodes i j) (placeOf es (leafIn nodes i j)))
-    leaf-source i j h k = source (leafIn nodes i j) (f i h j k)
+  module _ (f : LutsFed I spots sizes nodes n) where
+    leaf-source : (i j : ℕ) → i < n → j < getD sizes i 0 → Source I spots lags (leafIn nodes i j) (lagOf N K (leafIn nodes i j) (placeOf es (leafIn nodes i j)))
+    leaf-source i j h k = source (leafIn nodes i j) (p .luts .node i j h k) (f i h j k)
 
-    leaves-enough : LutsEnough I roots sizes nodes backs lags n → (i : ℕ) → i < length es → (y : Copy) → y ∈ (lut K i) .leaves → pos 0 ≤ℤ registers N K i y
+    leaves-enough : LutsEnough I spots sizes nodes backs lags n → (i : ℕ) → i < length es → (y : Copy) → y ∈ (lut K i) .leaves → pos 0 ≤ℤ registers N K i y
     leaves-enough e i l y m =
         let h = listed i l in
         let r = cover-leaf i h y m in
@@ -245,7 +273,7 @@ module _
         (enough-from (leafIn backs i (r .0)) (getD lags i (pos 0)) (lagOf N K (leafIn nodes i (r .0)) (placeOf es (leafIn nodes i (r .0)))) (p .luts .lagRoom .lag i h) (s .small)
         (omega (arith, s .level, v))))
 
-    enough-leaves : EnoughRegisters N es → LutsEnough I roots sizes nodes backs lags n
+    enough-leaves : EnoughRegisters N es → LutsEnough I spots sizes nodes backs lags n
     enough-leaves e i h j k =
         let s = leaf-source i j h k in
         let v = subst (λ (z : ℤ). pos 0 ≤ℤ z) (leaf-registers i j h) (e .leaves i (let l = length-lutsIn a n in omega arith) (copyAt nodes backs (stride * i + j)) (leaf-cover i j h k)) in
@@ -253,7 +281,7 @@ module _
         omega (arith, s .level, w)
 
     -- 18
-    chain-long : (m i : ℕ) → i < n → Chain N K i (suc m) → LongAt I roots sizes nodes backs lags n m i
+    chain-long : (m i : ℕ) → i < n → Chain N K i (suc m) → LongAt I spots sizes nodes backs lags m i
     unfolding LongAt
     chain-long zero i h c = tt
     chain-long (suc m) i h (one e) = absurd (never e)
@@ -262,8 +290,8 @@ module _
         never q = omega arith
     chain-long (suc m) i h (more y k b g r e c) = go (chain-long m)
       where
-        go : ((i : ℕ) → i < n → Chain N K i (suc m) → LongAt I roots sizes nodes backs lags n m i)
-            → (j : ℕ) × (j < getD sizes i 0) × LeafLong (LongAt I roots sizes nodes backs lags n m) I roots nodes backs lags n i j
+        go : ((i : ℕ) → i < n → Chain N K i (suc m) → LongAt I spots sizes nodes backs lags m i)
+            → (j : ℕ) × (j < getD sizes i 0) × LeafLong (LongAt I spots sizes nodes backs lags m) I spots nodes backs lags i j
         go rest =
             let t = cover-leaf i h y b in
             let j = t .0 in
@@ -272,32 +300,33 @@ module _
             let low : I ≤ leafIn nodes i j = let l = gate-low g in omega arith in
             let z = sym (leaf-registers i j h) ∙ subst (λ (x : Copy). registers N K i x ≡ pos 0) (t .2) r in
             let w = none-to (leafIn backs i j) (getD lags i (pos 0)) (lagOf N K (leafIn nodes i j) (placeOf es (leafIn nodes i j))) (p .luts .lagRoom .lag i h) (s .small) z in
-            let v = level-gate I roots lags n (leafIn nodes i j) (raisedAt lags (placeIn roots n (leafIn nodes i j))) low refl in
-            let x : placeOf es (y .node) ≡ placeIn roots n (leafIn nodes i j) = ap (placeOf es) u ∙ placeOf-lutsIn a n (leafIn nodes i j) in
+            let v = level-gate I spots lags (leafIn nodes i j) (raisedAt lags (getD spots (leafIn nodes i j) 0)) low refl in
+            let x : placeOf es (y .node) ≡ getD spots (leafIn nodes i j) 0 = ap (placeOf es) u ∙ place-is (leafIn nodes i j) (p .luts .node i j h (t .1)) in
             let d : k ≡ suc m = omega arith in (
               j,
               t .1,
               record {
                 gate = low;
                 joined = v ∙ sym (s .level) ∙ w;
-                feeder = rest (placeIn roots n (leafIn nodes i j)) (f i h j (t .1) low) (subst (λ (x : ℕ). Chain N K x (suc m)) x (subst (Chain N K (placeOf es (y .node))) d c));
+                feeder = rest (getD spots (leafIn nodes i j) 0) (f i h j (t .1) low) (subst (λ (x : ℕ). Chain N K x (suc m)) x (subst (Chain N K (placeOf es (y .node))) d c));
               },
             )
 
-    long-chain : (m i : ℕ) → i < n → LongAt I roots sizes nodes backs lags n m i → Chain N K i (suc m)
+    long-chain : (m i : ℕ) → i < n → LongAt I spots sizes nodes backs lags m i → Chain N K i (suc m)
     unfolding LongAt
     long-chain zero i h c = one refl
     long-chain (suc m) i h (j, k, l) = go (long-chain m)
       where
-        go : ((i : ℕ) → i < n → LongAt I roots sizes nodes backs lags n m i → Chain N K i (suc m)) → Chain N K i (suc (suc m))
+        go : ((i : ℕ) → i < n → LongAt I spots sizes nodes backs lags m i → Chain N K i (suc m)) → Chain N K i (suc (suc m))
         go rest =
             let s = leaf-source i j h k in
-            let v = level-gate I roots lags n (leafIn nodes i j) (raisedAt lags (placeIn roots n (leafIn nodes i j))) (l .gate) refl in
-            let w = none-from (leafIn backs i j) (getD lags i (pos 0)) (lagOf N K (leafIn nodes i j) (placeOf es (leafIn nodes i j))) (p .luts .lagRoom .lag i h) (s .small) (s .level ∙ sym v ∙ l .joined) in
+            let v = level-gate I spots lags (leafIn nodes i j) (raisedAt lags (getD spots (leafIn nodes i j) 0)) (l .gate) refl in
+            let w = none-from (leafIn backs i j) (getD lags i (pos 0)) (lagOf N K (leafIn nodes i j) (placeOf es (leafIn nodes i j))) (p .luts .lagRoom .lag i h) (s .small) (s .level ∙ sym v ∙ l
+            .joined) in
             more (copyAt nodes backs (stride * i + j)) (suc m) (leaf-cover i j h k) (is-gate (leafIn nodes i j) (l .gate) (p .luts .node i j h k)) (leaf-registers i j h ∙ w) refl
-            (subst (λ (x : ℕ). Chain N K x (suc m)) (sym (placeOf-lutsIn a n (leafIn nodes i j))) (rest (placeIn roots n (leafIn nodes i j)) (f i h j k (l .gate)) (l .feeder)))
+            (subst (λ (x : ℕ). Chain N K x (suc m)) (sym (place-is (leafIn nodes i j) (p .luts .node i j h k))) (rest (getD spots (leafIn nodes i j) 0) (f i h j k (l .gate)) (l .feeder)))
 
-    short-chains : NoneLong I roots sizes nodes backs lags n period → ShortChains N period es
+    short-chains : NoneLong I spots sizes nodes backs lags n period → ShortChains N period es
     short-chains e i m h c = go (decLe m period)
       where
         in-list : i < n
@@ -307,24 +336,24 @@ module _
         go (yes k) = k
         go (no k) = absurd (e i in-list (chain-long period i in-list (shorter N K period (omega arith) c)))
 
-    none-long : ShortChains N period es → NoneLong I roots sizes nodes backs lags n period
+    none-long : ShortChains N period es → NoneLong I spots sizes nodes backs lags n period
     none-long e i h c = self (e i (suc period) (let l = length-lutsIn a n in let q = luts-asCover N es in omega arith) (long-chain period i h c))
       where
         self : suc period ≤ period → ⊥
         self k = omega arith
 
-  module _ (g : OutputsFed I roots n outs O) where
-    outs-enough : OutputsEnough I roots lags n outs delays O → (o : ℕ) → o < length (N .outputs) → pos 0 ≤ℤ outputRegisters N K o
+  module _ (g : OutputsFed I spots n outs O) where
+    outs-enough : OutputsEnough I spots lags outs delays O → (o : ℕ) → o < length (N .outputs) → pos 0 ≤ℤ outputRegisters N K o
     outs-enough e o l =
         let h : o < O = let k = ap length outputs in let q = length-pinsIn outs delays 0 O in omega arith in
-        let s = source (getD outs o 0) (g o h) in
+        let s = source (getD outs o 0) (p .out o h) (g o h) in
         let v = e o h in
         subst (λ (z : ℤ). pos 0 ≤ℤ z) (sym (output-registers o h))
         (output-from (getD delays o 0) (lagOf N K (getD outs o 0) (placeOf es (getD outs o 0))) (s .small) (omega (arith, s .level, v)))
 
-    enough-outs : EnoughRegisters N es → OutputsEnough I roots lags n outs delays O
+    enough-outs : EnoughRegisters N es → OutputsEnough I spots lags outs delays O
     enough-outs e o h =
-        let s = source (getD outs o 0) (g o h) in
+        let s = source (getD outs o 0) (p .out o h) (g o h) in
         let v = subst (λ (z : ℤ). pos 0 ≤ℤ z) (output-registers o h) (e .outputs o (let k = ap length outputs in let q = length-pinsIn outs delays 0 O in omega arith)) in
         let w = output-to (getD delays o 0) (lagOf N K (getD outs o 0) (placeOf es (getD outs o 0))) (s .small) v in
         omega (arith, s .level, w)
@@ -333,27 +362,27 @@ module _
 
 module _
     {I G : ℕ} {outs delays : List ℕ} {O : ℕ} {roots sizes nodes backs : List ℕ} {lags : List ℤ} {n period : ℕ}
-    (p : Linking I G outs delays O roots sizes nodes backs lags n period) where
-  pub told-unfed-leaf : ¬ LutsFed I roots sizes nodes n → LinksTold I G outs delays O roots sizes nodes backs lags n period 16
-  told-unfed-leaf f = record { tells = λ N i s o t. unfed refl (λ x. f (fed-luts p N i s o t x)) }
+    (p : Linking I G outs delays O roots sizes nodes backs lags n period) {spots : List ℕ} (spotted : Spotted roots n spots) (room : I + G ≤ length spots) where
+  pub told-unfed-leaf : ¬ LutsFed I spots sizes nodes n → LinksTold I G outs delays O roots sizes nodes backs lags n period 16
+  told-unfed-leaf f = record { tells = λ N i s o t. unfed refl (λ x. f (fed-luts p spotted room N i s o t x)) }
 
-  pub told-unfed-output : ¬ OutputsFed I roots n outs O → LinksTold I G outs delays O roots sizes nodes backs lags n period 16
-  told-unfed-output f = record { tells = λ N i s o t. unfed refl (λ x. f (fed-outputs p N i s o t x)) }
+  pub told-unfed-output : ¬ OutputsFed I spots n outs O → LinksTold I G outs delays O roots sizes nodes backs lags n period 16
+  told-unfed-output f = record { tells = λ N i s o t. unfed refl (λ x. f (fed-outputs p spotted room N i s o t x)) }
 
-  module _ (f : LutsFed I roots sizes nodes n) (g : OutputsFed I roots n outs O) where
-    pub told-short-leaf : ¬ LutsEnough I roots sizes nodes backs lags n → LinksTold I G outs delays O roots sizes nodes backs lags n period 17
-    told-short-leaf e = record { tells = λ N i s o t. short refl (all-fed p N i s o t f g) (λ x. e (enough-leaves p N i s o t f x)) }
+  module _ (f : LutsFed I spots sizes nodes n) (g : OutputsFed I spots n outs O) where
+    pub told-short-leaf : ¬ LutsEnough I spots sizes nodes backs lags n → LinksTold I G outs delays O roots sizes nodes backs lags n period 17
+    told-short-leaf e = record { tells = λ N i s o t. short refl (all-fed p spotted room N i s o t f g) (λ x. e (enough-leaves p spotted room N i s o t f x)) }
 
-    pub told-short-output : ¬ OutputsEnough I roots lags n outs delays O → LinksTold I G outs delays O roots sizes nodes backs lags n period 17
-    told-short-output e = record { tells = λ N i s o t. short refl (all-fed p N i s o t f g) (λ x. e (enough-outs p N i s o t g x)) }
+    pub told-short-output : ¬ OutputsEnough I spots lags outs delays O → LinksTold I G outs delays O roots sizes nodes backs lags n period 17
+    told-short-output e = record { tells = λ N i s o t. short refl (all-fed p spotted room N i s o t f g) (λ x. e (enough-outs p spotted room N i s o t g x)) }
 
-    module _ (d : LutsEnough I roots sizes nodes backs lags n) (e : OutputsEnough I roots lags n outs delays O) where
+    module _ (d : LutsEnough I spots sizes nodes backs lags n) (e : OutputsEnough I spots lags outs delays O) where
       enough : (N : Net) → N .inputs ≡ I → size N ≡ I + G → N .outputs ≡ pinsIn outs delays 0 O → (tables : List ℕ)
           → EnoughRegisters N (lutsIn (held roots sizes nodes backs lags tables) n)
-      enough N i s o t = record { leaves = leaves-enough p N i s o t f d; outputs = outs-enough p N i s o t g e }
+      enough N i s o t = record { leaves = leaves-enough p spotted room N i s o t f d; outputs = outs-enough p spotted room N i s o t g e }
 
-      pub told-long : ¬ NoneLong I roots sizes nodes backs lags n period → LinksTold I G outs delays O roots sizes nodes backs lags n period 18
-      told-long c = record { tells = λ N i s o t. long refl (all-fed p N i s o t f g) (enough N i s o t) (λ x. c (none-long p N i s o t f x)) }
+      pub told-long : ¬ NoneLong I spots sizes nodes backs lags n period → LinksTold I G outs delays O roots sizes nodes backs lags n period 18
+      told-long c = record { tells = λ N i s o t. long refl (all-fed p spotted room N i s o t f g) (enough N i s o t) (λ x. c (none-long p spotted room N i s o t f x)) }
 
-      pub told-linked : NoneLong I roots sizes nodes backs lags n period → LinksTold I G outs delays O roots sizes nodes backs lags n period 0
-      told-linked c = record { tells = λ N i s o t. linked refl (all-fed p N i s o t f g) (enough N i s o t) (short-chains p N i s o t f c) }
+      pub told-linked : NoneLong I spots sizes nodes backs lags n period → LinksTold I G outs delays O roots sizes nodes backs lags n period 0
+      told-linked c = record { tells = λ N i s o t. linked refl (all-fed p spotted room N i s o t f g) (enough N i s o t) (short-chains p spotted room N i s o t f c) }

@@ -1,59 +1,59 @@
-// Checks 16, 17 and 18 for LUTs kept in arrays: LUT i has its leaves from place 6i on.
+// Checks 16, 17 and 18 for LUTs kept in arrays: LUT i has its leaves from place 6i on. The LUT of a node is found in an array by node, made once.
 use limits::LUTS;
+use limits::NODES;
 use limits::PINS;
 ghost use mathlib.Core.Path.{_≡_};
 ghost use Prim.Native.Nat.{ℕ, _+_, _*_, _≤_, _<_};
 ghost use lib.IntN.{pos};
 ghost use lib.ListN.{length, getD};
 ghost use lib.Signed.{mag};
-ghost use Rattle.limits.specs.Limits.{mostCount, mostPeriod};
+ghost use Rattle.limits.specs.Limits.{mostCount, mostNodes, mostPeriod};
 ghost use Rattle.net_model.specs.Arrays.{stride};
 ghost use Rattle.sequences.specs.Tests.{Tells};
-ghost use Rattle.cover_links.specs.LinkPlaces.{placeIn, Found, LutFed, LutsFed, OutputsFed, raisedAt, levelOf, LeafEnough, LutEnough, LutsEnough, OutputEnough, OutputsEnough, LeafLong, LutLong, LongAt, NoneLong, Marked, Marks, most, LeafRoom, LagRoom, LeafAsked, LutsJoined};
+ghost use Rattle.cover_links.specs.LinkPlaces.{Spotted, Found, LutFed, LutsFed, OutputsFed, raisedAt, levelOf, LeafEnough, LutEnough, LutsEnough, OutputEnough, OutputsEnough, LeafLong, LutLong, LongAt, NoneLong, Marked, Marks, Same, most, LeafRoom, LagRoom, LeafAsked, LutsPlaced};
 ghost use Rattle.cover_links.specs.Links.{Linking, LinksTold};
 
-// The place of the first of n LUTs with root u, or n.
-fn place_of(roots: &[usize], n: usize, u: usize) -> usize
-    requires { ⌜ n ≤ length (now roots) ⌝ }
-    ensures { λ r. ⌜ r ≡ placeIn (now (roots .entry)) n u ⌝ }
+// The place of each node's LUT, by node; n where there is none.
+fn places(roots: &[usize], n: usize) -> [usize; NODES]
+    requires { ⌜ (n ≤ length (now roots)) × ((i : ℕ) → i < n → getD (now roots) i 0 < mostNodes) ⌝ }
+    ensures { λ r. ⌜ (length r ≡ mostNodes) × Spotted (now (roots .entry)) n r ⌝ }
 {
-    let mut i = 0;
-    while i < n {
-        if roots[i] == u {
-            return i;
-        }
-        i += 1;
+    let mut spots = [n; NODES];
+    let mut i = n;
+    while 0 < i {
+        i -= 1;
+        spots[roots[i]] = i;
     }
-    n
+    spots
 }
 
 // Whether node u is an input or has a LUT.
-fn is_fed(inputs: usize, roots: &[usize], n: usize, u: usize) -> bool
-    requires { ⌜ n ≤ length (now roots) ⌝ }
-    ensures { λ r. ⌜ Tells r (Found inputs (now (roots .entry)) n u) ⌝ }
+fn is_fed(inputs: usize, spots: &[usize], n: usize, u: usize) -> bool
+    requires { ⌜ u < length (now spots) ⌝ }
+    ensures { λ r. ⌜ Tells r (Found inputs (now (spots .entry)) n u) ⌝ }
 {
     if u < inputs {
         return true;
     }
-    place_of(roots, n, u) < n
+    spots[u] < n
 }
 
 // Whether each leaf of LUT i is an input or has a LUT.
 fn lut_fed(
     inputs: usize,
-    roots: &[usize],
+    spots: &[usize],
     sizes: &[usize],
     nodes: &[usize],
     n: usize,
     i: usize,
 ) -> bool
-    requires { ⌜ LeafRoom (now roots) (now sizes) (now nodes) n × (i < n) ⌝ }
-    ensures { λ r. ⌜ Tells r (LutFed inputs (now (roots .entry)) (now (sizes .entry)) (now (nodes .entry)) n i) ⌝ }
+    requires { ⌜ LeafRoom (now spots) (now sizes) (now nodes) n × (i < n) ⌝ }
+    ensures { λ r. ⌜ Tells r (LutFed inputs (now (spots .entry)) (now (sizes .entry)) (now (nodes .entry)) n i) ⌝ }
 {
     let m = sizes[i];
     let mut j = 0;
     while j < m {
-        if !is_fed(inputs, roots, n, nodes[PINS * i + j]) {
+        if !is_fed(inputs, spots, n, nodes[PINS * i + j]) {
             return false;
         }
         j += 1;
@@ -62,13 +62,13 @@ fn lut_fed(
 }
 
 // Whether each leaf of each LUT is an input or has a LUT.
-fn luts_fed(inputs: usize, roots: &[usize], sizes: &[usize], nodes: &[usize], n: usize) -> bool
-    requires { ⌜ LeafRoom (now roots) (now sizes) (now nodes) n ⌝ }
-    ensures { λ r. ⌜ Tells r (LutsFed inputs (now (roots .entry)) (now (sizes .entry)) (now (nodes .entry)) n) ⌝ }
+fn luts_fed(inputs: usize, spots: &[usize], sizes: &[usize], nodes: &[usize], n: usize) -> bool
+    requires { ⌜ LeafRoom (now spots) (now sizes) (now nodes) n ⌝ }
+    ensures { λ r. ⌜ Tells r (LutsFed inputs (now (spots .entry)) (now (sizes .entry)) (now (nodes .entry)) n) ⌝ }
 {
     let mut i = 0;
     while i < n {
-        if !lut_fed(inputs, roots, sizes, nodes, n, i) {
+        if !lut_fed(inputs, spots, sizes, nodes, n, i) {
             return false;
         }
         i += 1;
@@ -77,13 +77,13 @@ fn luts_fed(inputs: usize, roots: &[usize], sizes: &[usize], nodes: &[usize], n:
 }
 
 // Whether each output's source is an input or has a LUT.
-fn outputs_fed(inputs: usize, roots: &[usize], n: usize, outs: &[usize], outputs: usize) -> bool
-    requires { ⌜ (n ≤ length (now roots)) × (outputs ≤ length (now outs)) ⌝ }
-    ensures { λ r. ⌜ Tells r (OutputsFed inputs (now (roots .entry)) n (now (outs .entry)) outputs) ⌝ }
+fn outputs_fed(inputs: usize, spots: &[usize], n: usize, outs: &[usize], outputs: usize) -> bool
+    requires { ⌜ (outputs ≤ length (now outs)) × ((o : ℕ) → o < outputs → getD (now outs) o 0 < length (now spots)) ⌝ }
+    ensures { λ r. ⌜ Tells r (OutputsFed inputs (now (spots .entry)) n (now (outs .entry)) outputs) ⌝ }
 {
     let mut o = 0;
     while o < outputs {
-        if !is_fed(inputs, roots, n, outs[o]) {
+        if !is_fed(inputs, spots, n, outs[o]) {
             return false;
         }
         o += 1;
@@ -100,21 +100,21 @@ fn raised(lags: &[i64], i: usize) -> usize
 }
 
 // The lag of node u, raised by 256.
-fn level_of(inputs: usize, roots: &[usize], lags: &[i64], n: usize, u: usize) -> usize
-    requires { ⌜ LagRoom (now roots) (now lags) n × Found inputs (now roots) n u ⌝ }
-    ensures { λ r. ⌜ r ≡ levelOf inputs (now (roots .entry)) (now (lags .entry)) n u ⌝ }
+fn level_of(inputs: usize, spots: &[usize], lags: &[i64], n: usize, u: usize) -> usize
+    requires { ⌜ LagRoom (now lags) n × Found inputs (now spots) n u × (u < length (now spots)) ⌝ }
+    ensures { λ r. ⌜ r ≡ levelOf inputs (now (spots .entry)) (now (lags .entry)) u ⌝ }
 {
     if u < inputs {
         return 256;
     }
-    let at = place_of(roots, n, u);
+    let at = spots[u];
     raised(lags, at)
 }
 
 // Whether leaf j of LUT i has 0 registers or more.
 fn leaf_enough(
     inputs: usize,
-    roots: &[usize],
+    spots: &[usize],
     nodes: &[usize],
     backs: &[usize],
     lags: &[i64],
@@ -122,20 +122,19 @@ fn leaf_enough(
     i: usize,
     j: usize,
 ) -> bool
-    requires { ⌜ LagRoom (now roots) (now lags) n × (i < n) × (n ≤ most) × (j < stride) ⌝ }
-    requires { ⌜ LeafAsked inputs (now roots) (now nodes) (now backs) n i j ⌝ }
-    ensures { λ r. ⌜ Tells r (LeafEnough inputs (now (roots .entry)) (now (nodes .entry)) (now (backs .entry)) (now (lags .entry)) n i j) ⌝ }
+    requires { ⌜ LagRoom (now lags) n × (i < n) × (n ≤ most) × (j < stride) ⌝ }
+    requires { ⌜ LeafAsked inputs (now spots) (now nodes) (now backs) n i j ⌝ }
+    ensures { λ r. ⌜ Tells r (LeafEnough inputs (now (spots .entry)) (now (nodes .entry)) (now (backs .entry)) (now (lags .entry)) i j) ⌝ }
 {
     let at = PINS * i + j;
-    let level = level_of(inputs, roots, lags, n, nodes[at]);
+    let level = level_of(inputs, spots, lags, n, nodes[at]);
     level <= backs[at] + raised(lags, i)
 }
 
 // Whether each leaf of LUT i has 0 registers or more.
 fn lut_enough(
     inputs: usize,
-    gates: usize,
-    roots: &[usize],
+    spots: &[usize],
     sizes: &[usize],
     nodes: &[usize],
     backs: &[usize],
@@ -143,14 +142,14 @@ fn lut_enough(
     n: usize,
     i: usize,
 ) -> bool
-    requires { ⌜ LutsJoined inputs gates (now roots) (now sizes) (now nodes) (now backs) (now lags) n × (i < n) ⌝ }
-    requires { ⌜ LutsFed inputs (now roots) (now sizes) (now nodes) n ⌝ }
-    ensures { λ r. ⌜ Tells r (LutEnough inputs (now (roots .entry)) (now (sizes .entry)) (now (nodes .entry)) (now (backs .entry)) (now (lags .entry)) n i) ⌝ }
+    requires { ⌜ LutsPlaced (now spots) (now sizes) (now nodes) (now backs) (now lags) n × (i < n) ⌝ }
+    requires { ⌜ LutsFed inputs (now spots) (now sizes) (now nodes) n ⌝ }
+    ensures { λ r. ⌜ Tells r (LutEnough inputs (now (spots .entry)) (now (sizes .entry)) (now (nodes .entry)) (now (backs .entry)) (now (lags .entry)) i) ⌝ }
 {
     let m = sizes[i];
     let mut j = 0;
     while j < m {
-        if !leaf_enough(inputs, roots, nodes, backs, lags, n, i, j) {
+        if !leaf_enough(inputs, spots, nodes, backs, lags, n, i, j) {
             return false;
         }
         j += 1;
@@ -161,21 +160,20 @@ fn lut_enough(
 // Whether each leaf of each LUT has 0 registers or more.
 fn luts_enough(
     inputs: usize,
-    gates: usize,
-    roots: &[usize],
+    spots: &[usize],
     sizes: &[usize],
     nodes: &[usize],
     backs: &[usize],
     lags: &[i64],
     n: usize,
 ) -> bool
-    requires { ⌜ LutsJoined inputs gates (now roots) (now sizes) (now nodes) (now backs) (now lags) n ⌝ }
-    requires { ⌜ LutsFed inputs (now roots) (now sizes) (now nodes) n ⌝ }
-    ensures { λ r. ⌜ Tells r (LutsEnough inputs (now (roots .entry)) (now (sizes .entry)) (now (nodes .entry)) (now (backs .entry)) (now (lags .entry)) n) ⌝ }
+    requires { ⌜ LutsPlaced (now spots) (now sizes) (now nodes) (now backs) (now lags) n ⌝ }
+    requires { ⌜ LutsFed inputs (now spots) (now sizes) (now nodes) n ⌝ }
+    ensures { λ r. ⌜ Tells r (LutsEnough inputs (now (spots .entry)) (now (sizes .entry)) (now (nodes .entry)) (now (backs .entry)) (now (lags .entry)) n) ⌝ }
 {
     let mut i = 0;
     while i < n {
-        if !lut_enough(inputs, gates, roots, sizes, nodes, backs, lags, n, i) {
+        if !lut_enough(inputs, spots, sizes, nodes, backs, lags, n, i) {
             return false;
         }
         i += 1;
@@ -186,38 +184,38 @@ fn luts_enough(
 // Whether an output with this source and delay has 0 registers or more.
 fn output_enough(
     inputs: usize,
-    roots: &[usize],
+    spots: &[usize],
     lags: &[i64],
     n: usize,
     outs: &[usize],
     delays: &[usize],
     o: usize,
 ) -> bool
-    requires { ⌜ LagRoom (now roots) (now lags) n × (o < length (now outs)) × (o < length (now delays)) × (getD (now delays) o 0 ≤ mostCount) × Found inputs (now roots) n (getD (now outs) o 0) ⌝ }
-    ensures { λ r. ⌜ Tells r (OutputEnough inputs (now (roots .entry)) (now (lags .entry)) n (now (outs .entry)) (now (delays .entry)) o) ⌝ }
+    requires { ⌜ LagRoom (now lags) n × (o < length (now outs)) × (o < length (now delays)) × (getD (now delays) o 0 ≤ mostCount) × Found inputs (now spots) n (getD (now outs) o 0) × (getD (now outs) o 0 < length (now spots)) ⌝ }
+    ensures { λ r. ⌜ Tells r (OutputEnough inputs (now (spots .entry)) (now (lags .entry)) (now (outs .entry)) (now (delays .entry)) o) ⌝ }
 {
-    let level = level_of(inputs, roots, lags, n, outs[o]);
+    let level = level_of(inputs, spots, lags, n, outs[o]);
     level <= delays[o] + 256
 }
 
 // Whether each output has 0 registers or more.
 fn outputs_enough(
     inputs: usize,
-    roots: &[usize],
+    spots: &[usize],
     lags: &[i64],
     n: usize,
     outs: &[usize],
     delays: &[usize],
     outputs: usize,
 ) -> bool
-    requires { ⌜ LagRoom (now roots) (now lags) n × (outputs ≤ length (now outs)) × (outputs ≤ length (now delays)) ⌝ }
+    requires { ⌜ LagRoom (now lags) n × (outputs ≤ length (now outs)) × (outputs ≤ length (now delays)) × ((o : ℕ) → o < outputs → getD (now outs) o 0 < length (now spots)) ⌝ }
     requires { ⌜ ((o : ℕ) → o < outputs → getD (now delays) o 0 ≤ mostCount) ⌝ }
-    requires { ⌜ OutputsFed inputs (now roots) n (now outs) outputs ⌝ }
-    ensures { λ r. ⌜ Tells r (OutputsEnough inputs (now (roots .entry)) (now (lags .entry)) n (now (outs .entry)) (now (delays .entry)) outputs) ⌝ }
+    requires { ⌜ OutputsFed inputs (now spots) n (now outs) outputs ⌝ }
+    ensures { λ r. ⌜ Tells r (OutputsEnough inputs (now (spots .entry)) (now (lags .entry)) (now (outs .entry)) (now (delays .entry)) outputs) ⌝ }
 {
     let mut o = 0;
     while o < outputs {
-        if !output_enough(inputs, roots, lags, n, outs, delays, o) {
+        if !output_enough(inputs, spots, lags, n, outs, delays, o) {
             return false;
         }
         o += 1;
@@ -228,7 +226,7 @@ fn outputs_enough(
 // Whether leaf j of LUT i is a gate, joined with 0 registers, whose LUT is marked.
 fn leaf_long(
     inputs: usize,
-    roots: &[usize],
+    spots: &[usize],
     nodes: &[usize],
     backs: &[usize],
     lags: &[i64],
@@ -237,16 +235,16 @@ fn leaf_long(
     j: usize,
     ends: &[usize],
 ) -> bool
-    requires { ⌜ LagRoom (now roots) (now lags) n × (i < n) × (n ≤ most) × (j < stride) × (n ≤ length (now ends)) ⌝ }
-    requires { ⌜ LeafAsked inputs (now roots) (now nodes) (now backs) n i j ⌝ }
-    ensures { λ r. ⌜ Tells r (LeafLong (Marked (now (ends .entry))) inputs (now (roots .entry)) (now (nodes .entry)) (now (backs .entry)) (now (lags .entry)) n i j) ⌝ }
+    requires { ⌜ LagRoom (now lags) n × (i < n) × (n ≤ most) × (j < stride) × (n ≤ length (now ends)) ⌝ }
+    requires { ⌜ LeafAsked inputs (now spots) (now nodes) (now backs) n i j ⌝ }
+    ensures { λ r. ⌜ Tells r (LeafLong (Marked (now (ends .entry))) inputs (now (spots .entry)) (now (nodes .entry)) (now (backs .entry)) (now (lags .entry)) i j) ⌝ }
 {
     let at = PINS * i + j;
     let u = nodes[at];
     if u < inputs {
         return false;
     }
-    let k = place_of(roots, n, u);
+    let k = spots[u];
     if ends[k] == 0 {
         return false;
     }
@@ -256,8 +254,7 @@ fn leaf_long(
 // Whether LUT i has such a leaf.
 fn lut_long(
     inputs: usize,
-    gates: usize,
-    roots: &[usize],
+    spots: &[usize],
     sizes: &[usize],
     nodes: &[usize],
     backs: &[usize],
@@ -266,14 +263,14 @@ fn lut_long(
     i: usize,
     ends: &[usize],
 ) -> bool
-    requires { ⌜ LutsJoined inputs gates (now roots) (now sizes) (now nodes) (now backs) (now lags) n × (i < n) × (n ≤ length (now ends)) ⌝ }
-    requires { ⌜ LutsFed inputs (now roots) (now sizes) (now nodes) n ⌝ }
-    ensures { λ r. ⌜ Tells r (LutLong (Marked (now (ends .entry))) inputs (now (roots .entry)) (now (sizes .entry)) (now (nodes .entry)) (now (backs .entry)) (now (lags .entry)) n i) ⌝ }
+    requires { ⌜ LutsPlaced (now spots) (now sizes) (now nodes) (now backs) (now lags) n × (i < n) × (n ≤ length (now ends)) ⌝ }
+    requires { ⌜ LutsFed inputs (now spots) (now sizes) (now nodes) n ⌝ }
+    ensures { λ r. ⌜ Tells r (LutLong (Marked (now (ends .entry))) inputs (now (spots .entry)) (now (sizes .entry)) (now (nodes .entry)) (now (backs .entry)) (now (lags .entry)) i) ⌝ }
 {
     let m = sizes[i];
     let mut j = 0;
     while j < m {
-        if leaf_long(inputs, roots, nodes, backs, lags, n, i, j, ends) {
+        if leaf_long(inputs, spots, nodes, backs, lags, n, i, j, ends) {
             return true;
         }
         j += 1;
@@ -284,8 +281,7 @@ fn lut_long(
 // 1 where LUT i has such a leaf, else 0.
 fn lut_mark(
     inputs: usize,
-    gates: usize,
-    roots: &[usize],
+    spots: &[usize],
     sizes: &[usize],
     nodes: &[usize],
     backs: &[usize],
@@ -294,11 +290,11 @@ fn lut_mark(
     i: usize,
     ends: &[usize],
 ) -> usize
-    requires { ⌜ LutsJoined inputs gates (now roots) (now sizes) (now nodes) (now backs) (now lags) n × (i < n) × (n ≤ length (now ends)) ⌝ }
-    requires { ⌜ LutsFed inputs (now roots) (now sizes) (now nodes) n ⌝ }
-    ensures { λ r. ⌜ Marks r (LutLong (Marked (now (ends .entry))) inputs (now (roots .entry)) (now (sizes .entry)) (now (nodes .entry)) (now (backs .entry)) (now (lags .entry)) n i) ⌝ }
+    requires { ⌜ LutsPlaced (now spots) (now sizes) (now nodes) (now backs) (now lags) n × (i < n) × (n ≤ length (now ends)) ⌝ }
+    requires { ⌜ LutsFed inputs (now spots) (now sizes) (now nodes) n ⌝ }
+    ensures { λ r. ⌜ Marks r (LutLong (Marked (now (ends .entry))) inputs (now (spots .entry)) (now (sizes .entry)) (now (nodes .entry)) (now (backs .entry)) (now (lags .entry)) i) ⌝ }
 {
-    if lut_long(inputs, gates, roots, sizes, nodes, backs, lags, n, i, ends) {
+    if lut_long(inputs, spots, sizes, nodes, backs, lags, n, i, ends) {
         return 1;
     }
     0
@@ -307,8 +303,7 @@ fn lut_mark(
 // One round: a LUT's next mark from the marks of the LUTs that feed it without registers.
 fn round(
     inputs: usize,
-    gates: usize,
-    roots: &[usize],
+    spots: &[usize],
     sizes: &[usize],
     nodes: &[usize],
     backs: &[usize],
@@ -316,24 +311,38 @@ fn round(
     n: usize,
     ends: &[usize],
 ) -> [usize; LUTS]
-    requires { ⌜ LutsJoined inputs gates (now roots) (now sizes) (now nodes) (now backs) (now lags) n × (n ≤ length (now ends)) ⌝ }
-    requires { ⌜ LutsFed inputs (now roots) (now sizes) (now nodes) n ⌝ }
-    ensures { λ r. ⌜ (length r ≡ most) × ((i : ℕ) → i < n → Marks (getD r i 0) (LutLong (Marked (now (ends .entry))) inputs (now (roots .entry)) (now (sizes .entry)) (now (nodes .entry)) (now (backs .entry)) (now (lags .entry)) n i)) ⌝ }
+    requires { ⌜ LutsPlaced (now spots) (now sizes) (now nodes) (now backs) (now lags) n × (n ≤ length (now ends)) ⌝ }
+    requires { ⌜ LutsFed inputs (now spots) (now sizes) (now nodes) n ⌝ }
+    ensures { λ r. ⌜ (length r ≡ most) × ((i : ℕ) → i < n → Marks (getD r i 0) (LutLong (Marked (now (ends .entry))) inputs (now (spots .entry)) (now (sizes .entry)) (now (nodes .entry)) (now (backs .entry)) (now (lags .entry)) i)) ⌝ }
 {
     let mut next = [0usize; LUTS];
     let mut i = 0;
     while i < n {
-        next[i] = lut_mark(inputs, gates, roots, sizes, nodes, backs, lags, n, i, ends);
+        next[i] = lut_mark(inputs, spots, sizes, nodes, backs, lags, n, i, ends);
         i += 1;
     }
     next
 }
 
-// The marks of the LUTs that end a chain of period + 1 LUTs. All end a chain of 1 LUT, and a round asks for one LUT more.
+// Whether the first n marks are the same.
+fn same(a: &[usize], b: &[usize], n: usize) -> bool
+    requires { ⌜ (n ≤ length (now a)) × (n ≤ length (now b)) ⌝ }
+    ensures { λ r. ⌜ Tells r (Same (now (a .entry)) (now (b .entry)) n) ⌝ }
+{
+    let mut i = 0;
+    while i < n {
+        if a[i] != b[i] {
+            return false;
+        }
+        i += 1;
+    }
+    true
+}
+
+// The marks of the LUTs that end a chain of period + 1 LUTs. All end a chain of 1 LUT, and a round asks for one LUT more; marks that a round leaves as they are stay so.
 fn rounds(
     inputs: usize,
-    gates: usize,
-    roots: &[usize],
+    spots: &[usize],
     sizes: &[usize],
     nodes: &[usize],
     backs: &[usize],
@@ -341,14 +350,18 @@ fn rounds(
     n: usize,
     period: usize,
 ) -> [usize; LUTS]
-    requires { ⌜ LutsJoined inputs gates (now roots) (now sizes) (now nodes) (now backs) (now lags) n × (period ≤ mostPeriod) ⌝ }
-    requires { ⌜ LutsFed inputs (now roots) (now sizes) (now nodes) n ⌝ }
-    ensures { λ r. ⌜ (length r ≡ most) × ((i : ℕ) → i < n → Marks (getD r i 0) (LongAt inputs (now (roots .entry)) (now (sizes .entry)) (now (nodes .entry)) (now (backs .entry)) (now (lags .entry)) n period i)) ⌝ }
+    requires { ⌜ LutsPlaced (now spots) (now sizes) (now nodes) (now backs) (now lags) n × (period ≤ mostPeriod) ⌝ }
+    requires { ⌜ LutsFed inputs (now spots) (now sizes) (now nodes) n ⌝ }
+    ensures { λ r. ⌜ (length r ≡ most) × ((i : ℕ) → i < n → Marks (getD r i 0) (LongAt inputs (now (spots .entry)) (now (sizes .entry)) (now (nodes .entry)) (now (backs .entry)) (now (lags .entry)) period i)) ⌝ }
 {
     let mut ends = [1usize; LUTS];
     let mut luts = 1;
     while luts <= period {
-        ends = round(inputs, gates, roots, sizes, nodes, backs, lags, n, &ends);
+        let next = round(inputs, spots, sizes, nodes, backs, lags, n, &ends);
+        if same(&ends, &next, n) {
+            return ends;
+        }
+        ends = next;
         luts += 1;
     }
     ends
@@ -372,8 +385,7 @@ fn none_marked(ends: &[usize], n: usize) -> bool
 // Whether no LUT ends a chain of more than `period` LUTs.
 fn chains_short(
     inputs: usize,
-    gates: usize,
-    roots: &[usize],
+    spots: &[usize],
     sizes: &[usize],
     nodes: &[usize],
     backs: &[usize],
@@ -381,11 +393,11 @@ fn chains_short(
     n: usize,
     period: usize,
 ) -> bool
-    requires { ⌜ LutsJoined inputs gates (now roots) (now sizes) (now nodes) (now backs) (now lags) n × (period ≤ mostPeriod) ⌝ }
-    requires { ⌜ LutsFed inputs (now roots) (now sizes) (now nodes) n ⌝ }
-    ensures { λ r. ⌜ Tells r (NoneLong inputs (now (roots .entry)) (now (sizes .entry)) (now (nodes .entry)) (now (backs .entry)) (now (lags .entry)) n period) ⌝ }
+    requires { ⌜ LutsPlaced (now spots) (now sizes) (now nodes) (now backs) (now lags) n × (period ≤ mostPeriod) ⌝ }
+    requires { ⌜ LutsFed inputs (now spots) (now sizes) (now nodes) n ⌝ }
+    ensures { λ r. ⌜ Tells r (NoneLong inputs (now (spots .entry)) (now (sizes .entry)) (now (nodes .entry)) (now (backs .entry)) (now (lags .entry)) n period) ⌝ }
 {
-    let ends = rounds(inputs, gates, roots, sizes, nodes, backs, lags, n, period);
+    let ends = rounds(inputs, spots, sizes, nodes, backs, lags, n, period);
     none_marked(&ends, n)
 }
 
@@ -407,19 +419,20 @@ pub fn check_links(
     requires { ⌜ Linking inputs gates (now outs) (now delays) outputs (now roots) (now sizes) (now nodes) (now backs) (now lags) n period ⌝ }
     ensures { λ r. ⌜ LinksTold inputs gates (now (outs .entry)) (now (delays .entry)) outputs (now (roots .entry)) (now (sizes .entry)) (now (nodes .entry)) (now (backs .entry)) (now (lags .entry)) n period r ⌝ }
 {
-    if !luts_fed(inputs, roots, sizes, nodes, n) {
+    let spots = places(roots, n);
+    if !luts_fed(inputs, &spots, sizes, nodes, n) {
         return 16;
     }
-    if !outputs_fed(inputs, roots, n, outs, outputs) {
+    if !outputs_fed(inputs, &spots, n, outs, outputs) {
         return 16;
     }
-    if !luts_enough(inputs, gates, roots, sizes, nodes, backs, lags, n) {
+    if !luts_enough(inputs, &spots, sizes, nodes, backs, lags, n) {
         return 17;
     }
-    if !outputs_enough(inputs, roots, lags, n, outs, delays, outputs) {
+    if !outputs_enough(inputs, &spots, lags, n, outs, delays, outputs) {
         return 17;
     }
-    if !chains_short(inputs, gates, roots, sizes, nodes, backs, lags, n, period) {
+    if !chains_short(inputs, &spots, sizes, nodes, backs, lags, n, period) {
         return 18;
     }
     0

@@ -1,7 +1,7 @@
 -- Definitions: what is asked to choose the roots of a cover and their cuts, and what the arrays then tell.
 use mathlib.Core.Path.{_≡_}
 use mathlib.Core.List.{List}
-use Prim.Native.Nat.{ℕ, _+_, _*_, _≤_, _<_}
+use Prim.Native.Nat.{ℕ, _+_, _*_, _^_, _≤_, _<_}
 use lib.IntN.{ℤ}
 use lib.ListN.{length, getD}
 use Rattle.net_model.specs.Net.{Net}
@@ -11,20 +11,20 @@ use Rattle.cone_theory.specs.Ranks.{Ranked}
 use Rattle.cone_theory.specs.Reach.{reachOf}
 use Rattle.cover_theory.specs.Key.{Key, Root}
 use Rattle.signed.specs.Range.{Small, room, labelIn}
-use Rattle.cut_circuit.specs.Circuit.{Circuit}
-use Rattle.cut_least.specs.Bridge.{Holds}
-use Rattle.limits.specs.Limits.{mostCopies}
+use Rattle.cut_circuit.specs.Circuit.{Circuit, total}
+use Rattle.cut_circuit.specs.Bridge.{Holds}
 
--- Labels for all nodes, numbers that do not overflow, cuts that fit their places, and a net without loops that has this wiring.
+-- Labels for all nodes, numbers that do not overflow, cuts that fit their places, and a net that has this wiring, without loops and with ranks.
 pub record Asking (C : Circuit) (ls : List ℤ) (φ k : ℕ) : Type 0 where
   pub labels : length ls ≡ C .inputs + C .gates
   pub small : (u : ℕ) → Small (labelIn ls u)
   pub shift : φ * C .width ≤ room
   pub least : 1 ≤ k
   pub few : k ≤ stride
-  pub copies : k * C .gates ≤ mostCopies
+  pub fits : total C * 16 < 2 ^ 32
   pub net : Net
   pub holds : Holds C net
+  pub ranked : Ranked net
   pub loopless : Loopless net
 
 -- For each of G gates a mark, a number of leaves, and places for its leaves.

@@ -25,7 +25,7 @@ use Rattle.label_theory.specs.Lower.{input-or-gate}
 use Rattle.label_theory.specs.Pins.{pin-lemma, pin-input}
 use Rattle.label_theory.specs.Forced.{Falling, separation-cut}
 use Rattle.cut_circuit.specs.Circuit.{Circuit}
-use Rattle.cut_least.specs.Bridge.{Holds, gate-of}
+use Rattle.cut_circuit.specs.Bridge.{Holds, gate-of}
 use Rattle.signed.specs.Range.{labelIn}
 use Rattle.cut_question.specs.Question.{Asks, Takes, Separated, Decides, Written}
 use Rattle.cut_question.specs.ChosenCut.{told-cut, told-chosen}
@@ -58,12 +58,13 @@ separated-leaves w R falling c = chosen-leaves (told-chosen w falling R) c
 -- ---- what is asked of `chosen`, and what it tells
 
 pub asks-of : {C : Circuit} {ls : List ℤ} {φ k : ℕ} (g : ℕ) → Asking (wiresOf C) ls φ k → g < C .gates → Asks C ls φ k g
-asks-of g a h = record { labels = a .labels; small = a .small; shift = a .shift; gate = h; least = a .least; copies = a .copies }
+asks-of g a h = record { labels = a .labels; small = a .small; shift = a .shift; gate = h; least = a .least; limit = a .few; fits = a .fits }
 
 pub takes-of : {C : Circuit} {ls : List ℤ} {φ k : ℕ} {nodes backs : List ℕ} → Asking (wiresOf C) ls φ k → length nodes ≡ stride → length backs ≡ stride → Takes C k nodes backs
 takes-of {C} a e f = record {
   net = a .net;
   holds = holds-of C (a .holds);
+  ranked = a .ranked;
   loopless = a .loopless;
   atNodes = omega (arith, a .few, e);
   atBacks = omega (arith, a .few, f);

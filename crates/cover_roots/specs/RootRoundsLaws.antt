@@ -19,7 +19,7 @@ use Rattle.cut_circuit.specs.Circuit.{Circuit}
 use Rattle.cover_roots.specs.Choosing.{Asking, Places, Chooses, Keyed, Reads, RootsTold}
 use Rattle.cover_roots.specs.RootMarks.{IsAt, Among, Marks, left}
 use Rattle.cover_roots.specs.RootMarksLaws.{left-falls, marks-none}
-use Rattle.cut_least.specs.Bridge.{gate-of}
+use Rattle.cut_circuit.specs.Bridge.{gate-of}
 use Rattle.cover_roots.specs.KeyCut.{told-few, told-leaves, Beside, put, put-beside, put-at, copies-same}
 use Rattle.cover_roots.specs.RootRounds.{CutWritten, LeafGate, Stored, Taken, Done, Choosing}
 use Rattle.signed.specs.Range.{labelIn}

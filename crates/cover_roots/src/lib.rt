@@ -3,12 +3,12 @@ use cut_circuit::Extent;
 use cut_question::chosen;
 use limits::PINS;
 ghost use mathlib.Core.Path.{_≡_};
+ghost use mathlib.Core.List.{[]};
 ghost use Prim.Native.Nat.{_*_, _≤_, _<_};
 ghost use lib.ListN.{length};
 ghost use Rattle.net_model.specs.Arrays.{stride};
-ghost use Rattle.cut_circuit.specs.Circuit.{circuit};
-ghost use Rattle.cut_question.specs.Question.{AtRest};
-ghost use Rattle.cut_forced.specs.Forcing.{wires};
+ghost use Rattle.cut_circuit.specs.Packed.{packedOf};
+ghost use Rattle.cut_question.specs.Separating.{AtRest};
 ghost use Rattle.cover_roots.specs.Choosing.{Asking, Places, Chooses, RootsTold};
 ghost use Rattle.cover_roots.specs.RootMarks.{IsAt, Among, Marks, Pending};
 ghost use Rattle.cover_roots.specs.RootRounds.{CutWritten, Stored, Taken};
@@ -68,16 +68,13 @@ fn pending(marks: &[usize], n: usize) -> usize
 // The chosen cut of gate g: its leaves are written to the gate's places. Their number.
 fn cut_of(
     s: Extent,
-    pins: &[usize],
-    first: &[usize],
-    sources: &[usize],
-    counts: &[usize],
-    heads: &[usize],
-    nexts: &[usize],
-    inside: &mut [u8],
+    net: &[usize],
+    slots: &mut [u32],
     table: &mut [u8],
-    list: &mut [usize],
-    members: &mut [usize],
+    list: &mut [u32],
+    stack: &mut [u32],
+    counts: &mut [u32],
+    members: &mut [u32],
     labels: &[i64],
     phi: usize,
     k: usize,
@@ -85,10 +82,10 @@ fn cut_of(
     backs: &mut [usize],
     g: usize,
 ) -> usize
-    requires { ⌜ AtRest (circuit (s .inputs) (s .gates) (s .width) (s .border) (now pins) (now first) (now sources) (now counts) (now heads) (now nexts) (now inside)) (now table) (now list) (now members) ⌝ }
-    requires { ⌜ Asking (wires (s .inputs) (s .gates) (s .width) (s .border) (now pins) (now sources) (now counts)) (now labels) phi k × (g < s .gates) × (stride * s .gates ≤ length (now nodes)) × (stride * s .gates ≤ length (now backs)) ⌝ }
-    ensures rest { λ _. ⌜ AtRest (circuit (s .inputs) (s .gates) (s .width) (s .border) (now (pins .entry)) (now (first .entry)) (now (sources .entry)) (now (counts .entry)) (now (heads .entry)) (now (nexts .entry)) (now (inside .exit))) (now (table .exit)) (now (list .exit)) (now (members .exit)) ⌝ }
-    ensures cut { λ r. ⌜ CutWritten (wires (s .inputs) (s .gates) (s .width) (s .border) (now (pins .entry)) (now (sources .entry)) (now (counts .entry))) (now (labels .entry)) phi k g (now (nodes .entry)) (now (backs .entry)) (now (nodes .exit)) (now (backs .exit)) r ⌝ }
+    requires { ⌜ AtRest (packedOf s (now net) (now slots)) (now table) (now list) (now stack) (now counts) (now members) ⌝ }
+    requires { ⌜ Asking (packedOf s (now net) []) (now labels) phi k × (g < s .gates) × (stride * s .gates ≤ length (now nodes)) × (stride * s .gates ≤ length (now backs)) ⌝ }
+    ensures rest { λ _. ⌜ AtRest (packedOf s (now (net .entry)) (now (slots .exit))) (now (table .exit)) (now (list .exit)) (now (stack .exit)) (now (counts .exit)) (now (members .exit)) ⌝ }
+    ensures cut { λ r. ⌜ CutWritten (packedOf s (now (net .entry)) []) (now (labels .entry)) phi k g (now (nodes .entry)) (now (backs .entry)) (now (nodes .exit)) (now (backs .exit)) r ⌝ }
 {
     let v = s.inputs + g;
     let h = labels[v];
@@ -96,15 +93,12 @@ fn cut_of(
     let end = at + PINS;
     chosen(
         s,
-        pins,
-        first,
-        sources,
-        counts,
-        heads,
-        nexts,
-        inside,
+        net,
+        slots,
         table,
         list,
+        stack,
+        counts,
         members,
         &mut nodes[at..end],
         &mut backs[at..end],
@@ -142,16 +136,13 @@ fn store(
 // Takes the cut of the root g.
 fn take(
     s: Extent,
-    pins: &[usize],
-    first: &[usize],
-    sources: &[usize],
-    counts: &[usize],
-    heads: &[usize],
-    nexts: &[usize],
-    inside: &mut [u8],
+    net: &[usize],
+    slots: &mut [u32],
     table: &mut [u8],
-    list: &mut [usize],
-    members: &mut [usize],
+    list: &mut [u32],
+    stack: &mut [u32],
+    counts: &mut [u32],
+    members: &mut [u32],
     labels: &[i64],
     phi: usize,
     k: usize,
@@ -161,22 +152,19 @@ fn take(
     backs: &mut [usize],
     g: usize,
 )
-    requires { ⌜ AtRest (circuit (s .inputs) (s .gates) (s .width) (s .border) (now pins) (now first) (now sources) (now counts) (now heads) (now nexts) (now inside)) (now table) (now list) (now members) ⌝ }
-    requires { ⌜ Asking (wires (s .inputs) (s .gates) (s .width) (s .border) (now pins) (now sources) (now counts)) (now labels) phi k × (g < s .gates) × Places (s .gates) (now marks) (now sizes) (now nodes) (now backs) ⌝ }
-    ensures rest { λ _. ⌜ AtRest (circuit (s .inputs) (s .gates) (s .width) (s .border) (now (pins .entry)) (now (first .entry)) (now (sources .entry)) (now (counts .entry)) (now (heads .entry)) (now (nexts .entry)) (now (inside .exit))) (now (table .exit)) (now (list .exit)) (now (members .exit)) ⌝ }
-    ensures taken { λ _. ⌜ Taken (wires (s .inputs) (s .gates) (s .width) (s .border) (now (pins .entry)) (now (sources .entry)) (now (counts .entry))) (now (labels .entry)) phi k g (now (marks .entry)) (now (sizes .entry)) (now (nodes .entry)) (now (backs .entry)) (now (marks .exit)) (now (sizes .exit)) (now (nodes .exit)) (now (backs .exit)) ⌝ }
+    requires { ⌜ AtRest (packedOf s (now net) (now slots)) (now table) (now list) (now stack) (now counts) (now members) ⌝ }
+    requires { ⌜ Asking (packedOf s (now net) []) (now labels) phi k × (g < s .gates) × Places (s .gates) (now marks) (now sizes) (now nodes) (now backs) ⌝ }
+    ensures rest { λ _. ⌜ AtRest (packedOf s (now (net .entry)) (now (slots .exit))) (now (table .exit)) (now (list .exit)) (now (stack .exit)) (now (counts .exit)) (now (members .exit)) ⌝ }
+    ensures taken { λ _. ⌜ Taken (packedOf s (now (net .entry)) []) (now (labels .entry)) phi k g (now (marks .entry)) (now (sizes .entry)) (now (nodes .entry)) (now (backs .entry)) (now (marks .exit)) (now (sizes .exit)) (now (nodes .exit)) (now (backs .exit)) ⌝ }
 {
     let r = cut_of(
         s,
-        pins,
-        first,
-        sources,
-        counts,
-        heads,
-        nexts,
-        inside,
+        net,
+        slots,
         table,
         list,
+        stack,
+        counts,
         members,
         labels,
         phi,
@@ -191,16 +179,13 @@ fn take(
 // The chosen roots of the n outputs are marked, and each has its chosen cut's leaves, rising by node, then by d.
 pub fn choose(
     s: Extent,
-    pins: &[usize],
-    first: &[usize],
-    sources: &[usize],
-    counts: &[usize],
-    heads: &[usize],
-    nexts: &[usize],
-    inside: &mut [u8],
+    net: &[usize],
+    slots: &mut [u32],
     table: &mut [u8],
-    list: &mut [usize],
-    members: &mut [usize],
+    list: &mut [u32],
+    stack: &mut [u32],
+    counts: &mut [u32],
+    members: &mut [u32],
     labels: &[i64],
     outs: &[usize],
     n: usize,
@@ -211,25 +196,22 @@ pub fn choose(
     nodes: &mut [usize],
     backs: &mut [usize],
 )
-    requires { ⌜ AtRest (circuit (s .inputs) (s .gates) (s .width) (s .border) (now pins) (now first) (now sources) (now counts) (now heads) (now nexts) (now inside)) (now table) (now list) (now members) ⌝ }
-    requires { ⌜ Chooses (wires (s .inputs) (s .gates) (s .width) (s .border) (now pins) (now sources) (now counts)) (now labels) (now outs) n phi k (now marks) (now sizes) (now nodes) (now backs) ⌝ }
-    ensures rest { λ _. ⌜ AtRest (circuit (s .inputs) (s .gates) (s .width) (s .border) (now (pins .entry)) (now (first .entry)) (now (sources .entry)) (now (counts .entry)) (now (heads .entry)) (now (nexts .entry)) (now (inside .exit))) (now (table .exit)) (now (list .exit)) (now (members .exit)) ⌝ }
-    ensures chosen { λ _. ⌜ RootsTold (wires (s .inputs) (s .gates) (s .width) (s .border) (now (pins .entry)) (now (sources .entry)) (now (counts .entry))) (now (labels .entry)) (now (outs .entry)) n phi k (now (marks .exit)) (now (sizes .exit)) (now (nodes .exit)) (now (backs .exit)) ⌝ }
+    requires { ⌜ AtRest (packedOf s (now net) (now slots)) (now table) (now list) (now stack) (now counts) (now members) ⌝ }
+    requires { ⌜ Chooses (packedOf s (now net) []) (now labels) (now outs) n phi k (now marks) (now sizes) (now nodes) (now backs) ⌝ }
+    ensures rest { λ _. ⌜ AtRest (packedOf s (now (net .entry)) (now (slots .exit))) (now (table .exit)) (now (list .exit)) (now (stack .exit)) (now (counts .exit)) (now (members .exit)) ⌝ }
+    ensures chosen { λ _. ⌜ RootsTold (packedOf s (now (net .entry)) []) (now (labels .entry)) (now (outs .entry)) n phi k (now (marks .exit)) (now (sizes .exit)) (now (nodes .exit)) (now (backs .exit)) ⌝ }
 {
     mark_nodes(s.inputs, s.gates, marks, outs, 0, n);
     let mut g = pending(marks, s.gates);
     while g < s.gates {
         take(
             s,
-            pins,
-            first,
-            sources,
-            counts,
-            heads,
-            nexts,
-            inside,
+            net,
+            slots,
             table,
             list,
+            stack,
+            counts,
             members,
             labels,
             phi,

@@ -1,9 +1,10 @@
--- Definitions: the expanded circuit as a graph: the copy u:d has the number u·width + d. Terminals are the copies of inputs and those beyond the border; the forced set is marked in the array `inside`. `first` has for each gate the pin to be searched first, `heads` and `nexts` the pins that read a node.
-use mathlib.Core.Path.{_≡_}
+-- Definitions: the expanded circuit as a graph: the copy u:d has the number u·width + d. Terminals are the copies of inputs and those beyond the border; the forced set stands in `slots`: for each gate the number of its forced copies, then for each gate places for their d. `first` has for each gate the pin to be searched first, `heads` and `nexts` the pins that read a node.
 use mathlib.Core.List.{List}
 use Prim.Native.Nat.{ℕ, zero, suc, _+_, _-_, _*_, _/_, _%_, _≤_, _<_}
+use native.Mathlib.Decide.{ℕ-discrete}
 use lib.ListN.{length, getD}
-use Rattle.limits.specs.Limits.{mostPins}
+use Rattle.limits.specs.Limits.{mostK, mostPins}
+use Rattle.sequences.specs.Keep.{bit}
 use Rattle.cut_flow.specs.Graph.{Graph}
 
 pub record Circuit : Type 0 where
@@ -17,10 +18,10 @@ pub record Circuit : Type 0 where
   pub counts : List ℕ
   pub heads : List ℕ
   pub nexts : List ℕ
-  pub inside : List ℕ
+  pub slots : List ℕ
 
 abbrev pub circuit : ℕ → ℕ → ℕ → ℕ → List ℕ → List ℕ → List ℕ → List ℕ → List ℕ → List ℕ → List ℕ → Circuit
-circuit inputs gates width border pins first sources counts heads nexts inside = record {
+circuit inputs gates width border pins first sources counts heads nexts slots = record {
   inputs = inputs;
   gates = gates;
   width = width;
@@ -31,7 +32,7 @@ circuit inputs gates width border pins first sources counts heads nexts inside =
   counts = counts;
   heads = heads;
   nexts = nexts;
-  inside = inside;
+  slots = slots;
 }
 
 abbrev pub total : Circuit → ℕ
@@ -58,13 +59,30 @@ abbrev pub unless : ℕ → ℕ → ℕ
 unless zero n = n
 unless (suc e) n = 0
 
+-- how many of the n numbers from place p are d
+unfoldable pub among : List ℕ → ℕ → ℕ → ℕ → ℕ
+among slots p zero d = 0
+among slots p (suc n) d = bit (ℕ-discrete (getD slots p 0) d) + among slots (suc p) n d
+
+-- positive where d stands in a slot of gate g
+abbrev pub heldAt : ℕ → List ℕ → ℕ → ℕ → ℕ
+heldAt gates slots g d = among slots (gates + mostK * g) (getD slots g 0) d
+
+-- positive at the forced copies
+unfoldable pub forcedAt : ℕ → ℕ → ℕ → ℕ → List ℕ → ℕ → ℕ
+forcedAt inputs gates width border slots x =
+    unless (endingAt inputs width border x + (suc x - (inputs + gates) * width)) (heldAt gates slots (x / width - inputs) (x % width))
+
+abbrev pub forcedIn : Circuit → ℕ → ℕ
+forcedIn C x = forcedAt (C .inputs) (C .gates) (C .width) (C .border) (C .slots) x
+
 unfoldable pub graphOf : Circuit → Graph
 graphOf C = record {
   size = total C;
   pins = λ x. unless (ending C x) (getD (C .pins) (x / C .width - C .inputs) 0);
   source = λ x j. feedingAt (C .width) (C .sources) (C .counts) x (place C x j);
   terminal = ending C;
-  forced = λ x. getD (C .inside) x 0;
+  forced = forcedIn C;
 }
 
 -- The arrays are long enough, pins read nodes, and what feeds a copy inside the border is below the width.
@@ -74,9 +92,9 @@ pub record Layout (C : Circuit) : Type 0 where
   pub sources : mostPins * C .gates ≤ length (C .sources)
   pub counts : mostPins * C .gates ≤ length (C .counts)
   pub firsts : C .gates ≤ length (C .first)
-  pub inside : total C ≤ length (C .inside)
+  pub slots : suc mostK * C .gates ≤ length (C .slots)
+  pub held : (g : ℕ) → g < C .gates → getD (C .slots) g 0 ≤ mostK
   pub first : (g : ℕ) → g < C .gates → getD (C .first) g 0 < getD (C .pins) g 0
   pub few : (g : ℕ) → g < C .gates → getD (C .pins) g 0 ≤ mostPins
   pub source : (g j : ℕ) → g < C .gates → j < getD (C .pins) g 0 → getD (C .sources) (mostPins * g + j) 0 < C .inputs + C .gates
   pub count : (g j : ℕ) → g < C .gates → j < getD (C .pins) g 0 → C .border + getD (C .counts) (mostPins * g + j) 0 < C .width
-  pub forced : (x : ℕ) → 0 < getD (C .inside) x 0 → (x < total C) × (endingAt (C .inputs) (C .width) (C .border) x ≡ 0)

@@ -1,6 +1,6 @@
 -- A search that found nothing, from cleared marks: what is forced or marked in is a separation with as many leaves as there are entries, the fewest; it lies
 -- inside each separation with so few; its members lead to the root; its leaves are the copies marked out and not in.
-use mathlib.Core.Path.{_≡_, refl, sym, ap, subst, _∙_}
+use mathlib.Core.Path.{_≡_, sym, ap, subst}
 use mathlib.Core.Logic.{_⊎_, inl, inr}
 use mathlib.Core.List.{List}
 use Prim.Native.Nat.{ℕ, zero, suc, _+_, _≤_, _<_}
@@ -12,7 +12,7 @@ use Rattle.cut_flow.specs.Graph.{Graph, Feeding, Lawful, Order, Separati
 use Rattle.cut_flow.specs.State.{Next, State, next-one, next-feeds, next-carried, entry-last}
 use Rattle.cut_flow.specs.Course.{Rooted, Course, start, down, meet, lands, leaf-hit}
 use Rattle.cut_flow.specs.Half.{Half, rises, few-out}
-use Rattle.cut_flow.specs.Search.{View, Side, Reached, inward, outward, from-forced, from-in, from-self, to-self, to-next, Ready, PinPassed, PassedIn, PassedOut, Lost, positive-or-zero, reached-inner}
+use Rattle.cut_flow.specs.Search.{View, Side, Reached, inward, outward, from-forced, from-in, from-self, to-self, to-next, Ready, PinPassed, PassedIn, PassedOut, positive-or-zero, reached-inner}
 
 -- Each mark, and the forced set, is passed on.
 pub record Closed (G : Graph) (v : View) : Type 0 where
@@ -27,9 +27,6 @@ Found G v x = (0 < G .forced x) ⊎ (0 < v .inn x)
 
 pub closed-half : {G : Graph} {v : View} → Closed G v → Half G v
 closed-half c = record { ready = c .ready; self = λ z h. c .ins z h .self; outs = c .outs }
-
-pub closed : {G : Graph} {v v′ : View} → ((z : ℕ) → v .inn z ≡ 0) → ((z : ℕ) → v .out z ≡ 0) → Lost G v v′ → ((x j : ℕ) → 0 < G .forced x → j < G .pins x → PinPassed G v′ x j) → Closed G v′
-closed i o l f = record { ready = l .ready; ins = λ z h. l .ins z h (i z); outs = λ z h. l .outs z h (o z); roots = f }
 
 module _ {G : Graph} {v : View} (law : Lawful G) (c : Closed G v) where
   unforced : {x : ℕ} → G .forced x ≡ 0 → ¬ (0 < G .forced x)
@@ -79,13 +76,6 @@ module _ {G : Graph} {v : View} (law : Lawful G) (c : Closed G v) where
       go : Found G v (l .member) → 0 < v .out y
       go (inl h) = source-out (l .feeds) (leaf-apart l .0) (c .roots (l .member) (l .feeds .pin) h (l .feeds .below))
       go (inr h) = source-out (l .feeds) (leaf-apart l .0) (c .ins (l .member) h .pins (l .feeds .pin) (l .feeds .below))
-
-  pub leaf-carries : {y : ℕ} → Leaf G (Found G v) y → 0 < v .flow y
-  leaf-carries {y} l = go (positive-or-zero (v .flow y))
-    where
-      go : (0 < v .flow y) ⊎ (v .flow y ≡ 0) → 0 < v .flow y
-      go (inl h) = h
-      go (inr e) = absurd (l .outside (inr (c .outs y (leaf-out l) .empty e .1)))
 
   pub out-leaf : (y : ℕ) → 0 < v .out y → v .inn y ≡ 0 → Leaf G (Found G v) y
   out-leaf y o i = go (c .ready .outs y o)

@@ -3,7 +3,6 @@ pub mod State
 pub mod Steps
 pub mod Course
 pub mod Search
-pub mod Ways
 pub mod Half
 pub mod Closed
 pub mod Capped

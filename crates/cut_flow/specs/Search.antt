@@ -1,5 +1,4 @@
--- A search for one more unit, with two marks a copy, in and out. What a part of a search leaves behind: lost, it passed on each mark that is new;
--- won, a unit waits.
+-- A search for one more unit, with two marks a copy, in and out: what it reaches, what passing a mark on is, and one unit more.
 use mathlib.Core.Path.{_≡_, refl, ap, subst}
 use mathlib.Core.Logic.{_⊎_, inl, inr}
 use mathlib.Core.List.{List, _∷_}
@@ -10,7 +9,7 @@ use lib.ListN.{length}
 use Rattle.sequences.specs.Decide.{upTo, in-upTo}
 use Rattle.sequences.specs.Keep.{keep, keep-mono, keep-strict}
 use Rattle.cut_flow.specs.Graph.{Graph, Feeding, Lawful}
-use Rattle.cut_flow.specs.State.{Fed, Next, State, Stored}
+use Rattle.cut_flow.specs.State.{Next, State, Stored}
 
 -- The flow and the marks of the copies: a mark is set where its number is positive.
 pub record View : Type 0 where
@@ -55,81 +54,13 @@ pub record PassedOut (G : Graph) (v : View) (y : ℕ) : Type 0 where
   pub empty : v .flow y ≡ 0 → (G .terminal y ≡ 0) × (0 < v .inn y)
   pub next : (x : ℕ) → Next G (v .flow) y x → 0 < v .inn x
 
--- Nothing was found: no flow changed, and each new mark is passed on.
-pub record Lost (G : Graph) (v v′ : View) : Type 0 where
-  pub grew : Grew v v′
-  pub same : v′ .flow ≡ v .flow
-  pub ready : Ready G v′
-  pub ins : (z : ℕ) → 0 < v′ .inn z → v .inn z ≡ 0 → PassedIn G v′ z
-  pub outs : (z : ℕ) → 0 < v′ .out z → v .out z ≡ 0 → PassedOut G v′ z
-
 -- One unit more: it waits at w.
 abbrev pub Waits : Graph → View → View → ℕ → Type 0
 Waits G v v′ w = (E : List ℕ) → State G (v .flow) E → State G (v′ .flow) (w ∷ E)
 
--- Copies marked in keep their flow.
-abbrev pub Frame : View → View → Type 0
-Frame v v′ = (z : ℕ) → 0 < v .inn z → v′ .flow z ≡ v .flow z
-
--- The same, but for x.
-abbrev pub FrameBut : ℕ → View → View → Type 0
-FrameBut x v v′ = (z : ℕ) → 0 < v .inn z → ¬ (z ≡ x) → v′ .flow z ≡ v .flow z
-
--- The result r of a search out of y, which is not marked out yet; r is 0 where nothing was found.
-pub record OutVisited (G : Graph) (v v′ : View) (y r : ℕ) : Type 0 where
-  pub grew : Grew v v′
-  pub marked : 0 < v′ .out y
-  pub lost : r ≡ 0 → Lost G v v′
-  pub kept : 0 < r → Frame v v′
-  pub won : 0 < r → Waits G v v′ y
-
--- The same for y marked out.
-pub record OutLeft (G : Graph) (v v′ : View) (y r : ℕ) : Type 0 where
-  pub grew : Grew v v′
-  pub lost : r ≡ 0 → Lost G v v′
-  pub passed : r ≡ 0 → PassedOut G v′ y
-  pub kept : 0 < r → Frame v v′
-  pub won : 0 < r → Waits G v v′ y
-
--- The result r of a search into x, which is not marked in yet: x waits, or its source where it had one.
-pub record InVisited (G : Graph) (v v′ : View) (x r : ℕ) : Type 0 where
-  pub grew : Grew v v′
-  pub marked : 0 < v′ .inn x
-  pub lost : r ≡ 0 → Lost G v v′
-  pub kept : 0 < r → Frame v v′
-  pub idle : 0 < r → v .flow x ≡ 0 → Waits G v v′ x
-  pub fed : 0 < r → (j : ℕ) → Fed G (v .flow) x j → Waits G v v′ (G .source x j)
-
--- The same for x marked in, by some of its ways; they passed its mark on where P holds.
-pub record Tried (G : Graph) (v v′ : View) (x : ℕ) (P : Type 0) (r : ℕ) : Type 0 where
-  pub grew : Grew v v′
-  pub lost : r ≡ 0 → Lost G v v′
-  pub passed : r ≡ 0 → P
-  pub kept : 0 < r → FrameBut x v v′
-  pub idle : 0 < r → v .flow x ≡ 0 → Waits G v v′ x
-  pub fed : 0 < r → (j : ℕ) → Fed G (v .flow) x j → Waits G v v′ (G .source x j)
-
--- by all of them
-abbrev pub Entered : Graph → View → View → ℕ → ℕ → Type 0
-Entered G v v′ x r = Tried G v v′ x (PassedIn G v′ x) r
-
--- by the pins from i up to n alone
-abbrev pub PinsTried : Graph → View → View → ℕ → ℕ → ℕ → ℕ → Type 0
-PinsTried G v v′ x i n r = Tried G v v′ x ((j : ℕ) → i ≤ j → j < n → PinPassed G v′ x j) r
-
--- by x itself alone
-abbrev pub SelfTried : Graph → View → View → ℕ → ℕ → Type 0
-SelfTried G v v′ x r = Tried G v v′ x (0 < v′ .flow x → 0 < v′ .out x) r
-
 -- One entry more, which feeds the forced set.
 abbrev pub Gains : Graph → View → View → Type 0
 Gains G v v′ = (E : List ℕ) → State G (v .flow) E → (y : ℕ) × State G (v′ .flow) (y ∷ E) × ((x : ℕ) × (0 < G .forced x) × Feeding G y x)
-
--- The result r of a search from pins i up to n of the forced copy x.
-pub record RootTried (G : Graph) (v v′ : View) (x i n r : ℕ) : Type 0 where
-  pub lost : r ≡ 0 → Lost G v v′
-  pub passed : r ≡ 0 → (j : ℕ) → i ≤ j → j < n → PinPassed G v′ x j
-  pub won : 0 < r → Gains G v v′
 
 -- A mark is set at x.
 pub record MarkedIn (v v′ : View) (x : ℕ) : Type 0 where
@@ -203,15 +134,6 @@ unfolding left
 left-out n {y} m h e =
     let g = marked-out-grew m in
     omega (arith, unmarked-less n (g .out) y h e (omega (arith, m .out .at)), unmarked-grew n (g .inn))
-
-pub grew-refl : (v : View) → Grew v v
-grew-refl v = record { inn = λ z h. h; out = λ z h. h }
-
-pub grew-trans : {u v w : View} → Grew u v → Grew v w → Grew u w
-grew-trans f g = record { inn = λ z h. g .inn z (f .inn z h); out = λ z h. g .out z (f .out z h) }
-
-pub flow-set-grew : {v v′ : View} {x n : ℕ} → FlowSet v v′ x n → Grew v v′
-flow-set-grew m = record { inn = λ z h. omega (arith, ap (λ (f : ℕ → ℕ). f z) (m .inn)); out = λ z h. omega (arith, ap (λ (f : ℕ → ℕ). f z) (m .out)) }
 
 -- ---- where a search reaches
 module _ {G : Graph} {flow : ℕ → ℕ} {E : List ℕ} (s : State G flow E) where

@@ -1,15 +1,15 @@
--- Bounds of the search with a stack of its own: how many copies are counted, stand on the stack, and are touched, where n nodes come in and W holds what carries.
-use mathlib.Core.Path.{_≡_, refl, sym, ap, subst, _∙_}
+-- Bounds of the search with a stack of its own: how many copies are counted, stand on the stack, and are touched, where copies of `nodes` come in and W holds what carries.
+use mathlib.Core.Path.{_≡_, sym, ap, subst}
 use mathlib.Core.Logic.{_⊎_, inl, inr}
 use mathlib.Core.List.{List, [], _∷_, _++_, map}
-use Prim.Native.Nat.{ℕ, zero, suc, _+_, _-_, _*_, _≤_, _<_}
+use Prim.Native.Nat.{ℕ, suc, _+_, _-_, _*_, _≤_, _<_}
 use native.Mathlib.Omega.{arith}
 use native.Mathlib.Nat.{suc-mul, mul-le-mul-right}
 use lib.ListN.{length, length-append, length-map}
 use Rattle.sequences.specs.Member.{_∈_, here, there, in-append-left, in-append-right, map-in, in-map}
 use Rattle.sequences.specs.Decide.{upTo, in-upTo, length-upTo}
 use Rattle.sequences.specs.Distinct.{Distinct, pigeonhole}
-use Rattle.cut_flow.specs.Graph.{Graph, Feeding}
+use Rattle.cut_flow.specs.Graph.{Graph}
 use Rattle.cut_flow.specs.Search.{View}
 use Rattle.cut_flow.specs.Tally.{tally-few}
 use Rattle.cut_flow.specs.Stack.{Frame, copies, Turns, Come, Held, Near, Core}
@@ -37,13 +37,13 @@ in-sourcesOf G p {L = y ∷ L} {x} (here e) j h =
 in-sourcesOf G p {L = y ∷ L} (there i) j h = in-append-right (map (G .source y) (upTo p)) (in-sourcesOf G p i j h)
 
 module _ {G : Graph} {T : Turns G} {node : ℕ → ℕ} {f : ℕ} {flow : ℕ → ℕ} {S : ℕ → Type 0} {v : View} {count : ℕ → ℕ} {fs : List Frame}
-    (c : Core G T node f flow S v count fs) (n : ℕ) (low : (z : ℕ) → Come S v z → node z < n) where
-  pub counted-few : length (c .list) ≤ n * suc f
-  counted-few = subst (λ (m : ℕ). length (c .list) ≤ m * suc f) (length-upTo n) (tally-few (c .tally) n low)
+    (c : Core G T node f flow S v count fs) (nodes : List ℕ) (low : (z : ℕ) → Come S v z → node z ∈ nodes) where
+  pub counted-few : length (c .list) ≤ length nodes * suc f
+  counted-few = tally-few (c .tally) nodes low
 
   module _ (W : List ℕ) (load : (z : ℕ) → 0 < flow z → z ∈ W) where
     -- **The stack.** Each of its copies is counted or carries.
-    pub frames-few : length fs ≤ n * suc f + length W
+    pub frames-few : length fs ≤ length nodes * suc f + length W
     frames-few =
         omega (arith, length-map fs (λ (b : Frame). b .copy), pigeonhole (c .distinct) inside, length-append (c .list) W, counted-few)
       where
@@ -58,7 +58,7 @@ module _ {G : Graph} {T : Turns G} {node : ℕ → ℕ} {f : ℕ} {flow : ℕ �
 
     -- **What is touched.** A copy marked out carries or feeds a counted copy; one marked in is out or carries.
     pub touched-few : (p : ℕ) → ((x : ℕ) → G .pins x ≤ p) → {D : List ℕ} → Distinct D → ((z : ℕ) → z ∈ D → (0 < flow z) ⊎ ((0 < v .out z) ⊎ (0 < v .inn z)))
-        → length D ≤ n * suc f * p + length W
+        → length D ≤ length nodes * suc f * p + length W
     touched-few p most {D} d touched =
         omega (
           arith,
@@ -86,7 +86,7 @@ module _ {G : Graph} {T : Turns G} {node : ℕ → ℕ} {f : ℕ} {flow : ℕ �
         inside z (inr (inr h)) = beside z (c .beside z h)
 
     -- **What carries after a success.**
-    pub load-grows : (y : ℕ) → length (y ∷ (c .list ++ W)) ≤ suc (n * suc f + length W)
+    pub load-grows : (y : ℕ) → length (y ∷ (c .list ++ W)) ≤ suc (length nodes * suc f + length W)
     load-grows y = omega (arith, length-append (c .list) W, counted-few)
 
 -- the turns still to come on the stack: what a search ends by, beside the marks left

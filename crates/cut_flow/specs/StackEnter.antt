@@ -9,15 +9,15 @@ use native.Mathlib.Decide.{ℕ-discrete}
 use lib.ListN.{length}
 use Rattle.sequences.specs.Member.{_∈_, here, there, not-in-nil, in-append-left, in-append-right, map-in}
 use Rattle.sequences.specs.Keep.{keep, in-keep}
-use Rattle.sequences.specs.Distinct.{Distinct, distinct-nil, distinct-cons, distinct-keep}
-use Rattle.cut_flow.specs.Graph.{Graph, Feeding, Lawful}
-use Rattle.cut_flow.specs.State.{Next, State, Stored, stored-at}
+use Rattle.sequences.specs.Distinct.{distinct-nil, distinct-cons, distinct-keep}
+use Rattle.cut_flow.specs.Graph.{Graph, Lawful}
+use Rattle.cut_flow.specs.State.{State, Stored}
 use Rattle.cut_flow.specs.Steps.{opens}
-use Rattle.cut_flow.specs.Search.{View, Side, Reached, inward, outward, to-self, to-next, Ready, Grew, PassedOut, MarkedIn, FlowSet, marked-in-grew, reached-apart, reached-inner}
+use Rattle.cut_flow.specs.Search.{View, Side, Reached, inward, to-self, to-next, Ready, Grew, PassedOut, MarkedIn, FlowSet, marked-in-grew, reached-apart, reached-inner}
 use Rattle.cut_flow.specs.Closed.{Found}
 use Rattle.cut_flow.specs.Capped.{Expanded, Crowd, Capped}
-use Rattle.cut_flow.specs.Tally.{among, Tally, tally-none, tally-same, tally-skip, tally-count}
-use Rattle.cut_flow.specs.Stack.{Frame, frame, copies, Turns, Way, by-pin, by-self, Comes, itself, successor, Led, Trail, none, root, over, Opened, Early, Come, Good, Held, Near, SelfPassed, Core, Stacked, Hanging, Unwinding}
+use Rattle.cut_flow.specs.Tally.{among, Tally, tally-none, tally-skip, tally-count}
+use Rattle.cut_flow.specs.Stack.{Frame, frame, copies, Turns, Way, by-pin, by-self, Comes, itself, successor, none, root, over, Early, Come, Good, Held, Near, SelfPassed, Core, Stacked, Hanging, Unwinding}
 use Rattle.cut_flow.specs.Unwind.{trail-after}
 use Rattle.cut_flow.specs.StackLaws.{good-grew, come-grew, passed-grew, comes-passed}
 

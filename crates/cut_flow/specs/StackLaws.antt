@@ -1,18 +1,18 @@
 -- Laws of the search with a stack of its own: a turn passed, a frame taken off, a copy marked out, a copy that has passed its mark on.
 use mathlib.Core.Path.{_≡_, refl, sym, ap, subst, _∙_}
 use mathlib.Core.Logic.{_⊎_, inl, inr}
-use mathlib.Core.List.{List, [], _∷_}
+use mathlib.Core.List.{List, _∷_}
 use Prim.Native.Nat.{ℕ, suc, _+_, _-_, _≤_, _<_}
 use native.Mathlib.Omega.{arith}
 use native.Mathlib.Decide.{ℕ-discrete, decLe}
 use Rattle.sequences.specs.Member.{_∈_, here, there}
-use Rattle.sequences.specs.Distinct.{Distinct, distinct-tail}
-use Rattle.cut_flow.specs.Graph.{Graph, Feeding, Lawful}
+use Rattle.sequences.specs.Distinct.{distinct-tail}
+use Rattle.cut_flow.specs.Graph.{Graph, Lawful}
 use Rattle.cut_flow.specs.State.{Next, State, next-one, next-carried}
-use Rattle.cut_flow.specs.Search.{View, Side, Reached, inward, outward, from-forced, from-in, from-self, Ready, Grew, PinPassed, PassedOut, MarkedOut, marked-out-grew, reached-inner}
+use Rattle.cut_flow.specs.Search.{View, Side, Reached, outward, from-forced, from-in, from-self, Grew, PinPassed, PassedOut, MarkedOut, marked-out-grew, reached-inner}
 use Rattle.cut_flow.specs.Capped.{Expanded}
-use Rattle.cut_flow.specs.Tally.{Tally, tally-same}
-use Rattle.cut_flow.specs.Stack.{Frame, frame, copies, Turns, Way, by-pin, by-self, Comes, itself, successor, WayPassed, Led, Trail, none, root, over, Opened, Early, Come, Good, Held, Near, SelfPassed, Core, Stacked, Hanging}
+use Rattle.cut_flow.specs.Tally.{tally-same}
+use Rattle.cut_flow.specs.Stack.{Frame, frame, Turns, Way, by-pin, by-self, Comes, itself, successor, WayPassed, Trail, none, root, over, Opened, Early, Come, Good, Held, Near, SelfPassed, Core, Stacked, Hanging}
 
 -- ---- more marks
 

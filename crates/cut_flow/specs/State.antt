@@ -35,9 +35,6 @@ module _ {G : Graph} {flow : ℕ → ℕ} where
   pub next-feeds : {y x : ℕ} → Next G flow y x → Feeding G y x
   next-feeds n = record { pin = n .by; below = n .fed .below; source = n .source }
 
-  pub fed-same : {x i j : ℕ} → Fed G flow x i → Fed G flow x j → i ≡ j
-  fed-same f g = omega (arith, f .pin, g .pin)
-
   pub fed-at : {x y i j : ℕ} → x ≡ y → Fed G flow x i → Fed G flow y j → G .source x i ≡ G .source y j
   fed-at {x} {y} {i} {j} e f g =
       let p : flow x ≡ flow y = ap flow e in

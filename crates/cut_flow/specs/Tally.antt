@@ -1,13 +1,12 @@
 -- How many copies of each node were opened: one list of the counted copies, and a number a node.
-use mathlib.Core.Path.{_≡_, refl, sym, ap, subst, _∙_}
+use mathlib.Core.Path.{_≡_, sym, ap, subst}
 use mathlib.Core.Logic.{_⊎_, inl, inr}
 use mathlib.Core.List.{List, [], _∷_}
-use Prim.Native.Nat.{ℕ, zero, suc, _+_, _*_, _≤_, _<_}
+use Prim.Native.Nat.{ℕ, suc, _+_, _*_, _≤_, _<_}
 use native.Mathlib.Omega.{arith}
 use native.Mathlib.Decide.{ℕ-discrete}
 use lib.ListN.{length}
 use Rattle.sequences.specs.Member.{_∈_, here, there, not-in-nil}
-use Rattle.sequences.specs.Decide.{upTo, in-upTo}
 use Rattle.sequences.specs.Keep.{keep, bit, bit-yes, bit-no, length-keep-cons}
 use Rattle.sequences.specs.Distinct.{Distinct, distinct-nil, distinct-cons, count-by}
 use Rattle.cut_flow.specs.State.{Stored}
@@ -41,9 +40,9 @@ among-more node x L u = length-keep-cons (λ y. ℕ-discrete (node y) u) x L
 
 module _ {node : ℕ → ℕ} {f : ℕ} {count : ℕ → ℕ} {L : List ℕ} {Come Good : ℕ → Type 0} (t : Tally node f count L Come Good) where
   -- the list is short where few nodes have come
-  pub tally-few : (g : ℕ) → ((z : ℕ) → Come z → node z < g) → length L ≤ length (upTo g) * suc f
+  pub tally-few : (nodes : List ℕ) → ((z : ℕ) → Come z → node z ∈ nodes) → length L ≤ length nodes * suc f
   unfolding among
-  tally-few g low = count-by ℕ-discrete node L (upTo g) (λ y h. in-upTo (low y (t .come y h))) (suc f) (λ u h. omega (arith, t .size u, t .few u))
+  tally-few nodes low = count-by ℕ-discrete node L nodes (λ y h. low y (t .come y h)) (suc f) (λ u h. omega (arith, t .size u, t .few u))
 
   module _ {Come′ Good′ : ℕ → Type 0} (keeps : (z : ℕ) → Come z → Come′ z) (better : (z : ℕ) → Come z → Good z → Good′ z) where
     pub tally-skip : (x : ℕ) → f < count (node x) → ((z : ℕ) → Come′ z → Come z ⊎ (z ≡ x)) → Tally node f count L Come′ Good′

@@ -1,15 +1,15 @@
 -- After a success the frames are taken off from the top, and the unit that waits moves down the trail: to the copy that each frame was come to from, and at the end into the
 -- forced set.
 use mathlib.Core.Path.{_≡_, refl, sym, ap, subst, _∙_}
-use mathlib.Core.Logic.{_⊎_, inl, inr}
+use mathlib.Core.Logic.{inl, inr}
 use mathlib.Core.List.{List, [], _∷_}
-use Prim.Native.Nat.{ℕ, suc, _-_, _≤_, _<_}
+use Prim.Native.Nat.{ℕ, suc, _-_, _<_}
 use native.Mathlib.Omega.{arith}
 use native.Mathlib.Decide.{ℕ-discrete}
-use Rattle.sequences.specs.Member.{_∈_, here, there, in-map}
+use Rattle.sequences.specs.Member.{_∈_, here, there}
 use Rattle.sequences.specs.Distinct.{distinct-head, distinct-tail}
 use Rattle.cut_flow.specs.Graph.{Graph, Feeding}
-use Rattle.cut_flow.specs.State.{Fed, Next, State, Stored}
+use Rattle.cut_flow.specs.State.{State, Stored}
 use Rattle.cut_flow.specs.Steps.{joins, turns, returns}
 use Rattle.cut_flow.specs.Search.{View, FlowSet, Waits, Gains}
 use Rattle.cut_flow.specs.Closed.{Found}

@@ -2,30 +2,52 @@
 use mathlib.Core.Path.{_≡_, refl, sym, ap, subst, _∙_}
 use mathlib.Core.List.{List, _∷_, map}
 use mathlib.Core.Logic.{_⊎_, inl, inr}
-use Prim.Native.Nat.{ℕ, _+_, _*_, _≤_, _<_}
+use Prim.Native.Nat.{ℕ, _+_, _-_, _*_, _/_, _%_, _^_, _≤_, _<_}
+use native.Mathlib.Nat.{mul-le-mul-left, mul-le-mul-right, div-add-mod'}
 use native.Mathlib.Omega.{arith}
 use native.Mathlib.Decide.{ℕ-discrete, decLt}
 use lib.ListN.{length, getD, set, length-set, length-map}
 use lib.Seq.{getD-set-same, getD-set-other}
-use Rattle.limits.specs.Limits.{mostCopies}
-use Rattle.sequences.specs.Member.{Within, _∈_, here, there, in-equal, map-in}
-use Rattle.sequences.specs.Decide.{upTo, upTo-in}
+use Rattle.limits.specs.Limits.{mostK}
+use Rattle.sequences.specs.Member.{_∈_, here, there, in-equal, map-in}
+use Rattle.sequences.specs.Decide.{upTo, upTo-in, length-upTo}
 use Rattle.sequences.specs.Distinct.{Distinct, distinct-cons, distinct-upTo, distinct-map-on}
-use Rattle.net_model.specs.Copies.{Copy}
-use Rattle.cone_theory.specs.Reach.{cut-reach, cut-members}
+use Rattle.net_model.specs.Copies.{Copy, copy}
+use Rattle.cone_theory.specs.Basics.{copy-path}
+use Rattle.cone_theory.specs.Reach.{cut-reach, cut-few}
 use Rattle.label_theory.specs.Forced.{forced-inside}
-use Rattle.cut_circuit.specs.Circuit.{Circuit, total, endingAt}
-use Rattle.cut_search.specs.SearchTableLaws.{length-upTo}
-use Rattle.cut_least.specs.Bridge.{decode, decode-one}
-use Rattle.cut_forced.specs.Forcing.{Inner, Target, ForcedAt, Refuted, Growing, Grew, Told, Added, there-before, there-now, must-not}
+use Rattle.cut_circuit.specs.Circuit.{Circuit, total, endingAt, heldAt}
+use Rattle.cut_circuit.specs.CircuitLaws.{node-below, place-held}
+use Rattle.cut_circuit.specs.Bridge.{decode}
+use Rattle.cut_forced.specs.Slots.{marked, Inner, gateAt, slotAt, holding, Slotted}
+use Rattle.cut_forced.specs.SlotLaws.{gate-inside, inner-marked, slot-node, slot-back, slot-marked, marked-few, slotted-holding, marked-after, marked-new, marked-before}
+use Rattle.cut_forced.specs.Forcing.{Target, ForcedAt, Refuted, Growing, Grew, Told, AddAsked, Added, there-before, there-now, must-not}
 
-module _ {W : Circuit} {T : Target} {most : ℕ} {marks members : List ℕ} {m : ℕ} (G : Growing W T most marks members m) where
+-- ---- the numbers of `add`
+pub few-fits : (inputs gates width k : ℕ) → 0 < width → (inputs + gates) * width * 16 < 2 ^ 32 → k ≤ mostK → k * gates < 2 ^ 32
+few-fits inputs gates width k w f h =
+    omega (arith, f, mul-le-mul-left {m = 1} {n = width} (inputs + gates) w, mul-le-mul-right {m = k} {n = mostK} gates h)
+
+module _ {inputs gates width border k : ℕ} {slots members : List ℕ} {m y : ℕ} (a : AddAsked inputs gates width border k slots members m y) where
+  pub add-fits : k * gates < 2 ^ 32
+  add-fits = few-fits inputs gates width k (a .wide) (a .fits) (a .limit)
+
+  pub add-number : y < 2 ^ 32
+  add-number = omega (arith, a .below, a .fits)
+
+  pub add-back : y % width < 2 ^ 32
+  add-back = omega (arith, add-number, div-add-mod' y width)
+
+  pub add-gate : endingAt inputs width border y ≡ 0 → y / width - inputs < gates
+  add-gate e = omega (arith, node-below y width (inputs + gates) (a .wide) (a .below), e)
+
+module _ {W : Circuit} {T : Target} {k : ℕ} {slots members : List ℕ} {m : ℕ} (G : Growing W T k slots members m) where
   -- as one of the members
   listed-once : (a b : ℕ) → a < m → b < m → getD members a 0 ≡ getD members b 0 → a ≡ b
-  listed-once a b h k e = go (decLt a b) (decLt b a)
+  listed-once a b h l e = go (decLt a b) (decLt b a)
     where
       go : Dec (a < b) → Dec (b < a) → a ≡ b
-      go (yes p) q = absurd (G .once a b p k e)
+      go (yes p) q = absurd (G .once a b p l e)
       go (no p) (yes q) = absurd (G .once b a q h (sym e))
       go (no p) (no q) = omega (arith, p, q)
 
@@ -33,152 +55,188 @@ module _ {W : Circuit} {T : Target} {most : ℕ} {marks members : List ℕ} {m :
   unfoldable pub copiesOf : List Copy
   copiesOf = map (λ (a : ℕ). decode W (getD members a 0)) (upTo m)
 
-  pub length-copies : length copiesOf ≡ m
-  unfolding copiesOf
-  length-copies = length-map (upTo m) (λ (a : ℕ). decode W (getD members a 0)) ∙ length-upTo m
-
-  pub copies-in : {c : Copy} → c ∈ copiesOf → (x : ℕ) × (0 < getD marks x 0) × (c ≡ decode W x)
+  pub copies-in : {c : Copy} → c ∈ copiesOf → (x : ℕ) × (0 < marked W slots x) × (c ≡ decode W x)
   unfolding copiesOf
   copies-in h =
       let r = map-in (λ (a : ℕ). decode W (getD members a 0)) (upTo m) h in
       (getD members (r .0) 0, G .listed (r .0) (upTo-in (r .1)), r .2)
 
-  pub distinct-copies : Distinct copiesOf
-  unfolding copiesOf
-  distinct-copies = distinct-map-on (λ (a : ℕ). decode W (getD members a 0))
-      (λ a b h k e. listed-once a b (upTo-in h) (upTo-in k) (decode-one W (getD members a 0) (getD members b 0) e)) (distinct-upTo m)
+  -- the members' numbers
+  abbrev numbers : List ℕ
+  numbers = map (λ (a : ℕ). getD members a 0) (upTo m)
+
+  distinct-numbers : Distinct numbers
+  distinct-numbers = distinct-map-on (λ (a : ℕ). getD members a 0) (λ a b h l e. listed-once a b (upTo-in h) (upTo-in l) e) (distinct-upTo m)
 
   module _ (y : ℕ) (f : ForcedAt W T y) where
     -- a forced copy of an input or beyond the border
-    pub ends-refuted : 0 < endingAt (W .inputs) (W .width) (W .border) y → Refuted W T most
-    ends-refuted h N H R k e b K =
+    pub ends-refuted : 0 < endingAt (W .inputs) (W .width) (W .border) y → Refuted W T k
+    ends-refuted h N H R b K =
         let i = forced-inside K (f N H) in
         let g = K .isCone .gates (decode W y) i .low in
         omega (arith, h, g, H .inputs, b, cut-reach R K (decode W y) i)
 
-    -- a forced copy too many
-    pub full-refuted : getD marks y 0 ≤ 0 → most ≤ m → Refuted W T most
-    full-refuted z h N H R k e b K =
-        let d : Distinct (decode W y ∷ copiesOf) = distinct-cons (λ i. fresh (copies-in i)) distinct-copies in
-        omega (arith, h, e, H .gates, length-copies, cut-members R K (decode W y ∷ copiesOf) d within, ap (λ (n : ℕ). k * n) (H .gates))
+  module _ (y : ℕ) (inner : Inner W y) (fresh : marked W slots y ≡ 0) where
+    abbrev g : ℕ
+    g = gateAt W y
+
+    abbrev n : ℕ
+    n = getD slots g 0
+
+    gate-below : g < W .gates
+    gate-below = gate-inside (omega (arith, G .slotted .wide)) inner
+
+    unheld : heldAt (W .gates) slots g (y % W .width) ≡ 0
+    unheld = sym (inner-marked W slots y inner) ∙ fresh
+
+    -- **a forced copy of a gate that has k already**
+    pub full-refuted : ForcedAt W T y → k ≤ n → Refuted W T k
+    full-refuted f h N H R b K =
+        omega (arith, h, length-map (upTo n) back, length-upTo n, cut-few R K (y / W .width) (y % W .width ∷ map back (upTo n)) (distinct-cons other apart) inside)
       where
-        fresh : ((x : ℕ) × (0 < getD marks x 0) × (decode W y ≡ decode W x)) → ⊥
-        fresh (x, p, q) = omega (arith, z, p, ap (λ (n : ℕ). getD marks n 0) (decode-one W y x q))
+        back : ℕ → ℕ
+        back i = getD slots (slotAt (W .gates) g i) 0
 
-        at : (c : Copy) → ((x : ℕ) × (0 < getD marks x 0) × (c ≡ decode W x)) → c ∈ K .cone
-        at c (x, p, q) = in-equal q (forced-inside K (G .forced x p N H))
+        other : y % W .width ∈ map back (upTo n) → ⊥
+        other i =
+            let r = map-in back (upTo n) i in
+            omega (arith, unheld, place-held slots (W .gates + mostK * g) n (y % W .width) (r .0) (upTo-in (r .1)) (sym (r .2)))
 
-        within : Within (decode W y ∷ copiesOf) (K .cone)
-        within c (here q) = in-equal q (forced-inside K (f N H))
-        within c (there i) = at c (copies-in i)
+        apart : Distinct (map back (upTo n))
+        apart = distinct-map-on back (λ a c p q e. go a c (upTo-in p) (upTo-in q) e (decLt a c) (decLt c a)) (distinct-upTo n)
+          where
+            go : (a c : ℕ) → a < n → c < n → back a ≡ back c → Dec (a < c) → Dec (c < a) → a ≡ c
+            go a c p q e (yes l) d = absurd (G .slotted .apart g a c gate-below l q e)
+            go a c p q e (no l) (yes d) = absurd (G .slotted .apart g c a gate-below d p (sym e))
+            go a c p q e (no l) (no d) = omega (arith, l, d)
 
-    module _ (below : y < total W) (limit : most ≤ mostCopies) (z : getD marks y 0 ≤ 0) (ends : endingAt (W .inputs) (W .width) (W .border) y ≡ 0) (h : m < most) where
-      inside-marks : y < length marks
-      inside-marks = omega (arith, below, G .places)
+        inside : (d : ℕ) → d ∈ y % W .width ∷ map back (upTo n) → copy (y / W .width) d ∈ K .cone
+        inside d (here e) = in-equal (ap (copy (y / W .width)) e) (forced-inside K (f N H))
+        inside d (there i) =
+            let r = map-in back (upTo n) i in
+            let l = upTo-in (r .1) in
+            let x = (W .inputs + g) * W .width + back (r .0) in
+            in-equal {b = decode W x} (copy-path (omega (arith, slot-node (G .slotted) g (r .0) gate-below l, inner .ends)) (r .2 ∙ sym (slot-back (G .slotted) g (r .0) gate-below l)))
+            (forced-inside K (G .forced x (slot-marked (G .slotted) g (r .0) gate-below l) N H))
 
-      inside-members : m < length members
-      inside-members = omega (arith, h, limit, G .space)
+    -- ---- a gate that has fewer
+    module _ (h : n < k) where
+      abbrev slots′ : List ℕ
+      slots′ = holding (W .gates) slots g n (y % W .width)
 
-      marks-same : getD (set marks y 1) y 0 ≡ 1
-      marks-same = getD-set-same marks y 1 0 inside-marks
+      slotted : Slotted W k slots′
+      slotted = slotted-holding (G .slotted) g n (y % W .width) gate-below refl h (omega (arith, inner .ends)) unheld
+
+      after : (x : ℕ) → 0 < marked W slots x → 0 < marked W slots′ x
+      after = marked-after (G .slotted) g n (y % W .width) gate-below refl h
+
+      pub new : 0 < marked W slots′ y
+      new = marked-new (G .slotted) g n (y % W .width) gate-below refl h y inner refl refl
+
+      before : (x : ℕ) → ¬ (x ≡ y) → 0 < marked W slots′ x → 0 < marked W slots x
+      before = marked-before (G .slotted) g n (y % W .width) gate-below refl h y inner refl refl
+
+      more : m + 1 ≤ k * W .gates
+      more = omega (arith, length-map (upTo m) (λ (a : ℕ). getD members a 0), length-upTo m, marked-few slotted (y ∷ numbers) (distinct-cons other distinct-numbers) all)
+        where
+          at : {x : ℕ} → x ∈ numbers → 0 < marked W slots x
+          at {x} i =
+              let r = map-in (λ (a : ℕ). getD members a 0) (upTo m) i in
+              subst (λ (z : ℕ). 0 < marked W slots z) (sym (r .2)) (G .listed (r .0) (upTo-in (r .1)))
+
+          other : y ∈ numbers → ⊥
+          other i = omega (arith, fresh, at i)
+
+          all : (x : ℕ) → x ∈ y ∷ numbers → 0 < marked W slots′ x
+          all x (here e) = subst (λ (z : ℕ). 0 < marked W slots′ z) (sym e) new
+          all x (there i) = after x (at i)
+
+      -- there is room for it
+      pub room-for : m < length members
+      room-for = omega (arith, more, G .space)
 
       members-same : getD (set members m y) m 0 ≡ y
-      members-same = getD-set-same members m y 0 inside-members
+      members-same = getD-set-same members m y 0 room-for
 
       members-other : (a : ℕ) → a < m → getD (set members m y) a 0 ≡ getD members a 0
       members-other a p = getD-set-other members m a y 0 (λ e. absurd (omega (arith, p, e)))
 
-      marked-before : (x : ℕ) → ¬ (x ≡ y) → 0 < getD (set marks y 1) x 0 → 0 < getD marks x 0
-      marked-before x n p = subst (λ (b : ℕ). 0 < b) (getD-set-other marks y x 1 0 n) p
-
-      pub marked-after : (x : ℕ) → 0 < getD marks x 0 → 0 < getD (set marks y 1) x 0
-      marked-after x p = go (ℕ-discrete x y)
-        where
-          go : Dec (x ≡ y) → 0 < getD (set marks y 1) x 0
-          go (yes e) = absurd (omega (arith, p, z, ap (λ (n : ℕ). getD marks n 0) e))
-          go (no n) = subst (λ (b : ℕ). 0 < b) (sym (getD-set-other marks y x 1 0 n)) p
-
-      pub marked-new : 0 < getD (set marks y 1) y 0
-      marked-new = omega (arith, marks-same)
-
-      pub growing-add : Growing W T most (set marks y 1) (set members m y) (m + 1)
-      growing-add = record {
-        places = omega (arith, length-set marks y 1, G .places);
+      pub growing-add : ForcedAt W T y → Growing W T k slots′ (set members m y) (m + 1)
+      growing-add f = record {
+        slotted = slotted;
         space = omega (arith, length-set members m y, G .space);
         some = omega arith;
-        few = omega (arith, h);
-        root = marked-after (T .root * W .width) (G .root);
-        inner = λ x p. inner x p (ℕ-discrete x y);
+        few = more;
+        root = after (T .root * W .width) (G .root);
         listed = λ a p. listed a p (ℕ-discrete a m);
         all = λ x p. all x p (ℕ-discrete x y);
         once = λ a b p q. once a b p q (ℕ-discrete b m);
         forced = λ x p. forced x p (ℕ-discrete x y);
       }
         where
-          inner : (x : ℕ) → 0 < getD (set marks y 1) x 0 → Dec (x ≡ y) → Inner W x
-          inner x p (yes e) = subst (Inner W) (sym e) (record { below = below; ends = ends })
-          inner x p (no n) = G .inner x (marked-before x n p)
+          listed : (a : ℕ) → a < m + 1 → Dec (a ≡ m) → 0 < marked W slots′ (getD (set members m y) a 0)
+          listed a p (yes e) = subst (λ (x : ℕ). 0 < marked W slots′ x) (sym (ap (λ (i : ℕ). getD (set members m y) i 0) e ∙ members-same)) new
+          listed a p (no o) =
+              let q : a < m = omega (arith, p, o) in
+              subst (λ (x : ℕ). 0 < marked W slots′ x) (sym (members-other a q)) (after (getD members a 0) (G .listed a q))
 
-          listed : (a : ℕ) → a < m + 1 → Dec (a ≡ m) → 0 < getD (set marks y 1) (getD (set members m y) a 0) 0
-          listed a p (yes e) = subst (λ (x : ℕ). 0 < getD (set marks y 1) x 0) (sym (ap (λ (n : ℕ). getD (set members m y) n 0) e ∙ members-same)) marked-new
-          listed a p (no n) =
-              let q : a < m = omega (arith, p, n) in
-              subst (λ (x : ℕ). 0 < getD (set marks y 1) x 0) (sym (members-other a q)) (marked-after (getD members a 0) (G .listed a q))
-
-          all : (x : ℕ) → 0 < getD (set marks y 1) x 0 → Dec (x ≡ y) → (a : ℕ) × (a < m + 1) × (getD (set members m y) a 0 ≡ x)
+          all : (x : ℕ) → 0 < marked W slots′ x → Dec (x ≡ y) → (a : ℕ) × (a < m + 1) × (getD (set members m y) a 0 ≡ x)
           all x p (yes e) = (m, omega arith, members-same ∙ sym e)
-          all x p (no n) =
-              let r = G .all x (marked-before x n p) in
+          all x p (no o) =
+              let r = G .all x (before x o p) in
               (r .0, omega (arith, r .1), members-other (r .0) (r .1) ∙ r .2)
 
           once : (a b : ℕ) → a < b → b < m + 1 → Dec (b ≡ m) → ¬ (getD (set members m y) a 0 ≡ getD (set members m y) b 0)
           once a b p q (yes e) r =
               let s : a < m = omega (arith, p, e) in
-              let t : getD members a 0 ≡ y = sym (members-other a s) ∙ (r ∙ (ap (λ (n : ℕ). getD (set members m y) n 0) e ∙ members-same)) in
-              omega (arith, z, G .listed a s, ap (λ (n : ℕ). getD marks n 0) t)
-          once a b p q (no n) r =
-              let s : b < m = omega (arith, q, n) in
+              let t : getD members a 0 ≡ y = sym (members-other a s) ∙ (r ∙ (ap (λ (i : ℕ). getD (set members m y) i 0) e ∙ members-same)) in
+              omega (arith, fresh, G .listed a s, ap (marked W slots) t)
+          once a b p q (no o) r =
+              let s : b < m = omega (arith, q, o) in
               G .once a b p s (sym (members-other a (omega (arith, p, s))) ∙ (r ∙ members-other b s))
 
-          forced : (x : ℕ) → 0 < getD (set marks y 1) x 0 → Dec (x ≡ y) → ForcedAt W T x
+          forced : (x : ℕ) → 0 < marked W slots′ x → Dec (x ≡ y) → ForcedAt W T x
           forced x p (yes e) = subst (ForcedAt W T) (sym e) f
-          forced x p (no n) = G .forced x (marked-before x n p)
+          forced x p (no o) = G .forced x (before x o p)
 
-      pub grew-add : Grew marks members m (set marks y 1) (set members m y) (m + 1)
-      grew-add = record { more = omega arith; marked = marked-after; listed = members-other }
+      pub grew-add : Grew W slots members m slots′ (set members m y) (m + 1)
+      grew-add = record { more = omega arith; marked = after; listed = members-other }
 
-pub grew-refl : (marks members : List ℕ) (m : ℕ) → Grew marks members m marks members m
-grew-refl marks members m = record { more = omega arith; marked = λ x h. h; listed = λ a h. refl }
+pub grew-refl : (W : Circuit) (slots members : List ℕ) (m : ℕ) → Grew W slots members m slots members m
+grew-refl W slots members m = record { more = omega arith; marked = λ x h. h; listed = λ a h. refl }
 
-pub grew-trans : {marks members marks₁ members₁ marks₂ members₂ : List ℕ} {m c r : ℕ} → Grew marks members m marks₁ members₁ c
-    → Grew marks₁ members₁ c marks₂ members₂ r → Grew marks members m marks₂ members₂ r
+pub grew-trans : {W : Circuit} {slots members slots₁ members₁ slots₂ members₂ : List ℕ} {m c r : ℕ} → Grew W slots members m slots₁ members₁ c
+    → Grew W slots₁ members₁ c slots₂ members₂ r → Grew W slots members m slots₂ members₂ r
 grew-trans f g = record {
   more = omega (arith, f .more, g .more);
   marked = λ x h. g .marked x (f .marked x h);
   listed = λ a h. g .listed a (omega (arith, h, f .more)) ∙ f .listed a h;
 }
 
-module _ {W : Circuit} {T : Target} {most : ℕ} {marks members : List ℕ} {m : ℕ} (G : Growing W T most marks members m) where
-  pub told-same : (P : List ℕ → Type 0) → P marks → Told W T most P marks members m marks members m
-  told-same P p = record { growing = λ h. G; grew = λ h. grew-refl marks members m; done = λ h. p; refutes = λ h. absurd (omega (arith, h, G .few)) }
+module _ {W : Circuit} {T : Target} {k : ℕ} {slots members : List ℕ} {m : ℕ} (G : Growing W T k slots members m) where
+  pub told-same : (P : List ℕ → Type 0) → P slots → Told W T k P slots members m slots members m
+  told-same P p = record { growing = λ h. G; grew = λ h. grew-refl W slots members m; done = λ h. p; refutes = λ h. absurd (omega (arith, h, G .few)) }
 
-  module _ (y : ℕ) (f : ForcedAt W T y) (below : y < total W) (limit : most ≤ mostCopies) where
-    pub told-added : {marks′ members′ : List ℕ} {r : ℕ} → Added (W .inputs) (W .width) (W .border) most marks members m y marks′ members′ r
-        → Told W T most (λ (s : List ℕ). 0 < getD s y 0) marks members m marks′ members′ r
-    told-added {r} (there-before e p q h) = rw e (rw p (rw q (told-same (λ (s : List ℕ). 0 < getD s y 0) h)))
+  module _ (y : ℕ) (f : ForcedAt W T y) (below : y < total W) where
+    pub told-added : {slots′ members′ : List ℕ} {r : ℕ} → Added (W .inputs) (W .gates) (W .width) (W .border) k slots members m y slots′ members′ r
+        → Told W T k (λ (s : List ℕ). 0 < marked W s y) slots members m slots′ members′ r
+    told-added {r} (there-before e p q h) = rw e (rw p (rw q (told-same (λ (s : List ℕ). 0 < marked W s y) h)))
     told-added {r} (there-now e p q z ends h) = rw e (rw p (rw q (record {
-      growing = λ k. growing-add G y f below limit z ends h;
-      grew = λ k. grew-add G y f below limit z ends h;
-      done = λ k. marked-new G y f below limit z ends h;
-      refutes = λ k. absurd (omega (arith, k, h));
-    })))
-    told-added {r} (must-not e p q z w) = rw e (rw p (rw q (record {
-      growing = λ k. absurd (omega (arith, k, G .some));
-      grew = λ k. absurd (omega (arith, k, G .some));
-      done = λ k. absurd (omega (arith, k, G .some));
-      refutes = λ k. record { count = m; sum = refl; growing = G; refuted = go w };
+      growing = λ l. growing-add G y i z h f;
+      grew = λ l. grew-add G y i z h;
+      done = λ l. new G y i z h;
+      refutes = λ l. absurd (omega (arith, l, growing-add G y i z h f .few));
     })))
       where
-        go : (0 < endingAt (W .inputs) (W .width) (W .border) y) ⊎ (most ≤ m) → Refuted W T most
+        i : Inner W y
+        i = record { below = below; ends = ends }
+    told-added {r} (must-not e p q z w) = rw e (rw p (rw q (record {
+      growing = λ l. absurd (omega (arith, l, G .some));
+      grew = λ l. absurd (omega (arith, l, G .some));
+      done = λ l. absurd (omega (arith, l, G .some));
+      refutes = λ l. record { count = m; sum = refl; growing = G; refuted = go w };
+    })))
+      where
+        go : (0 < endingAt (W .inputs) (W .width) (W .border) y) ⊎ ((endingAt (W .inputs) (W .width) (W .border) y ≡ 0) × (k ≤ getD slots (gateAt W y) 0)) → Refuted W T k
         go (inl h) = ends-refuted G y f h
-        go (inr h) = full-refuted G y f z h
+        go (inr (ends, h)) = full-refuted G y (record { below = below; ends = ends }) z f h

@@ -1,13 +1,13 @@
--- Definitions: the forced set by a work list, and what the functions that grow it and take it back ask and tell. `marks` has a positive byte at each forced copy
--- found, `members` lists the m of them. Each pin of a member is looked at once: its source may be a leaf, or is forced. A forced terminal, or more forced copies than
--- any cone with k leaves has, refutes every cut.
+-- Definitions: the forced set by a work list, and what the functions that grow it and take it back ask and tell. `slots` holds the forced copies found by their gates,
+-- `members` lists the m of them. Each pin of a member is looked at once: its source may be a leaf, or is forced. A forced terminal, or more forced copies of one gate
+-- than a cone with k leaves has, refutes every cut.
 use mathlib.Core.Path.{_≡_}
 use mathlib.Core.List.{List, []}
 use mathlib.Core.Logic.{_⊎_}
-use Prim.Native.Nat.{ℕ, _+_, _-_, _*_, _/_, _%_, _≤_, _<_}
+use Prim.Native.Nat.{ℕ, suc, _+_, _-_, _*_, _/_, _%_, _^_, _≤_, _<_}
 use lib.IntN.{ℤ}
 use lib.ListN.{length, getD, set}
-use Rattle.limits.specs.Limits.{mostCopies, mostPins}
+use Rattle.limits.specs.Limits.{mostK}
 use Rattle.net_model.specs.Net.{Net}
 use Rattle.net_model.specs.Copies.{Copy, copy}
 use Rattle.cone_theory.specs.Ranks.{Ranked}
@@ -15,28 +15,21 @@ use Rattle.cone_theory.specs.Reach.{reachOf}
 use Rattle.label_theory.specs.Labels.{Low, LowCut}
 use Rattle.label_theory.specs.Forced.{Forced}
 use Rattle.signed.specs.Range.{Small, room, labelIn}
-use Rattle.cut_circuit.specs.Circuit.{Circuit, Layout, total, circuit, place, endingAt, feedingAt}
-use Rattle.cut_search.specs.SearchParts.{SourceAsked}
-use Rattle.cut_least.specs.Bridge.{Holds, decode}
+use Rattle.cut_circuit.specs.Circuit.{Circuit, Layout, total, circuit, place, endingAt, feedingAt, forcedAt}
+use Rattle.cut_circuit.specs.Packed.{SourceAsked}
+use Rattle.cut_circuit.specs.Bridge.{Holds, decode}
+use Rattle.cut_forced.specs.Slots.{marked, gateAt, holding, Slotted, Unmarked}
 
--- a circuit's sizes and pins alone
-abbrev pub wires : ℕ → ℕ → ℕ → ℕ → List ℕ → List ℕ → List ℕ → Circuit
-wires inputs gates width border pins sources counts = circuit inputs gates width border pins [] sources counts [] [] []
+-- a circuit with other slots
+abbrev pub filled : Circuit → List ℕ → Circuit
+filled W slots = circuit (W .inputs) (W .gates) (W .width) (W .border) (W .pins) (W .first) (W .sources) (W .counts) (W .heads) (W .nexts) slots
 
--- the sizes and pins of C
+-- a circuit without slots
 abbrev pub wiresOf : Circuit → Circuit
-wiresOf C = wires (C .inputs) (C .gates) (C .width) (C .border) (C .pins) (C .sources) (C .counts)
-
-abbrev pub filled : Circuit → List ℕ → List ℕ → Circuit
-filled W first inside = circuit (W .inputs) (W .gates) (W .width) (W .border) (W .pins) first (W .sources) (W .counts) [] [] inside
-
--- a gate's copy inside the border
-pub record Inner (W : Circuit) (x : ℕ) : Type 0 where
-  pub below : x < total W
-  pub ends : endingAt (W .inputs) (W .width) (W .border) x ≡ 0
+wiresOf C = filled C []
 
 abbrev pub pinsAt : Circuit → ℕ → ℕ
-pinsAt W x = getD (W .pins) (x / W .width - W .inputs) 0
+pinsAt W x = getD (W .pins) (gateAt W x) 0
 
 -- the copy that feeds x by pin j
 abbrev pub feeder : Circuit → ℕ → ℕ → ℕ
@@ -58,81 +51,92 @@ LowOf T c = Low (T .phi) (labelIn (T .labels)) (T .height) c
 abbrev pub ForcedAt : Circuit → Target → ℕ → Type 0
 ForcedAt W T x = (N : Net) → Holds W N → Forced N (T .root) (LowOf T) (decode W x)
 
--- no cut of so few leaves is low enough
+-- no cut of at most k leaves is low enough
 abbrev pub Refuted : Circuit → Target → ℕ → Type 0
-Refuted W T most =
-    (N : Net) → Holds W N → Ranked N → (k : ℕ) → k * W .gates ≡ most → k * reachOf N ≤ W .border → ¬ LowCut N k (T .phi) (labelIn (T .labels)) (T .root) (T .height)
+Refuted W T k = (N : Net) → Holds W N → Ranked N → k * reachOf N ≤ W .border → ¬ LowCut N k (T .phi) (labelIn (T .labels)) (T .root) (T .height)
 
--- What does not change: the arrays laid out, labels for all nodes, and numbers that do not overflow.
-pub record Ground (W : Circuit) (ls : List ℤ) (φ most : ℕ) : Type 0 where
-  pub first : List ℕ
-  pub inside : List ℕ
-  pub layout : Layout (filled W first inside)
+-- What does not change: the arrays laid out, labels for all nodes, room for k copies of a gate, and numbers that do not overflow.
+pub record Ground (W : Circuit) (ls : List ℤ) (φ k : ℕ) : Type 0 where
+  pub slots : List ℕ
+  pub layout : Layout (filled W slots)
   pub labels : length ls ≡ W .inputs + W .gates
   pub small : (u : ℕ) → Small (labelIn ls u)
   pub shift : φ * W .width ≤ room
-  pub limit : most ≤ mostCopies
+  pub limit : k ≤ mostK
+  pub fits : total W * 16 < 2 ^ 32
 
--- The forced copies found so far: m of them, marked and listed.
-pub record Growing (W : Circuit) (T : Target) (most : ℕ) (marks members : List ℕ) (m : ℕ) : Type 0 where
-  pub places : total W ≤ length marks
-  pub space : mostCopies ≤ length members
+-- The forced copies found so far: m of them, in slots and listed.
+pub record Growing (W : Circuit) (T : Target) (k : ℕ) (slots members : List ℕ) (m : ℕ) : Type 0 where
+  pub slotted : Slotted W k slots
+  pub space : k * W .gates ≤ length members
   pub some : 0 < m
-  pub few : m ≤ most
-  pub root : 0 < getD marks (T .root * W .width) 0
-  pub inner : (x : ℕ) → 0 < getD marks x 0 → Inner W x
-  pub listed : (a : ℕ) → a < m → 0 < getD marks (getD members a 0) 0
-  pub all : (x : ℕ) → 0 < getD marks x 0 → (a : ℕ) × (a < m) × (getD members a 0 ≡ x)
+  pub few : m ≤ k * W .gates
+  pub root : 0 < marked W slots (T .root * W .width)
+  pub listed : (a : ℕ) → a < m → 0 < marked W slots (getD members a 0)
+  pub all : (x : ℕ) → 0 < marked W slots x → (a : ℕ) × (a < m) × (getD members a 0 ≡ x)
   pub once : (a b : ℕ) → a < b → b < m → ¬ (getD members a 0 ≡ getD members b 0)
-  pub forced : (x : ℕ) → 0 < getD marks x 0 → ForcedAt W T x
+  pub forced : (x : ℕ) → 0 < marked W slots x → ForcedAt W T x
 
 -- What was found is kept.
-pub record Grew (marks members : List ℕ) (m : ℕ) (marks′ members′ : List ℕ) (r : ℕ) : Type 0 where
+pub record Grew (W : Circuit) (slots members : List ℕ) (m : ℕ) (slots′ members′ : List ℕ) (r : ℕ) : Type 0 where
   pub more : m ≤ r
-  pub marked : (x : ℕ) → 0 < getD marks x 0 → 0 < getD marks′ x 0
+  pub marked : (x : ℕ) → 0 < marked W slots x → 0 < marked W slots′ x
   pub listed : (a : ℕ) → a < m → getD members′ a 0 ≡ getD members a 0
 
--- A result above `most`: every cut is refuted, and so many are marked as it is above.
-pub record Refutes (W : Circuit) (T : Target) (most : ℕ) (marks members : List ℕ) (r : ℕ) : Type 0 where
+-- A result above k for each gate: every cut is refuted, and so many are forced as it is above.
+pub record Refutes (W : Circuit) (T : Target) (k : ℕ) (slots members : List ℕ) (r : ℕ) : Type 0 where
   pub count : ℕ
-  pub sum : r ≡ most + count
-  pub growing : Growing W T most marks members count
-  pub refuted : Refuted W T most
+  pub sum : r ≡ k * W .gates + count
+  pub growing : Growing W T k slots members count
+  pub refuted : Refuted W T k
 
--- The result r of a step that is to make P hold of the marks.
-pub record Told (W : Circuit) (T : Target) (most : ℕ) (P : List ℕ → Type 0) (marks members : List ℕ) (m : ℕ) (marks′ members′ : List ℕ) (r : ℕ) : Type 0 where
-  pub growing : r ≤ most → Growing W T most marks′ members′ r
-  pub grew : r ≤ most → Grew marks members m marks′ members′ r
-  pub done : r ≤ most → P marks′
-  pub refutes : most < r → Refutes W T most marks′ members′ r
+-- The result r of a step that is to make P hold of the slots.
+pub record Told (W : Circuit) (T : Target) (k : ℕ) (P : List ℕ → Type 0) (slots members : List ℕ) (m : ℕ) (slots′ members′ : List ℕ) (r : ℕ) : Type 0 where
+  pub growing : r ≤ k * W .gates → Growing W T k slots′ members′ r
+  pub grew : r ≤ k * W .gates → Grew W slots members m slots′ members′ r
+  pub done : r ≤ k * W .gates → P slots′
+  pub refutes : k * W .gates < r → Refutes W T k slots′ members′ r
 
--- the source of pin j of x may be a leaf, or is marked
+-- the source of pin j of x may be a leaf, or is forced
 abbrev pub Settled : Circuit → Target → List ℕ → ℕ → ℕ → Type 0
-Settled W T marks x j = LowOf T (decode W (feeder W x j)) ⊎ (0 < getD marks (feeder W x j) 0)
+Settled W T slots x j = LowOf T (decode W (feeder W x j)) ⊎ (0 < marked W slots (feeder W x j))
 
 abbrev pub AllSettled : Circuit → Target → ℕ → List ℕ → Type 0
-AllSettled W T x marks = (j : ℕ) → j < pinsAt W x → Settled W T marks x j
+AllSettled W T x slots = (j : ℕ) → j < pinsAt W x → Settled W T slots x j
 
 -- the first n pins of x are settled
 abbrev pub Looked : Circuit → Target → ℕ → ℕ → List ℕ → Type 0
-Looked W T x n marks = (j : ℕ) → j < n → Settled W T marks x j
+Looked W T x n slots = (j : ℕ) → j < n → Settled W T slots x j
 
 -- ---- one copy
+-- what `hold` asks
+pub record HoldAsked (gates : ℕ) (slots : List ℕ) (g n d : ℕ) : Type 0 where
+  pub gate : g < gates
+  pub slot : n < mostK
+  pub places : suc mostK * gates ≤ length slots
+  pub fits : d < 2 ^ 32
+
 -- How copy y was added: it was there, or it is now, or it must not be.
-pub data Added (inputs width border most : ℕ) (marks members : List ℕ) (m y : ℕ) (marks′ members′ : List ℕ) (r : ℕ) : Type 0 where
-  there-before : r ≡ m → marks′ ≡ marks → members′ ≡ members → 0 < getD marks y 0 → Added inputs width border most marks members m y marks′ members′ r
-  there-now : r ≡ m + 1 → marks′ ≡ set marks y 1 → members′ ≡ set members m y → getD marks y 0 ≤ 0 → endingAt inputs width border y ≡ 0 → m < most
-      → Added inputs width border most marks members m y marks′ members′ r
-  must-not : r ≡ most + m → marks′ ≡ marks → members′ ≡ members → getD marks y 0 ≤ 0 → (0 < endingAt inputs width border y) ⊎ (most ≤ m)
-      → Added inputs width border most marks members m y marks′ members′ r
+pub data Added (inputs gates width border k : ℕ) (slots members : List ℕ) (m y : ℕ) (slots′ members′ : List ℕ) (r : ℕ) : Type 0 where
+  there-before : r ≡ m → slots′ ≡ slots → members′ ≡ members → 0 < forcedAt inputs gates width border slots y
+      → Added inputs gates width border k slots members m y slots′ members′ r
+  there-now : r ≡ m + 1 → slots′ ≡ holding gates slots (y / width - inputs) (getD slots (y / width - inputs) 0) (y % width) → members′ ≡ set members m y
+      → forcedAt inputs gates width border slots y ≡ 0 → endingAt inputs width border y ≡ 0 → getD slots (y / width - inputs) 0 < k
+      → Added inputs gates width border k slots members m y slots′ members′ r
+  must-not : r ≡ k * gates + m → slots′ ≡ slots → members′ ≡ members → forcedAt inputs gates width border slots y ≡ 0
+      → (0 < endingAt inputs width border y) ⊎ ((endingAt inputs width border y ≡ 0) × (k ≤ getD slots (y / width - inputs) 0))
+      → Added inputs gates width border k slots members m y slots′ members′ r
 
 -- what `add` asks
-pub record AddAsked (width most : ℕ) (marks members : List ℕ) (m y : ℕ) : Type 0 where
+pub record AddAsked (inputs gates width border k : ℕ) (slots members : List ℕ) (m y : ℕ) : Type 0 where
   pub wide : 0 < width
-  pub below : y < length marks
-  pub few : m ≤ most
-  pub limit : most ≤ mostCopies
-  pub space : mostCopies ≤ length members
+  pub below : y < (inputs + gates) * width
+  pub places : suc mostK * gates ≤ length slots
+  pub held : (g : ℕ) → g < gates → getD slots g 0 ≤ mostK
+  pub limit : k ≤ mostK
+  pub few : m ≤ k * gates
+  pub fits : (inputs + gates) * width * 16 < 2 ^ 32
+  pub room : forcedAt inputs gates width border slots y ≡ 0 → endingAt inputs width border y ≡ 0 → getD slots (y / width - inputs) 0 < k → m < length members
 
 -- ---- one pin
 pub record LowAsked (width : ℕ) (ls : List ℤ) (φ y : ℕ) : Type 0 where
@@ -141,63 +145,63 @@ pub record LowAsked (width : ℕ) (ls : List ℤ) (φ y : ℕ) : Type 0 where
   pub small : (u : ℕ) → Small (labelIn ls u)
   pub shift : φ * width ≤ room
 
-pub record PinAsked (inputs width : ℕ) (sources counts : List ℕ) (ls : List ℤ) (φ most : ℕ) (marks members : List ℕ) (m x j : ℕ) : Type 0 where
-  pub source : SourceAsked inputs width sources counts x j
-  pub low : LowAsked width ls φ (feedingAt width sources counts x (mostPins * (x / width - inputs) + j))
-  pub add : AddAsked width most marks members m (feedingAt width sources counts x (mostPins * (x / width - inputs) + j))
+pub record PinAsked (W : Circuit) (ls : List ℤ) (φ k : ℕ) (slots members : List ℕ) (m x j : ℕ) : Type 0 where
+  pub source : SourceAsked W x j
+  pub low : LowAsked (W .width) ls φ (feeder W x j)
+  pub add : AddAsked (W .inputs) (W .gates) (W .width) (W .border) k slots members m (feeder W x j)
 
-pub data PinTold (inputs width border : ℕ) (ls : List ℤ) (φ : ℕ) (h : ℤ) (most : ℕ) (marks members : List ℕ) (m y : ℕ) (marks′ members′ : List ℕ) (r : ℕ) : Type 0 where
-  leaf : r ≡ m → marks′ ≡ marks → members′ ≡ members → Low φ (labelIn ls) h (copy (y / width) (y % width))
-      → PinTold inputs width border ls φ h most marks members m y marks′ members′ r
-  forced : ¬ Low φ (labelIn ls) h (copy (y / width) (y % width)) → Added inputs width border most marks members m y marks′ members′ r
-      → PinTold inputs width border ls φ h most marks members m y marks′ members′ r
+pub data PinTold (inputs gates width border : ℕ) (ls : List ℤ) (φ : ℕ) (h : ℤ) (k : ℕ) (slots members : List ℕ) (m y : ℕ) (slots′ members′ : List ℕ) (r : ℕ) : Type 0 where
+  leaf : r ≡ m → slots′ ≡ slots → members′ ≡ members → Low φ (labelIn ls) h (copy (y / width) (y % width))
+      → PinTold inputs gates width border ls φ h k slots members m y slots′ members′ r
+  forced : ¬ Low φ (labelIn ls) h (copy (y / width) (y % width)) → Added inputs gates width border k slots members m y slots′ members′ r
+      → PinTold inputs gates width border ls φ h k slots members m y slots′ members′ r
 
 -- ---- one member
-pub record MemberAsked (W : Circuit) (ls : List ℤ) (φ : ℕ) (h : ℤ) (most : ℕ) (marks members : List ℕ) (m x : ℕ) : Type 0 where
-  pub ground : Ground W ls φ most
+pub record MemberAsked (W : Circuit) (ls : List ℤ) (φ : ℕ) (h : ℤ) (k : ℕ) (slots members : List ℕ) (m x : ℕ) : Type 0 where
+  pub ground : Ground W ls φ k
   pub root : ℕ
-  pub growing : Growing W (target ls φ root h) most marks members m
-  pub member : 0 < getD marks x 0
+  pub growing : Growing W (target ls φ root h) k slots members m
+  pub member : 0 < marked W slots x
 
 abbrev pub MemberTold : Circuit → List ℤ → ℕ → ℤ → ℕ → List ℕ → List ℕ → ℕ → ℕ → List ℕ → List ℕ → ℕ → Type 0
-MemberTold W ls φ h most marks members m x marks′ members′ r =
-    (v : ℕ) → Growing W (target ls φ v h) most marks members m → Told W (target ls φ v h) most (AllSettled W (target ls φ v h) x) marks members m marks′ members′ r
+MemberTold W ls φ h k slots members m x slots′ members′ r =
+    (v : ℕ) → Growing W (target ls φ v h) k slots members m → Told W (target ls φ v h) k (AllSettled W (target ls φ v h) x) slots members m slots′ members′ r
 
 -- ---- all of them
-pub record GrowAsked (W : Circuit) (ls : List ℤ) (φ : ℕ) (h : ℤ) (most : ℕ) (marks members : List ℕ) : Type 0 where
-  pub ground : Ground W ls φ most
+pub record GrowAsked (W : Circuit) (ls : List ℤ) (φ : ℕ) (h : ℤ) (k : ℕ) (slots members : List ℕ) : Type 0 where
+  pub ground : Ground W ls φ k
   pub root : ℕ
-  pub growing : Growing W (target ls φ root h) most marks members 1
+  pub growing : Growing W (target ls φ root h) k slots members 1
 
 -- The forced set: found and closed, or every cut is refuted.
-pub record ForceTold (W : Circuit) (T : Target) (most : ℕ) (marks members : List ℕ) (r : ℕ) : Type 0 where
-  pub growing : r ≤ most → Growing W T most marks members r
-  pub closed : r ≤ most → (x : ℕ) → 0 < getD marks x 0 → AllSettled W T x marks
-  pub refutes : most < r → Refutes W T most marks members r
+pub record ForceTold (W : Circuit) (T : Target) (k : ℕ) (slots members : List ℕ) (r : ℕ) : Type 0 where
+  pub growing : r ≤ k * W .gates → Growing W T k slots members r
+  pub closed : r ≤ k * W .gates → (x : ℕ) → 0 < marked W slots x → AllSettled W T x slots
+  pub refutes : k * W .gates < r → Refutes W T k slots members r
 
 abbrev pub GrowTold : Circuit → List ℤ → ℕ → ℤ → ℕ → List ℕ → List ℕ → List ℕ → List ℕ → ℕ → Type 0
-GrowTold W ls φ h most marks members marks′ members′ r =
-    (v : ℕ) → Growing W (target ls φ v h) most marks members 1 → ForceTold W (target ls φ v h) most marks′ members′ r
+GrowTold W ls φ h k slots members slots′ members′ r =
+    (v : ℕ) → Growing W (target ls φ v h) k slots members 1 → ForceTold W (target ls φ v h) k slots′ members′ r
 
 -- The first i members have all pins settled.
-pub record Progress (W : Circuit) (T : Target) (most : ℕ) (marks members : List ℕ) (m i : ℕ) : Type 0 where
-  pub growing : Growing W T most marks members m
-  pub closed : (a : ℕ) → a < i → AllSettled W T (getD members a 0) marks
+pub record Progress (W : Circuit) (T : Target) (k : ℕ) (slots members : List ℕ) (m i : ℕ) : Type 0 where
+  pub growing : Growing W T k slots members m
+  pub closed : (a : ℕ) → a < i → AllSettled W T (getD members a 0) slots
 
 -- what `force` asks of gate g
-pub record ForceAsked (W : Circuit) (ls : List ℤ) (φ most g : ℕ) (marks members : List ℕ) : Type 0 where
-  pub ground : Ground W ls φ most
-  pub places : total W ≤ length marks
-  pub space : mostCopies ≤ length members
+pub record ForceAsked (W : Circuit) (ls : List ℤ) (φ k g : ℕ) (slots members : List ℕ) : Type 0 where
+  pub ground : Ground W ls φ k
+  pub places : suc mostK * W .gates ≤ length slots
+  pub space : k * W .gates ≤ length members
   pub gate : g < W .gates
-  pub some : 0 < most
-  pub unforced : (x : ℕ) → getD marks x 0 ≡ 0
+  pub some : 0 < k
+  pub unforced : Unmarked (W .gates) slots
 
--- ---- marks taken away
-abbrev pub Unmarked : List ℕ → Type 0
-Unmarked marks = (x : ℕ) → getD marks x 0 ≡ 0
-
--- Marks are left only at the members from place i on.
-pub record Listed (marks members : List ℕ) (i : ℕ) : Type 0 where
-  pub inside : (a : ℕ) → a < length members → getD members a 0 < length marks
-  pub rest : (x : ℕ) → 0 < getD marks x 0 → (a : ℕ) × (i ≤ a) × (a < length members) × (getD members a 0 ≡ x)
+-- ---- forced copies taken away
+-- The members are copies of gates, and only gates of members from place i on have forced copies.
+pub record Listed (inputs gates width : ℕ) (slots members : List ℕ) (i : ℕ) : Type 0 where
+  pub wide : 0 < width
+  pub places : gates ≤ length slots
+  pub low : (a : ℕ) → a < length members → inputs ≤ getD members a 0 / width
+  pub high : (a : ℕ) → a < length members → getD members a 0 / width - inputs < gates
+  pub rest : (g : ℕ) → g < gates → 0 < getD slots g 0 → (a : ℕ) × (i ≤ a) × (a < length members) × (getD members a 0 / width - inputs ≡ g)

@@ -1,5 +1,7 @@
+pub mod Slots
 pub mod Forcing
 pub mod Outside
+pub mod SlotLaws
 pub mod AddLaws
 pub mod ForcedPinLaws
 pub mod GrowLaws

@@ -2,66 +2,60 @@
 use mathlib.Core.Path.{_≡_, refl, sym, ap, subst, _∙_}
 use mathlib.Core.List.{List, [], _∷_, _++_}
 use mathlib.Core.Logic.{_⊎_, inl, inr}
-use Prim.Native.Nat.{ℕ, _+_, _-_, _/_, _^_, _≤_, _<_}
+use Prim.Native.Nat.{ℕ, _+_, _≤_, _<_}
 use native.Mathlib.Omega.{arith}
 use native.Mathlib.Decide.{ℕ-discrete}
-use lib.ListN.{length, getD, replicate, length-replicate, length-append}
-use Rattle.limits.specs.Limits.{mostCopies, mostPins}
+use lib.ListN.{getD, length-append}
+use Rattle.limits.specs.Limits.{mostPins}
 use Rattle.sequences.specs.Member.{_∈_, here, there, in-append-left, in-append-right}
 use Rattle.cut_circuit.specs.Circuit.{Circuit}
-use Rattle.cut_search.specs.SearchParts.{SourceAsked}
+use Rattle.cut_circuit.specs.CircuitLaws.{wide-positive}
+use Rattle.cut_forced.specs.Slots.{marked, gateAt}
+use Rattle.cut_forced.specs.SlotLaws.{gate-inside}
 use Rattle.cut_forced.specs.Forcing.{pinsAt, feeder}
 use Rattle.cut_forced.specs.Outside.{OneMore, OutsideAsked, PinsOutside, Outside}
-use Rattle.cut_forced.specs.ForcedPinLaws.{member-gate-below, feeder-below, pin-asked}
 
 -- ---- what is asked of a pin
-module _ {W : Circuit} {marks : List ℕ} {x : ℕ} (A : OutsideAsked W marks x) where
+module _ {W : Circuit} {slots : List ℕ} {x : ℕ} (A : OutsideAsked W slots x) where
   pub asked-few : pinsAt W x ≤ mostPins
-  asked-few = A .ground .layout .few (x / W .width - W .inputs) (member-gate-below (A .ground) (A .inner))
+  asked-few = A .ground .layout .few (gateAt W x) (gate-inside (wide-positive (A .ground .layout)) (A .inner))
 
-  module _ (j : ℕ) (b : j < pinsAt W x) where
-    pub asked-source : length marks < 2 ^ 64 → SourceAsked (W .inputs) (W .width) (W .sources) (W .counts) x j
-    asked-source q = pin-asked (A .ground) (A .inner) b {marks = marks} {members = replicate mostCopies 0} {m = 0} (A .places) q (omega (arith, length-replicate {A = ℕ} mostCopies 0)) (omega arith) .source
-
-    pub asked-below : feeder W x j < length marks
-    asked-below = omega (arith, feeder-below (A .ground) (A .inner) b, A .places)
-
-pub one-more-bound : (marks : List ℕ) (y : ℕ) {c r m : ℕ} → OneMore marks y c r → c ≤ m → r ≤ m + 1
-one-more-bound marks y (inl (h, e)) l = omega (arith, e, l)
-one-more-bound marks y (inr e) l = omega (arith, e, l)
+pub one-more-bound : (inputs gates width border : ℕ) (slots : List ℕ) (y : ℕ) {c r m : ℕ} → OneMore inputs gates width border slots y c r → c ≤ m → r ≤ m + 1
+one-more-bound inputs gates width border slots y (inl (h, e)) l = omega (arith, e, l)
+one-more-bound inputs gates width border slots y (inr e) l = omega (arith, e, l)
 
 -- ---- one more pin, one more member
-module _ {W : Circuit} {marks : List ℕ} {x : ℕ} where
-  pub pins-outside-none : {c : ℕ} → PinsOutside W marks x 0 c c
+module _ {W : Circuit} {slots : List ℕ} {x : ℕ} where
+  pub pins-outside-none : {c : ℕ} → PinsOutside W slots x 0 c c
   pins-outside-none = record { others = []; count = omega arith; all = λ j h. absurd (omega (arith, h)) }
 
-  pub pins-outside-all : {j n c r : ℕ} → j ≡ n → PinsOutside W marks x j c r → PinsOutside W marks x n c r
-  pins-outside-all {c = c} {r = r} e p = subst (λ (z : ℕ). PinsOutside W marks x z c r) e p
+  pub pins-outside-all : {j n c r : ℕ} → j ≡ n → PinsOutside W slots x j c r → PinsOutside W slots x n c r
+  pins-outside-all {c = c} {r = r} e p = subst (λ (z : ℕ). PinsOutside W slots x z c r) e p
 
-  pub pins-outside-more : {j c o r : ℕ} → PinsOutside W marks x j c o → OneMore marks (feeder W x j) o r → PinsOutside W marks x (j + 1) c r
+  pub pins-outside-more : {j c o r : ℕ} → PinsOutside W slots x j c o → OneMore (W .inputs) (W .gates) (W .width) (W .border) slots (feeder W x j) o r → PinsOutside W slots x (j + 1) c r
   pins-outside-more {j} {c} {o} {r} p (inl (h, e)) = record { others = p .others; count = e ∙ p .count; all = λ i l. go i l (ℕ-discrete i j) }
     where
-      go : (i : ℕ) → i < j + 1 → Dec (i ≡ j) → (0 < getD marks (feeder W x i) 0) ⊎ (feeder W x i ∈ p .others)
-      go i l (yes q) = inl (subst (λ (z : ℕ). 0 < getD marks (feeder W x z) 0) (sym q) h)
+      go : (i : ℕ) → i < j + 1 → Dec (i ≡ j) → (0 < marked W slots (feeder W x i)) ⊎ (feeder W x i ∈ p .others)
+      go i l (yes q) = inl (subst (λ (z : ℕ). 0 < marked W slots (feeder W x z)) (sym q) h)
       go i l (no n) = p .all i (omega (arith, l, n))
   pins-outside-more {j} {c} {o} {r} p (inr e) = record { others = feeder W x j ∷ p .others; count = omega (arith, e, p .count); all = λ i l. go i l (ℕ-discrete i j) }
     where
-      old : (i : ℕ) → (0 < getD marks (feeder W x i) 0) ⊎ (feeder W x i ∈ p .others) → (0 < getD marks (feeder W x i) 0) ⊎ (feeder W x i ∈ feeder W x j ∷ p .others)
+      old : (i : ℕ) → (0 < marked W slots (feeder W x i)) ⊎ (feeder W x i ∈ p .others) → (0 < marked W slots (feeder W x i)) ⊎ (feeder W x i ∈ feeder W x j ∷ p .others)
       old i (inl h) = inl h
       old i (inr m) = inr (there m)
 
-      go : (i : ℕ) → i < j + 1 → Dec (i ≡ j) → (0 < getD marks (feeder W x i) 0) ⊎ (feeder W x i ∈ feeder W x j ∷ p .others)
+      go : (i : ℕ) → i < j + 1 → Dec (i ≡ j) → (0 < marked W slots (feeder W x i)) ⊎ (feeder W x i ∈ feeder W x j ∷ p .others)
       go i l (yes q) = inr (here (ap (feeder W x) q))
       go i l (no n) = old i (p .all i (omega (arith, l, n)))
 
-module _ {W : Circuit} {marks members : List ℕ} where
-  pub outside-none : Outside W marks members 0 0
+module _ {W : Circuit} {slots members : List ℕ} where
+  pub outside-none : Outside W slots members 0 0
   outside-none = record { others = []; count = refl; all = λ a h. absurd (omega (arith, h)) }
 
-  pub outside-all : {i n c : ℕ} → i ≡ n → Outside W marks members i c → Outside W marks members n c
-  outside-all {c = c} e o = subst (λ (z : ℕ). Outside W marks members z c) e o
+  pub outside-all : {i n c : ℕ} → i ≡ n → Outside W slots members i c → Outside W slots members n c
+  outside-all {c = c} e o = subst (λ (z : ℕ). Outside W slots members z c) e o
 
-  pub outside-more : {i c r : ℕ} → Outside W marks members i c → PinsOutside W marks (getD members i 0) (pinsAt W (getD members i 0)) c r → Outside W marks members (i + 1) r
+  pub outside-more : {i c r : ℕ} → Outside W slots members i c → PinsOutside W slots (getD members i 0) (pinsAt W (getD members i 0)) c r → Outside W slots members (i + 1) r
   outside-more {i} {c} {r} o p = record {
     others = p .others ++ o .others;
     count = omega (arith, p .count, o .count, length-append (p .others) (o .others));
@@ -69,7 +63,7 @@ module _ {W : Circuit} {marks members : List ℕ} where
   }
     where
       Read : ℕ → ℕ → List ℕ → Type 0
-      Read a j l = (0 < getD marks (feeder W (getD members a 0) j) 0) ⊎ (feeder W (getD members a 0) j ∈ l)
+      Read a j l = (0 < marked W slots (feeder W (getD members a 0) j)) ⊎ (feeder W (getD members a 0) j ∈ l)
 
       left : (a j : ℕ) → Read a j (p .others) → Read a j (p .others ++ o .others)
       left a j (inl h) = inl h

@@ -16,18 +16,20 @@ use Rattle.net_model.specs.Net.{Net, IsGate}
 use Rattle.net_model.specs.Checks.{Loopless}
 use Rattle.net_model.specs.Copies.{Copy, copy, Feeds, Leads, IsCone, Leaf, IsLeaves}
 use Rattle.cone_theory.specs.Basics.{member?, leaves-distinct}
+use Rattle.cone_theory.specs.Ranks.{Ranked}
 use Rattle.cut_flow.specs.Graph as Graphs
 use Rattle.cut_flow.specs.Graph.{Graph, Feeding, Separation, Lists}
 use Rattle.cut_flow.specs.Course.{duality}
+use Rattle.cut_flow.specs.Capped.{capped-closed}
 use Rattle.cut_flow.specs.Closed.{Closed, Found, found-separation, few-leaves, smallest, found-leads, out-leaf, leaf-out, leaf-apart}
-use Rattle.cut_circuit.specs.Circuit.{Circuit, graphOf, Layout, total, ending}
-use Rattle.cut_circuit.specs.CircuitLaws.{lawful, wide-positive, terminal-is, forced-is}
+use Rattle.cut_circuit.specs.Circuit.{Circuit, graphOf, Layout, total, ending, forcedIn}
+use Rattle.cut_circuit.specs.CircuitLaws.{lawful, wide-positive, size-is, terminal-is, forced-is}
 use Rattle.cut_search.specs.SearchTable.{viewOf}
 use Rattle.cut_search.specs.SearchTableLaws.{in-below}
 use Rattle.cut_least.specs.CutRounds.{Flowing, CutTold}
 use Rattle.cut_least.specs.Collect.{LeafMark, CollectAsked, CollectTold, numberAt}
 use Rattle.cut_least.specs.CollectLaws.{rising-copiesFrom, number-before}
-use Rattle.cut_least.specs.Bridge.{Holds, decode, encode, encode-decode, decode-encode, decode-one, inner-gate, gate-inner, to-feeds, from-feeds, order}
+use Rattle.cut_circuit.specs.Bridge.{Holds, decode, encode, encode-decode, decode-encode, decode-one, inner-gate, gate-inner, to-feeds, from-feeds, order, copies}
 use Rattle.net_model.specs.Arrays.{copiesFrom}
 use Rattle.net_model.specs.ArrayLaws.{copiesFrom-in, in-copiesFrom, length-copiesFrom}
 
@@ -35,13 +37,13 @@ use Rattle.net_model.specs.ArrayLaws.{copiesFrom-in, in-copiesFrom, length-copi
 pub record Separates (C : Circuit) (N : Net) (cone : List Copy) : Type 0 where
   pub gates : (c : Copy) → c ∈ cone → IsGate N (c .node)
   pub border : (c : Copy) → c ∈ cone → c .back ≤ C .border
-  pub forced : (x : ℕ) → 0 < getD (C .inside) x 0 → decode C x ∈ cone
+  pub forced : (x : ℕ) → 0 < forcedIn C x → decode C x ∈ cone
 
 -- Each forced copy leads to v:0 among the forced copies, listed by S, and v:0 is one.
 pub record ForcedLeads (C : Circuit) (N : Net) (v : ℕ) (S : List Copy) : Type 0 where
-  pub within : (c : Copy) → c ∈ S → (x : ℕ) × (0 < getD (C .inside) x 0) × (c ≡ decode C x)
-  pub leads : (x : ℕ) → 0 < getD (C .inside) x 0 → Leads N S (copy v 0) (decode C x)
-  pub root : 0 < getD (C .inside) (encode C (copy v 0)) 0
+  pub within : (c : Copy) → c ∈ S → (x : ℕ) × (0 < forcedIn C x) × (c ≡ decode C x)
+  pub leads : (x : ℕ) → 0 < forcedIn C x → Leads N S (copy v 0) (decode C x)
+  pub root : 0 < forcedIn C (encode C (copy v 0))
 
 -- ---- the set found
 unfoldable pub found? : (C : Circuit) (t : List ℕ) (x : ℕ) → Dec (Found (graphOf C) (viewOf t) x)
@@ -59,7 +61,7 @@ coneOf-in C t h =
 
 module _ {C : Circuit} (t : List ℕ) (L : Layout C) (room : length t ≡ total C) where
   found-inside : (x : ℕ) → Found (graphOf C) (viewOf t) x → x < total C
-  found-inside x (inl h) = L .forced x (subst (λ (n : ℕ). 0 < n) (forced-is C x) h) .0
+  found-inside x (inl h) = omega (arith, size-is C, lawful L .forced x h)
   found-inside x (inr h) = omega (arith, room, in-below t x h)
 
   pub in-coneOf : (x : ℕ) → Found (graphOf C) (viewOf t) x → decode C x ∈ coneOf C t
@@ -96,7 +98,7 @@ module _ {C : Circuit} {N : Net} (L : Layout C) (H : Holds C N) where
           let d = duality (g .state) (λ x. member? (decode C x) cone) separation (order L H loopless) (g .rooted) lists in
           omega (arith, d, g .count, length-map leaves (encode C))
 
-module _ {C : Circuit} {N : Net} {t l : List ℕ} {k r : ℕ} (L : Layout C) (H : Holds C N) (loopless : Loopless N) (room : length t ≡ total C) (o : CutTold C t l k r) where
+module _ {C : Circuit} {N : Net} {t l : List ℕ} {k r : ℕ} (L : Layout C) (H : Holds C N) (R : Ranked N) (loopless : Loopless N) (room : length t ≡ total C) (o : CutTold C t l k r) where
   -- More than k units: no separation has at most k leaves.
   pub none-few : k < r → {cone leaves : List Copy} → Separates C N cone → IsLeaves N cone leaves → k < length leaves
   none-few h s w = omega (arith, h, at-least L H s w loopless (o .flowing))
@@ -106,7 +108,7 @@ module _ {C : Circuit} {N : Net} {t l : List ℕ} {k r : ℕ} (L : Layout C) (H 
 
   module _ (few : r ≤ k) where
     done : Closed (graphOf C) (viewOf t)
-    done = o .closed few
+    done = capped-closed (copies L H R) (lawful L) (o .capped few) (order L H loopless) (o .flowing .state) (omega (arith, o .flowing .count))
 
     found-inner : (x : ℕ) → Found (graphOf C) (viewOf t) x → ending C x ≡ 0
     found-inner x f = sym (terminal-is C x) ∙ found-separation (lawful L) done .free x f

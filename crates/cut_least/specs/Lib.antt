@@ -2,5 +2,4 @@ pub mod CutRounds
 pub mod CutRoundsLaws
 pub mod Collect
 pub mod CollectLaws
-pub mod Bridge
 pub mod CutAnswer

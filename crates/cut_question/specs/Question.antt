@@ -1,10 +1,10 @@
 -- Definitions: the cut question asked of the engine for gate g and a threshold, and what its answer means.
 use mathlib.Core.Path.{_≡_}
 use mathlib.Core.List.{List}
-use Prim.Native.Nat.{ℕ, _+_, _*_, _≤_, _<_}
+use Prim.Native.Nat.{ℕ, _+_, _*_, _^_, _≤_, _<_}
 use lib.IntN.{ℤ}
-use lib.ListN.{length, getD}
-use Rattle.limits.specs.Limits.{mostCopies}
+use lib.ListN.{length}
+use Rattle.limits.specs.Limits.{mostK}
 use Rattle.sequences.specs.Member.{Within}
 use Rattle.net_model.specs.Net.{Net}
 use Rattle.net_model.specs.Checks.{Loopless}
@@ -17,18 +17,15 @@ use Rattle.label_theory.specs.Forced.{ForcedSet, Separation}
 use Rattle.signed.specs.Range.{Small, room, labelIn}
 use Rattle.cut_circuit.specs.Circuit.{Circuit, Layout, total}
 use Rattle.cut_circuit.specs.Chains.{Chains}
-use Rattle.cut_least.specs.CutRounds.{Cleared}
-use Rattle.cut_least.specs.Bridge.{Holds}
+use Rattle.cut_circuit.specs.Bridge.{Holds}
+use Rattle.cut_forced.specs.Slots.{Unmarked}
 
--- The engine at rest: arrays laid out, chains linked, no copy forced, no flow and no mark.
-pub record AtRest (C : Circuit) (t l members : List ℕ) : Type 0 where
+-- The circuit at rest: arrays laid out, chains linked, no copy forced, and room for the members.
+pub record Resting (C : Circuit) (members : List ℕ) : Type 0 where
   pub layout : Layout C
   pub chains : Chains C
-  pub table : length t ≡ total C
-  pub longer : length t < length l
-  pub cleared : Cleared t l
-  pub unforced : (x : ℕ) → getD (C .inside) x 0 ≡ 0
-  pub space : mostCopies ≤ length members
+  pub unforced : Unmarked (C .gates) (C .slots)
+  pub space : mostK * C .gates ≤ length members
 
 -- What may be asked: a gate, labels for all nodes, and numbers that do not overflow.
 pub record Asks (C : Circuit) (ls : List ℤ) (φ k g : ℕ) : Type 0 where
@@ -37,7 +34,8 @@ pub record Asks (C : Circuit) (ls : List ℤ) (φ k g : ℕ) : Type 0 where
   pub shift : φ * C .width ≤ room
   pub gate : g < C .gates
   pub least : 1 ≤ k
-  pub copies : k * C .gates ≤ mostCopies
+  pub limit : k ≤ mostK
+  pub fits : total C * 16 < 2 ^ 32
 
 -- A separation of the forced set with at most k leaves.
 pub record Parted (N : Net) (v φ : ℕ) (lab : ℕ → ℤ) (h : ℤ) (border k : ℕ) : Type 0 where
@@ -61,10 +59,11 @@ pub record Decides (C : Circuit) (ls : List ℤ) (φ k g : ℕ) (h : ℤ) (r : �
   pub none : (N : Net) → Holds C N → Ranked N → Loopless N → k * reachOf N ≤ C .border → k < r → ¬ LowCut N k φ (labelIn ls) (C .inputs + g) h
   pub some : (N : Net) → Holds C N → Ranked N → Loopless N → k * reachOf N ≤ C .border → r ≤ k → Parted N (C .inputs + g) φ (labelIn ls) h (C .border) k
 
--- Two arrays with room for k leaves, and a net without loops that has this wiring.
+-- Two arrays with room for k leaves, and a net that has this wiring, without loops and with ranks.
 pub record Takes (C : Circuit) (k : ℕ) (nodes backs : List ℕ) : Type 0 where
   pub net : Net
   pub holds : Holds C net
+  pub ranked : Ranked net
   pub loopless : Loopless net
   pub atNodes : k ≤ length nodes
   pub atBacks : k ≤ length backs

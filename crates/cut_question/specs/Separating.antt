@@ -3,13 +3,16 @@ use mathlib.Core.Path.{_≡_}
 use mathlib.Core.List.{List}
 use Prim.Native.Nat.{ℕ, _≤_}
 use lib.ListN.{length}
-use Rattle.cut_circuit.specs.Circuit.{Circuit, total, circuit}
-use Rattle.cut_least.specs.CutRounds.{CutTold}
+use Rattle.cut_circuit.specs.Circuit.{Circuit, total}
+use Rattle.cut_least.specs.CutRounds.{Cleared, Sized, CutTold}
 use Rattle.cut_least.specs.Collect.{CollectAsked, CollectTold}
+use Rattle.cut_question.specs.Question.{Resting}
 
--- C with other marks
-abbrev pub marked : Circuit → List ℕ → Circuit
-marked C marks = circuit (C .inputs) (C .gates) (C .width) (C .border) (C .pins) (C .first) (C .sources) (C .counts) (C .heads) (C .nexts) marks
+-- The engine at rest: the circuit at rest, its arrays of their sizes, no flow and no mark.
+pub record AtRest (C : Circuit) (t l stk cnt members : List ℕ) : Type 0 where
+  pub resting : Resting C members
+  pub sized : Sized C t l stk cnt
+  pub cleared : Cleared t l
 
 -- r is what `min_cut` told of a table that is cleared by now.
 pub record CutSeen (C : Circuit) (k r : ℕ) : Type 0 where

@@ -1,21 +1,29 @@
-// One augmenting search over a table of one byte a copy.
+// One augmenting search over a table of one byte a copy, with a stack of its own: at most f + 1 copies of each node are opened, where f units flow.
 use cut_circuit::Extent;
+use cut_circuit::first_of;
+use cut_circuit::is_forced;
+use cut_circuit::number_at;
+use cut_circuit::pins_of;
+use cut_circuit::put_number;
+use cut_circuit::source;
+use inputs::narrow;
 use inputs::wide;
 use limits::PINS;
 ghost use mathlib.Core.Path.{_≡_};
 ghost use mathlib.Core.Bool.{true, false};
-ghost use Prim.Native.Nat.{_+_, _-_, _*_, _/_, _≤_, _<_};
-ghost use lib.ListN.{length, getD};
-ghost use Rattle.limits.specs.Limits.{mostPins};
-ghost use Rattle.cut_circuit.specs.Circuit.{circuit, endingAt, feedingAt};
-ghost use Rattle.cut_search.specs.SearchTable.{viewOf, Touched, withIn, withOut, withFlow};
-ghost use Rattle.cut_search.specs.SearchVisits.{OutAsked, LeaveAsked, InAsked, EnterAsked, OutTold, LeaveTold, InTold, EnterTold};
-ghost use Rattle.cut_search.specs.Roots.{RootAsked, RootPinAsked, RootPinTold, RootAllTold, SearchAsked, SearchTold};
-ghost use Rattle.cut_search.specs.SearchParts.{SourceAsked, TouchTold, MarkedInTold, MarkedOutTold, CandidateAsked, CandidateTold, SeekAsked, SeekTold, EntryTold, WayPlace, WayTold, Turn};
+ghost use Prim.Native.Nat.{suc, _+_, _-_, _*_, _/_, _^_, _≤_, _<_};
+ghost use lib.ListN.{length, getD, drop};
+ghost use Rattle.cut_circuit.specs.Circuit.{endingAt};
+ghost use Rattle.cut_circuit.specs.Packed.{packedOf, sourcesAt, countsAt, nextsAt, headsAt};
+ghost use Rattle.cut_search.specs.SearchTable.{viewOf, Touched, Noted, withIn, withOut, withFlow};
+ghost use Rattle.cut_search.specs.SearchParts.{TouchTold, ListRoom, MarkedOutTold, CandidateAsked, CandidateTold, SeekAsked, SeekTold, EntryTold, WayPlace, WayTold, Zeroed};
+ghost use Rattle.cut_search.specs.Stacks.{turnAt, framesOf};
+ghost use Rattle.cut_search.specs.StackParts.{PushAsked, Pushed};
+ghost use Rattle.cut_search.specs.Steps.{ComeAsked, ComeTold, LeaveAsked, LeaveTold, StepAsked, StepTold, RunAsked, RunTold, UnwindAsked, UnwindTold, MemberAsked, MemberTold, SearchAsked, RootsAsked, SearchTold};
 
 // ---- the byte of a copy
 
-fn flow_at(table: &[u8], c: usize) -> usize
+pub fn flow_at(table: &[u8], c: usize) -> usize
     requires { do ⌜ c < (← ⟦table.len()⟧) ⌝ }
     ensures { λ r. ⌜ r ≡ (viewOf (now (table .entry))) .flow c ⌝ }
 {
@@ -37,16 +45,19 @@ pub fn out_at(table: &[u8], c: usize) -> usize
 }
 
 // Lists a copy, unless it is listed.
-fn touch(table: &mut [u8], list: &mut [usize], c: usize)
+fn touch(table: &mut [u8], list: &mut [u32], c: usize)
     requires { do ⌜ c < (← ⟦table.len()⟧) ⌝ }
     requires { ⌜ Touched (now table) (now list) ⌝ }
+    requires { ⌜ ListRoom (now table) (now list) c ⌝ }
+    requires { ⌜ c < 2 ^ 32 ⌝ }
+    requires { ⌜ length (now list) < 2 ^ 32 ⌝ }
     ensures { λ _. ⌜ TouchTold (now (table .entry)) (now (list .entry)) (now (table .exit)) (now (list .exit)) c ⌝ }
 {
     if table[c] < 32 {
-        let n = list[0] + 1;
+        let n = number_at(list, 0) + 1;
         table[c] = 32;
-        list[n] = c;
-        list[0] = n;
+        put_number(list, n, c);
+        put_number(list, 0, n);
     }
 }
 
@@ -74,19 +85,11 @@ fn set_flow(table: &mut [u8], c: usize, n: u8)
     table[c] = table[c] / 8 * 8 + n;
 }
 
-fn mark_in(table: &mut [u8], list: &mut [usize], c: usize)
+fn mark_out(table: &mut [u8], list: &mut [u32], c: usize)
     requires { do ⌜ c < (← ⟦table.len()⟧) ⌝ }
-    requires { ⌜ Touched (now table) (now list) ⌝ }
-    requires { ⌜ (viewOf (now table)) .inn c ≡ 0 ⌝ }
-    ensures { λ _. ⌜ MarkedInTold (now (table .entry)) (now (table .exit)) (now (list .exit)) c ⌝ }
-{
-    touch(table, list, c);
-    set_in(table, c);
-}
-
-fn mark_out(table: &mut [u8], list: &mut [usize], c: usize)
-    requires { do ⌜ c < (← ⟦table.len()⟧) ⌝ }
-    requires { ⌜ Touched (now table) (now list) ⌝ }
+    requires { ⌜ Noted (now table) (now list) ⌝ }
+    requires { ⌜ ListRoom (now table) (now list) c ⌝ }
+    requires { ⌜ (c < 2 ^ 32) × (length (now list) < 2 ^ 32) ⌝ }
     requires { ⌜ (viewOf (now table)) .out c ≡ 0 ⌝ }
     ensures { λ _. ⌜ MarkedOutTold (now (table .entry)) (now (table .exit)) (now (list .exit)) c ⌝ }
 {
@@ -108,25 +111,6 @@ fn terminal(s: Extent, x: usize) -> usize
         return 1;
     }
     0
-}
-
-// The copy that feeds x by pin j.
-pub fn source(s: Extent, sources: &[usize], counts: &[usize], x: usize, j: usize) -> usize
-    requires { ⌜ SourceAsked (s .inputs) (s .width) (now sources) (now counts) x j ⌝ }
-    ensures { λ r. ⌜ r ≡ feedingAt (s .width) (now (sources .entry)) (now (counts .entry)) x (mostPins * (x / s .width - s .inputs) + j) ⌝ }
-{
-    let p = PINS * (x / s.width - s.inputs) + j;
-    sources[p] * s.width + (x % s.width + counts[p])
-}
-
-// The number of pins of a gate's copy.
-pub fn pins_of(s: Extent, pins: &[usize], x: usize) -> usize
-    requires { ⌜ (0 < s .width) × (s .inputs ≤ x / s .width) ⌝ }
-    requires { do ⌜ x / s .width - s .inputs < (← ⟦pins.len()⟧) ⌝ }
-    ensures { λ r. ⌜ r ≡ getD (now (pins .entry)) (x / s .width - s .inputs) 0 ⌝ }
-{
-    let g = x / s.width - s.inputs;
-    pins[g]
 }
 
 // The copy whose unit came in by the pin at place p from y, or the table's length.
@@ -202,37 +186,25 @@ fn is_open(s: Extent, table: &[u8], y: usize) -> bool
 }
 
 // Where a search out of y comes in: at y, or at its successor where it carries a unit; the table's length where it has none.
-fn entry(
-    s: Extent,
-    sources: &[usize],
-    counts: &[usize],
-    heads: &[usize],
-    nexts: &[usize],
-    table: &[u8],
-    y: usize,
-) -> usize
-    requires { ⌜ SeekAsked (s .inputs) (s .gates) (s .width) (s .border) (now sources) (now counts) (now heads) (now nexts) (now table) y ⌝ }
+fn entry(s: Extent, net: &[usize], table: &[u8], y: usize) -> usize
+    requires { ⌜ SeekAsked (s .inputs) (s .gates) (s .width) (s .border) (drop (sourcesAt (s .gates)) (now net)) (drop (countsAt (s .gates)) (now net)) (drop (headsAt (s .gates)) (now net)) (drop (nextsAt (s .gates)) (now net)) (now table) y ⌝ }
     requires { do ⌜ y < (← ⟦table.len()⟧) ⌝ }
-    ensures { λ r. ⌜ EntryTold (s .inputs) (s .width) (s .border) (now (sources .entry)) (now (counts .entry)) (now (heads .entry)) (now (nexts .entry)) (now (table .entry)) y r ⌝ }
+    ensures { λ r. ⌜ EntryTold (s .inputs) (s .width) (s .border) (drop (sourcesAt (s .gates)) (now (net .entry))) (drop (countsAt (s .gates)) (now (net .entry))) (drop (headsAt (s .gates)) (now (net .entry))) (drop (nextsAt (s .gates)) (now (net .entry))) (now (table .entry)) y r ⌝ }
 {
     if flow_at(table, y) == 0 {
         return y;
     }
-    successor(s, sources, counts, heads, nexts, table, y)
+    let a = 2 * s.gates;
+    let b = (2 + PINS) * s.gates;
+    let c = (2 + 2 * PINS) * s.gates;
+    let d = (2 + 3 * PINS) * s.gates;
+    successor(s, &net[a..], &net[b..], &net[d..], &net[c..], table, y)
 }
 
 // Where way w out of x leads: to the source of pin w - 1, or for 0 to x itself; the table's length where that source is forced, x carries no unit, or the place is marked out.
-fn way(
-    s: Extent,
-    sources: &[usize],
-    counts: &[usize],
-    inside: &[u8],
-    table: &[u8],
-    x: usize,
-    w: usize,
-) -> usize
-    requires { ⌜ WayPlace (s .inputs) (s .width) (now sources) (now counts) (now inside) (now table) x w ⌝ }
-    ensures { λ r. ⌜ WayTold (s .inputs) (s .width) (now (sources .entry)) (now (counts .entry)) (now (inside .entry)) (now (table .entry)) x w r ⌝ }
+fn way(s: Extent, net: &[usize], slots: &[u32], table: &[u8], x: usize, w: usize) -> usize
+    requires { ⌜ WayPlace (packedOf s (now net) (now slots)) (now table) x w ⌝ }
+    ensures { λ r. ⌜ WayTold (packedOf s (now (net .entry)) (now (slots .entry))) (now (table .entry)) x w r ⌝ }
 {
     if w == 0 {
         if flow_at(table, x) == 0 {
@@ -243,8 +215,8 @@ fn way(
         }
         return x;
     }
-    let y = source(s, sources, counts, x, w - 1);
-    if inside[y] > 0 {
+    let y = source(s, net, x, w - 1);
+    if is_forced(s, slots, y) {
         return table.len();
     }
     if out_at(table, y) > 0 {
@@ -256,7 +228,7 @@ fn way(
 // The way that is tried i-th: pin f, then all n pins, then x itself.
 fn turn(n: usize, f: usize, i: usize) -> usize
     requires { ⌜ f < n ⌝ }
-    ensures { λ r. ⌜ Turn n f i r ⌝ }
+    ensures { λ r. ⌜ r ≡ turnAt n f i ⌝ }
 {
     if i == 0 {
         return f + 1;
@@ -269,286 +241,228 @@ fn turn(n: usize, f: usize, i: usize) -> usize
 
 // ---- the search
 
-// Searches for a unit out of y, which is not marked out: 0 if there is none; else it waits at y.
-fn visit_out(
-    s: Extent,
-    pins: &[usize],
-    first: &[usize],
-    sources: &[usize],
-    counts: &[usize],
-    heads: &[usize],
-    nexts: &[usize],
-    inside: &[u8],
-    table: &mut [u8],
-    list: &mut [usize],
-    y: usize,
-) -> usize
-    requires { ⌜ OutAsked (circuit (s .inputs) (s .gates) (s .width) (s .border) (now pins) (now first) (now sources) (now counts) (now heads) (now nexts) (now inside)) (now table) (now list) y ⌝ }
-    ensures { λ r. ⌜ OutTold (circuit (s .inputs) (s .gates) (s .width) (s .border) (now (pins .entry)) (now (first .entry)) (now (sources .entry)) (now (counts .entry)) (now (heads .entry)) (now (nexts .entry)) (now (inside .entry))) (now (table .entry)) (now (table .exit)) (now (list .exit)) y r ⌝ }
+// Puts copy x with turn i on the stack.
+fn push(stack: &mut [u32], x: usize, i: usize)
+    requires { ⌜ PushAsked (now stack) x i ⌝ }
+    ensures { λ _. ⌜ Pushed (now (stack .entry)) (now (stack .exit)) x i ⌝ }
 {
-    mark_out(table, list, y);
-    leave(
-        s,
-        pins,
-        first,
-        sources,
-        counts,
-        heads,
-        nexts,
-        inside,
-        table,
-        list,
-        y,
-    )
+    let d = number_at(stack, 0) + 1;
+    put_number(stack, d, x * 16 + i);
+    put_number(stack, 0, d);
 }
 
-// The same for y marked out.
+// Comes to e, which is marked in: it is opened where its node has room, or where it carries only its last turn is taken.
+fn come(
+    s: Extent,
+    net: &[usize],
+    slots: &[u32],
+    table: &mut [u8],
+    stack: &mut [u32],
+    counts: &mut [u32],
+    f: usize,
+    e: usize,
+)
+    requires { ⌜ ComeAsked (packedOf s (now net) (now slots)) f (now table) (now stack) (now counts) e ⌝ }
+    ensures { λ _. ⌜ ComeTold (packedOf s (now (net .entry)) (now (slots .entry))) f (now (table .entry)) (now (stack .entry)) (now (counts .entry)) (now (table .exit)) (now (stack .exit)) (now (counts .exit)) e ⌝ }
+{
+    set_in(table, e);
+    let u = e / s.width;
+    let c = number_at(counts, u);
+    if c <= f {
+        put_number(counts, u, c + 1);
+        push(stack, e, 0);
+        return;
+    }
+    if flow_at(table, e) > 0 {
+        push(stack, e, pins_of(s, net, e) + 1);
+    }
+}
+
+// Goes out of y, which is marked out: 1 where it is an open terminal, which takes a unit.
 fn leave(
     s: Extent,
-    pins: &[usize],
-    first: &[usize],
-    sources: &[usize],
-    counts: &[usize],
-    heads: &[usize],
-    nexts: &[usize],
-    inside: &[u8],
+    net: &[usize],
+    slots: &[u32],
     table: &mut [u8],
-    list: &mut [usize],
+    stack: &mut [u32],
+    counts: &mut [u32],
+    f: usize,
     y: usize,
 ) -> usize
-    requires { ⌜ LeaveAsked (circuit (s .inputs) (s .gates) (s .width) (s .border) (now pins) (now first) (now sources) (now counts) (now heads) (now nexts) (now inside)) (now table) (now list) y ⌝ }
-    ensures { λ r. ⌜ LeaveTold (circuit (s .inputs) (s .gates) (s .width) (s .border) (now (pins .entry)) (now (first .entry)) (now (sources .entry)) (now (counts .entry)) (now (heads .entry)) (now (nexts .entry)) (now (inside .entry))) (now (table .entry)) (now (table .exit)) (now (list .exit)) y r ⌝ }
+    requires { ⌜ LeaveAsked (packedOf s (now net) (now slots)) f (now table) (now stack) (now counts) y ⌝ }
+    ensures { λ r. ⌜ LeaveTold (packedOf s (now (net .entry)) (now (slots .entry))) f (now (table .entry)) (now (stack .entry)) (now (counts .entry)) (now (table .exit)) (now (stack .exit)) (now (counts .exit)) y r ⌝ }
 {
     if is_open(s, table, y) {
         set_flow(table, y, 7);
         return 1;
     }
-    let x = entry(s, sources, counts, heads, nexts, table, y);
-    if table.len() <= x {
+    let e = entry(s, net, table, y);
+    if table.len() <= e {
         return 0;
     }
-    if in_at(table, x) > 0 {
+    if in_at(table, e) > 0 {
         return 0;
     }
-    visit_in(
-        s,
-        pins,
-        first,
-        sources,
-        counts,
-        heads,
-        nexts,
-        inside,
-        table,
-        list,
-        x,
-    )
+    come(s, net, slots, table, stack, counts, f, e);
+    0
 }
 
-// Searches for a unit into x, which is not marked in: 0 if there is none; else it waits at x, or at the source that x had.
-fn visit_in(
+// Takes the next turn of the top frame, or takes it off: 1 where a unit was found.
+fn step(
     s: Extent,
-    pins: &[usize],
-    first: &[usize],
-    sources: &[usize],
-    counts: &[usize],
-    heads: &[usize],
-    nexts: &[usize],
-    inside: &[u8],
+    net: &[usize],
+    slots: &[u32],
     table: &mut [u8],
-    list: &mut [usize],
-    x: usize,
+    list: &mut [u32],
+    stack: &mut [u32],
+    counts: &mut [u32],
+    f: usize,
 ) -> usize
-    requires { ⌜ InAsked (circuit (s .inputs) (s .gates) (s .width) (s .border) (now pins) (now first) (now sources) (now counts) (now heads) (now nexts) (now inside)) (now table) (now list) x ⌝ }
-    ensures { λ r. ⌜ InTold (circuit (s .inputs) (s .gates) (s .width) (s .border) (now (pins .entry)) (now (first .entry)) (now (sources .entry)) (now (counts .entry)) (now (heads .entry)) (now (nexts .entry)) (now (inside .entry))) (now (table .entry)) (now (table .exit)) (now (list .exit)) x r ⌝ }
+    requires { ⌜ StepAsked (packedOf s (now net) (now slots)) f (now table) (now list) (now stack) (now counts) ⌝ }
+    ensures { λ r. ⌜ StepTold (packedOf s (now (net .entry)) (now (slots .entry))) f (now (table .entry)) (now (stack .entry)) (now (counts .entry)) (now (table .exit)) (now (list .exit)) (now (stack .exit)) (now (counts .exit)) r ⌝ }
 {
-    mark_in(table, list, x);
-    enter(
-        s,
-        pins,
-        first,
-        sources,
-        counts,
-        heads,
-        nexts,
-        inside,
-        table,
-        list,
-        x,
-    )
+    let d = number_at(stack, 0);
+    let top = number_at(stack, d);
+    let x = top / 16;
+    let n = pins_of(s, net, x);
+    if n + 1 < top % 16 {
+        put_number(stack, 0, d - 1);
+        return 0;
+    }
+    let w = turn(n, first_of(s, net, x), top % 16);
+    let y = way(s, net, slots, table, x, w);
+    if table.len() <= y {
+        put_number(stack, d, top + 1);
+        return 0;
+    }
+    mark_out(table, list, y);
+    put_number(stack, d, top + 1);
+    leave(s, net, slots, table, stack, counts, f, y)
 }
 
-// The same for x marked in, by all its ways in their turns.
-fn enter(
+// Takes steps until the stack is empty, 0, or a unit was found.
+fn run(
     s: Extent,
-    pins: &[usize],
-    first: &[usize],
-    sources: &[usize],
-    counts: &[usize],
-    heads: &[usize],
-    nexts: &[usize],
-    inside: &[u8],
+    net: &[usize],
+    slots: &[u32],
     table: &mut [u8],
-    list: &mut [usize],
-    x: usize,
+    list: &mut [u32],
+    stack: &mut [u32],
+    counts: &mut [u32],
+    f: usize,
 ) -> usize
-    requires { ⌜ EnterAsked (circuit (s .inputs) (s .gates) (s .width) (s .border) (now pins) (now first) (now sources) (now counts) (now heads) (now nexts) (now inside)) (now table) (now list) x ⌝ }
-    ensures { λ r. ⌜ EnterTold (circuit (s .inputs) (s .gates) (s .width) (s .border) (now (pins .entry)) (now (first .entry)) (now (sources .entry)) (now (counts .entry)) (now (heads .entry)) (now (nexts .entry)) (now (inside .entry))) (now (table .entry)) (now (table .exit)) (now (list .exit)) x r ⌝ }
+    requires { ⌜ RunAsked (packedOf s (now net) (now slots)) f (now table) (now list) (now stack) (now counts) ⌝ }
+    ensures { λ r. ⌜ RunTold (packedOf s (now (net .entry)) (now (slots .entry))) f (now (table .entry)) (now (stack .entry)) (now (counts .entry)) (now (table .exit)) (now (list .exit)) (now (stack .exit)) (now (counts .exit)) r ⌝ }
 {
-    let n = pins_of(s, pins, x);
-    let f = pins_of(s, first, x);
-    let mut i = 0;
-    while i < n + 2 {
-        let w = turn(n, f, i);
-        let y = way(s, sources, counts, inside, table, x, w);
-        i += 1;
-        if table.len() <= y {
-            continue;
+    while number_at(stack, 0) > 0 {
+        let r = step(s, net, slots, table, list, stack, counts, f);
+        if r > 0 {
+            return r;
         }
-        if visit_out(
-            s,
-            pins,
-            first,
-            sources,
-            counts,
-            heads,
-            nexts,
-            inside,
-            table,
-            list,
-            y,
-        )
-            == 0
-        {
-            continue;
-        }
-        set_flow(table, x, w as u8);
-        return 1;
     }
     0
+}
+
+// Takes the stack down to its lowest frame; each copy taken off gets its unit by the way that it took last.
+fn unwind(s: Extent, net: &[usize], slots: &[u32], table: &mut [u8], stack: &mut [u32])
+    requires { ⌜ UnwindAsked (packedOf s (now net) (now slots)) (now table) (now stack) ⌝ }
+    ensures { λ _. ⌜ UnwindTold (packedOf s (now (net .entry)) (now (slots .entry))) (now (table .entry)) (now (stack .entry)) (now (table .exit)) ⌝ }
+{
+    while number_at(stack, 0) > 1 {
+        let d = number_at(stack, 0);
+        let top = number_at(stack, d);
+        let x = top / 16;
+        let n = pins_of(s, net, x);
+        let w = turn(n, first_of(s, net, x), top % 16 - 1);
+        set_flow(table, x, narrow(w));
+        put_number(stack, 0, d - 1);
+    }
 }
 
 // ---- from the forced set
 
-// Searches for a unit out of the source of pin j of the forced copy x: 0 if there is none; else that source is one more entry.
-fn try_root(
-    s: Extent,
-    pins: &[usize],
-    first: &[usize],
-    sources: &[usize],
-    counts: &[usize],
-    heads: &[usize],
-    nexts: &[usize],
-    inside: &[u8],
-    table: &mut [u8],
-    list: &mut [usize],
-    x: usize,
-    j: usize,
-) -> usize
-    requires { ⌜ RootPinAsked (circuit (s .inputs) (s .gates) (s .width) (s .border) (now pins) (now first) (now sources) (now counts) (now heads) (now nexts) (now inside)) (now table) (now list) x j ⌝ }
-    ensures { λ r. ⌜ RootPinTold (circuit (s .inputs) (s .gates) (s .width) (s .border) (now (pins .entry)) (now (first .entry)) (now (sources .entry)) (now (counts .entry)) (now (heads .entry)) (now (nexts .entry)) (now (inside .entry))) (now (table .entry)) (now (table .exit)) (now (list .exit)) x j r ⌝ }
-{
-    let y = source(s, sources, counts, x, j);
-    if inside[y] > 0 {
-        return 0;
-    }
-    if out_at(table, y) > 0 {
-        return 0;
-    }
-    visit_out(
-        s,
-        pins,
-        first,
-        sources,
-        counts,
-        heads,
-        nexts,
-        inside,
-        table,
-        list,
-        y,
-    )
-}
-
-// The same for all pins of x.
+// Searches for a unit from the forced copy x.
 fn try_member(
     s: Extent,
-    pins: &[usize],
-    first: &[usize],
-    sources: &[usize],
-    counts: &[usize],
-    heads: &[usize],
-    nexts: &[usize],
-    inside: &[u8],
+    net: &[usize],
+    slots: &[u32],
     table: &mut [u8],
-    list: &mut [usize],
+    list: &mut [u32],
+    stack: &mut [u32],
+    counts: &mut [u32],
+    f: usize,
     x: usize,
 ) -> usize
-    requires { ⌜ RootAsked (circuit (s .inputs) (s .gates) (s .width) (s .border) (now pins) (now first) (now sources) (now counts) (now heads) (now nexts) (now inside)) (now table) (now list) x ⌝ }
-    ensures { λ r. ⌜ RootAllTold (circuit (s .inputs) (s .gates) (s .width) (s .border) (now (pins .entry)) (now (first .entry)) (now (sources .entry)) (now (counts .entry)) (now (heads .entry)) (now (nexts .entry)) (now (inside .entry))) (now (table .entry)) (now (table .exit)) (now (list .exit)) x r ⌝ }
+    requires { ⌜ MemberAsked (packedOf s (now net) (now slots)) f (now table) (now list) (now stack) (now counts) x ⌝ }
+    ensures { λ r. ⌜ MemberTold (packedOf s (now (net .entry)) (now (slots .entry))) f (now (table .entry)) (now (stack .entry)) (now (counts .entry)) (now (table .exit)) (now (list .exit)) (now (stack .exit)) (now (counts .exit)) x r ⌝ }
 {
-    let n = pins_of(s, pins, x);
-    let mut j = 0;
-    while j < n {
-        let r = try_root(
-            s,
-            pins,
-            first,
-            sources,
-            counts,
-            heads,
-            nexts,
-            inside,
-            table,
-            list,
-            x,
-            j,
-        );
-        if r > 0 {
-            return r;
-        }
-        j += 1;
+    let u = x / s.width;
+    let c = number_at(counts, u);
+    if f < c {
+        return 0;
     }
-    0
+    put_number(counts, u, c + 1);
+    push(stack, x, 0);
+    let r = run(s, net, slots, table, list, stack, counts, f);
+    if r > 0 {
+        unwind(s, net, slots, table, stack);
+    }
+    r
 }
 
-// The same for all members of the forced set.
-pub fn search(
+fn clear_counts(counts: &mut [u32])
+    ensures { λ _. ⌜ Zeroed (now (counts .exit)) (length (now (counts .exit))) ⌝ }
+{
+    let mut u = 0;
+    while u < counts.len() {
+        counts[u] = 0;
+        u += 1;
+    }
+}
+
+// The same for all members of the forced set, from an empty stack and counters at 0.
+fn try_members(
     s: Extent,
-    pins: &[usize],
-    first: &[usize],
-    sources: &[usize],
-    counts: &[usize],
-    heads: &[usize],
-    nexts: &[usize],
-    inside: &[u8],
+    net: &[usize],
+    slots: &[u32],
     table: &mut [u8],
-    list: &mut [usize],
-    members: &[usize],
+    list: &mut [u32],
+    stack: &mut [u32],
+    counts: &mut [u32],
+    f: usize,
+    members: &[u32],
 ) -> usize
-    requires { ⌜ SearchAsked (circuit (s .inputs) (s .gates) (s .width) (s .border) (now pins) (now first) (now sources) (now counts) (now heads) (now nexts) (now inside)) (now members) (now table) (now list) ⌝ }
-    ensures { λ r. ⌜ SearchTold (circuit (s .inputs) (s .gates) (s .width) (s .border) (now (pins .entry)) (now (first .entry)) (now (sources .entry)) (now (counts .entry)) (now (heads .entry)) (now (nexts .entry)) (now (inside .entry))) (now (members .entry)) (now (table .entry)) (now (table .exit)) (now (list .exit)) (length (now (members .entry))) r ⌝ }
+    requires { ⌜ RootsAsked (packedOf s (now net) (now slots)) f (now members) (now table) (now list) (now stack) (now counts) ⌝ }
+    ensures { λ r. ⌜ SearchTold (packedOf s (now (net .entry)) (now (slots .entry))) f (now (table .entry)) (now (table .exit)) (now (list .exit)) r ⌝ }
 {
     let mut i = 0;
     while i < members.len() {
-        let x = members[i];
-        let r = try_member(
-            s,
-            pins,
-            first,
-            sources,
-            counts,
-            heads,
-            nexts,
-            inside,
-            table,
-            list,
-            x,
-        );
+        let x = number_at(members, i);
+        let r = try_member(s, net, slots, table, list, stack, counts, f, x);
         if r > 0 {
             return r;
         }
         i += 1;
     }
     0
+}
+
+// Searches for one more unit than the f that flow, from no marks: 0 if there is none.
+pub fn search(
+    s: Extent,
+    net: &[usize],
+    slots: &[u32],
+    table: &mut [u8],
+    list: &mut [u32],
+    stack: &mut [u32],
+    counts: &mut [u32],
+    f: usize,
+    members: &[u32],
+) -> usize
+    requires { ⌜ SearchAsked (packedOf s (now net) (now slots)) f (now members) (now table) (now list) (now stack) (now counts) ⌝ }
+    ensures { λ r. ⌜ SearchTold (packedOf s (now (net .entry)) (now (slots .entry))) f (now (table .entry)) (now (table .exit)) (now (list .exit)) r ⌝ }
+{
+    clear_counts(counts);
+    put_number(stack, 0, 0);
+    try_members(s, net, slots, table, list, stack, counts, f, members)
 }

@@ -1,4 +1,4 @@
-// Checks 13 to 18 of a candidate's record against a net read, and its excess over the least period.
+// Checks 13 to 18 of a candidate's record against a net read, and its excess over the least period. The first bytes of work are the walk's table of marks: all 0 before and after.
 use cover_cuts::check_luts;
 use cover_links::check_links;
 use cover_reader::Candidate;
@@ -6,7 +6,11 @@ use cover_reader::read_cover;
 use inputs::narrow;
 use limits::Rules;
 use net_reader::Wiring;
+ghost use Prim.Native.Nat.{_≤_};
+ghost use lib.ListN.{length};
 ghost use Rattle.limits.specs.Courses.{Offered};
+ghost use Rattle.limits.specs.Limits.{mostTable};
+ghost use Rattle.cone_descent.specs.Descent.{Clear};
 ghost use Rattle.cover_cuts.specs.Cuts.{CutsTold};
 ghost use Rattle.cover_links.specs.Links.{LinksTold};
 ghost use Rattle.job_judge.specs.MarkAnswers.{answerOf};
@@ -19,9 +23,11 @@ pub enum Grade {
 }
 
 // Checks 14 and 15: 0, or the number of the first that fails.
-fn judge_luts(net: Wiring, c: Candidate, k: usize) -> usize
+fn judge_luts(net: Wiring, c: Candidate, k: usize, work: &mut [u8]) -> usize
     requires { ⌜ HeldFor k net c ⌝ }
+    requires { ⌜ (mostTable ≤ length (now work)) × Clear (now work) ⌝ }
     ensures { λ r. ⌜ CutsTold (net .inputs) (net .gates) (net .pins) (net .sources) (net .counts) (net .tables) (c .roots) (c .sizes) (c .nodes) (c .backs) (c .tables) k (c .luts) r ⌝ }
+    ensures { λ _. ⌜ Clear (now (work .exit)) ⌝ }
 {
     let pins = net.pins;
     let sources = net.sources;
@@ -46,6 +52,7 @@ fn judge_luts(net: Wiring, c: Candidate, k: usize) -> usize
         &luts,
         k,
         c.luts,
+        work,
     )
 }
 
@@ -78,11 +85,13 @@ fn judge_links(net: Wiring, c: Candidate, k: usize) -> usize
 }
 
 // Checks 14 to 18 of a record that keeps the layout, and its excess over the least period.
-fn judge_read(net: Wiring, c: Candidate, k: usize, least: usize) -> Grade
+fn judge_read(net: Wiring, c: Candidate, k: usize, least: usize, work: &mut [u8]) -> Grade
     requires { ⌜ Judging k net least × HeldFor k net c ⌝ }
+    requires { ⌜ (mostTable ≤ length (now work)) × Clear (now work) ⌝ }
     ensures { λ r. ⌜ MarksRead k net c (answerOf r) ⌝ }
+    ensures { λ _. ⌜ Clear (now (work .exit)) ⌝ }
 {
-    let l = judge_luts(net, c, k);
+    let l = judge_luts(net, c, k, work);
     if l > 0 {
         return Grade::Refused(narrow(l));
     }
@@ -94,14 +103,23 @@ fn judge_read(net: Wiring, c: Candidate, k: usize, least: usize) -> Grade
 }
 
 // Checks 13 to 18 of a record, and its excess over the least period.
-pub fn judge(net: Wiring, k: usize, cover: &[u8], least: usize, rules: Rules) -> Grade
+pub fn judge(
+    net: Wiring,
+    k: usize,
+    cover: &[u8],
+    least: usize,
+    rules: Rules,
+    work: &mut [u8],
+) -> Grade
     requires { ⌜ Offered rules ⌝ }
     requires { ⌜ Judging k net least ⌝ }
+    requires { ⌜ (mostTable ≤ length (now work)) × Clear (now work) ⌝ }
     ensures { λ r. ⌜ MarksNet rules k net (now (cover .entry)) (answerOf r) ⌝ }
+    ensures { λ _. ⌜ Clear (now (work .exit)) ⌝ }
 {
     let c = read_cover(cover, net.inputs, net.gates, k, rules);
     if c.fine {
-        return judge_read(net, c, k, least);
+        return judge_read(net, c, k, least, work);
     }
     Grade::Refused(13)
 }

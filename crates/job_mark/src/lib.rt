@@ -11,6 +11,7 @@ use limits::GATES;
 use limits::NODES;
 use limits::PLACES;
 use limits::Rules;
+use limits::TABLE;
 use limits::long_course;
 use limits::short_course;
 use net_fields::Verdict;
@@ -60,7 +61,9 @@ fn mark_read(net: Wiring, k: usize, cover: &[u8], work: &mut [u8], rules: Rules)
     if refusal > 0 {
         return Grade::Refused(narrow(refusal));
     }
-    judge(net, k, cover, s.period, rules)
+    let end = TABLE;
+    clear_first(work, end);
+    judge(net, k, cover, s.period, rules, &mut work[..end])
 }
 
 // Checks 4 to 18.

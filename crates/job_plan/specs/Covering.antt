@@ -4,7 +4,7 @@ use mathlib.Core.List.{List, map}
 use Prim.Native.Nat.{ℕ, _+_, _*_, _≤_, _<_}
 use native.Mathlib.Omega.{arith}
 use lib.IntN.{ℤ, pos}
-use lib.ListN.{length, getD}
+use lib.ListN.{length, getD, drop}
 use Rattle.integers.specs.Lag.{lag}
 use Rattle.sequences.specs.Member.{_∈_}
 use Rattle.net_model.specs.Net.{Net, IsGate}
@@ -20,9 +20,10 @@ use Rattle.cover_theory.specs.KeyOf.{keyOf, entryOf, root-gate}
 use Rattle.cover_theory.specs.KeyUnique.{numbers-unique}
 use Rattle.cover_records.specs.Kept.{Kept, kept, entryAt, entriesFrom, entriesIn}
 use Rattle.cone_table.specs.ConeWords.{Tabled}
-use Rattle.cut_least.specs.Bridge.{Holds}
+use Rattle.cut_circuit.specs.Bridge.{Holds}
 use Rattle.signed.specs.Range.{labelIn}
-use Rattle.cut_forced.specs.Forcing.{wires}
+use Rattle.cut_circuit.specs.Packed.{sourcesAt, countsAt}
+use Rattle.cut_circuit.specs.declared.Extent.{Extent}
 use Rattle.label_visit.specs.LabelVisits.{Suits, wiring}
 use Rattle.cover_roots.specs.Choosing.{Keyed, RootsTold}
 use Rattle.cone_luts.specs.Luts.{Tabulated}
@@ -35,10 +36,10 @@ key-label : {N : Net} {k φ : ℕ} (P : Passed N k) (r : Reachable N k φ) (u : 
 unfolding keyOf
 key-label P r u = refl
 
-module _ {I G B : ℕ} {ps so co ts os oc : List ℕ} {n : ℕ} {tops : List ℕ} {k target : ℕ} {ls : List ℤ} {marks sizes nodes backs luts : List ℕ} where
+module _ {s : Extent} {net ts os oc : List ℕ} {n : ℕ} {tops : List ℕ} {k target : ℕ} {ls : List ℤ} {marks sizes nodes backs luts : List ℕ} where
   -- the target is not reachable
-  pub told-none : {r : ℕ} → PeriodFound (wiring I G B ps so co) k target tops os oc n ls r → r ≡ 0
-      → CoverTold I G B ps so co ts os oc n tops k target (kept I G 0 ls marks sizes nodes backs luts)
+  pub told-none : {r : ℕ} → PeriodFound (wiring s net) k target tops os oc n ls r → r ≡ 0
+      → CoverTold s net ts os oc n tops k target (kept (s .inputs) (s .gates) 0 ls marks sizes nodes backs luts)
   told-none f e = record {
     cover = λ N S P T o. record {
       none = λ z. (f .none e .0, f .none e .1 N S o);
@@ -49,14 +50,14 @@ module _ {I G B : ℕ} {ps so co ts os oc : List ℕ} {n : ℕ} {tops : List ℕ
       nothing : 1 ≤ 0 → ⊥
       nothing h = omega arith
 
-module _ {I G W B : ℕ} {ps so co os oc : List ℕ} {n : ℕ} {tops : List ℕ} {k target : ℕ} {ls : List ℤ} {marks sizes nodes backs : List ℕ} where
-  module _ {r : ℕ} (six : k ≤ stride) (f : PeriodFound (wiring I G B ps so co) k target tops os oc n ls r) (one : 1 ≤ r)
-      (told : RootsTold (wires I G W B ps so co) ls os n r k marks sizes nodes backs)
-      (N : Net) (S : Suits (wiring I G B ps so co) k tops N) (P : Passed N k) (o : N .outputs ≡ pinsIn os oc 0 n) where
+module _ {s : Extent} {net os oc : List ℕ} {n : ℕ} {tops : List ℕ} {k target : ℕ} {ls : List ℤ} {marks sizes nodes backs : List ℕ} where
+  module _ {r : ℕ} (six : k ≤ stride) (f : PeriodFound (wiring s net) k target tops os oc n ls r) (one : 1 ≤ r)
+      (told : RootsTold (wiring s net) ls os n r k marks sizes nodes backs)
+      (N : Net) (S : Suits (wiring s net) k tops N) (P : Passed N k) (o : N .outputs ≡ pinsIn os oc 0 n) where
     reachable : Reachable N k r
     reachable = let l = f .labels one N S P o in record { label = labelIn ls; least = l .0; outputs = l .1 }
 
-    wired : Wired N I G ps so co
+    wired : Wired N (s .inputs) (s .gates) net (drop (sourcesAt (s .gates)) net) (drop (countsAt (s .gates)) net)
     wired = let h = S .holds in record { inputs = h .inputs; gates = h .gates; wiring = h .lists }
 
     key : Key N k r
@@ -66,7 +67,7 @@ module _ {I G W B : ℕ} {ps so co os oc : List ℕ} {n : ℕ} {tops : List ℕ}
     unfolding key reachable
     label-is u = key-label P reachable u
 
-    keyed : Keyed (wires I G W B ps so co) ls r k
+    keyed : Keyed (wiring s net) ls r k
     keyed = record {
       net = N;
       key = key;
@@ -78,61 +79,61 @@ module _ {I G W B : ℕ} {ps so co os oc : List ℕ} {n : ℕ} {tops : List ℕ}
       label = label-is;
     }
 
-    leaves-are : (g : ℕ) → g < G → ¬ (getD marks g 0 ≡ 0) → copiesFrom nodes backs (stride * g) (getD sizes g 0) ≡ key .leaves (I + g)
+    leaves-are : (g : ℕ) → g < s .gates → ¬ (getD marks g 0 ≡ 0) → copiesFrom nodes backs (stride * g) (getD sizes g 0) ≡ key .leaves (s .inputs + g)
     unfolding keyed
     leaves-are g h m = told .leaves keyed g h m
 
-    pub few-leaves : (g : ℕ) → g < G → ¬ (getD marks g 0 ≡ 0) → getD sizes g 0 ≤ stride
-    few-leaves g h m = let s = told .size keyed g h m in omega arith
+    pub few-leaves : (g : ℕ) → g < s .gates → ¬ (getD marks g 0 ≡ 0) → getD sizes g 0 ≤ stride
+    few-leaves g h m = let z = told .size keyed g h m in omega arith
 
-    pub rising-leaves : (g : ℕ) → g < G → ¬ (getD marks g 0 ≡ 0) → Rising (copiesFrom nodes backs (stride * g) (getD sizes g 0))
+    pub rising-leaves : (g : ℕ) → g < s .gates → ¬ (getD marks g 0 ≡ 0) → Rising (copiesFrom nodes backs (stride * g) (getD sizes g 0))
     rising-leaves g h m =
         let v = wired-gate wired g h in
-        subst Rising (sym (leaves-are g h m ∙ key .isLeaves (I + g) v)) (key .cut (I + g) v .isLeaves .rising)
+        subst Rising (sym (leaves-are g h m ∙ key .isLeaves (s .inputs + g) v)) (key .cut (s .inputs + g) v .isLeaves .rising)
 
-    module _ {ts : List ℕ} (luts : List ℕ) (tab : Tabulated I G ps so co ts marks sizes nodes backs luts G) (T : Tabled N I G ts) where
+    module _ {ts : List ℕ} (luts : List ℕ) (tab : Tabulated (s .inputs) (s .gates) net (drop (sourcesAt (s .gates)) net) (drop (countsAt (s .gates)) net) ts marks sizes nodes backs luts (s .gates)) (T : Tabled N (s .inputs) (s .gates) ts) where
       abbrev a : Kept
-      a = kept I G r ls marks sizes nodes backs luts
+      a = kept (s .inputs) (s .gates) r ls marks sizes nodes backs luts
 
       -- the leaves are a cut, and the table is its table
-      table-is : (g : ℕ) → g < G → ¬ (getD marks g 0 ≡ 0) → getD luts g 0 ≡ tableOf N (I + g) (key .cone (I + g)) (key .leaves (I + g))
+      table-is : (g : ℕ) → g < s .gates → ¬ (getD marks g 0 ≡ 0) → getD luts g 0 ≡ tableOf N (s .inputs + g) (key .cone (s .inputs + g)) (key .leaves (s .inputs + g))
       table-is g h m =
           let v = wired-gate wired g h in
-          let c = key .cut (I + g) v in
+          let c = key .cut (s .inputs + g) v in
           let L = copiesFrom nodes backs (stride * g) (getD sizes g 0) in
-          let e : L ≡ c .leaves = leaves-are g h m ∙ key .isLeaves (I + g) v in
-          subst (λ (X : List Copy). (i : IsCut N k (I + g) X) → getD luts g 0 ≡ tableOf N (I + g) (i .cone) X) e (tab .each g h .marked m .table N wired T (S .ranked) (S .loopless) k)
+          let e : L ≡ c .leaves = leaves-are g h m ∙ key .isLeaves (s .inputs + g) v in
+          subst (λ (X : List Copy). (i : IsCut N k (s .inputs + g) X) → getD luts g 0 ≡ tableOf N (s .inputs + g) (i .cone) X) e (tab .each g h .marked m .table N wired T (S .ranked) (S .loopless) k)
           (record { cone = c .cone; isCone = c .isCone; isLeaves = c .isLeaves; few = c .few })
-          ∙ ap (λ (C : List Copy). tableOf N (I + g) C (c .leaves)) (sym (key .isCone (I + g) v)) ∙ ap (tableOf N (I + g) (key .cone (I + g))) (sym (key .isLeaves (I + g) v))
+          ∙ ap (λ (C : List Copy). tableOf N (s .inputs + g) C (c .leaves)) (sym (key .isCone (s .inputs + g) v)) ∙ ap (tableOf N (s .inputs + g) (key .cone (s .inputs + g))) (sym (key .isLeaves (s .inputs + g) v))
 
-      entry-is : (g : ℕ) → g < G → ¬ (getD marks g 0 ≡ 0) → entryAt a g ≡ entryOf key (I + g)
+      entry-is : (g : ℕ) → g < s .gates → ¬ (getD marks g 0 ≡ 0) → entryAt a g ≡ entryOf key (s .inputs + g)
       unfolding entryAt
       entry-is g h m = λ i. record {
-        root = I + g;
+        root = s .inputs + g;
         leaves = leaves-are g h m i;
-        lag = lag r (sym (label-is (I + g)) i);
+        lag = lag r (sym (label-is (s .inputs + g)) i);
         table = table-is g h m i;
       }
 
-      roots-are : key .roots ≡ rootsFrom a 0 G
+      roots-are : key .roots ≡ rootsFrom a 0 (s .gates)
       unfolding keyed
-      roots-are = numbers-unique (key .roots) (rootsFrom a 0 G) (key .rising) (roots-rising a 0 G) within without
+      roots-are = numbers-unique (key .roots) (rootsFrom a 0 (s .gates)) (key .rising) (roots-rising a 0 (s .gates)) within without
         where
-          within : (v : ℕ) → v ∈ key .roots → v ∈ rootsFrom a 0 G
+          within : (v : ℕ) → v ∈ key .roots → v ∈ rootsFrom a 0 (s .gates)
           within v m =
               let t = key .isRoot v m in
               let q = gate-wired wired v (root-gate N (key .leaves) t) in
-              subst (λ (x : ℕ). x ∈ rootsFrom a 0 G) (sym (q .2))
-              (in-roots a 0 G (q .0) (omega arith) (omega (arith, q .1)) (told .all keyed (oc, o) (q .0) (q .1) (subst (Root N (key .leaves)) (q .2) t)))
+              subst (λ (x : ℕ). x ∈ rootsFrom a 0 (s .gates)) (sym (q .2))
+              (in-roots a 0 (s .gates) (q .0) (omega arith) (omega (arith, q .1)) (told .all keyed (oc, o) (q .0) (q .1) (subst (Root N (key .leaves)) (q .2) t)))
 
-          without : (v : ℕ) → v ∈ rootsFrom a 0 G → v ∈ key .roots
+          without : (v : ℕ) → v ∈ rootsFrom a 0 (s .gates) → v ∈ key .roots
           without v m =
-              let q = roots-in a 0 G v m in
+              let q = roots-in a 0 (s .gates) v m in
               key .allRoots v (subst (Root N (key .leaves)) (sym (q .4)) (told .root keyed (oc, o) (q .0) (omega (arith, q .2)) (q .3)))
 
       same-entries : entries key ≡ entriesIn a
       unfolding entries entriesIn
-      same-entries = ap (map (entryOf key)) roots-are ∙ sym (entries-roots a (entryOf key) 0 G (λ g p q m. entry-is g (omega arith) m))
+      same-entries = ap (map (entryOf key)) roots-are ∙ sym (entries-roots a (entryOf key) 0 (s .gates) (λ g p q m. entry-is g (omega arith) m))
 
       pub covered : Covered N k target a
       unfolding keyed
@@ -143,14 +144,14 @@ module _ {I G W B : ℕ} {ps so co os oc : List ℕ} {n : ℕ} {tops : List ℕ}
         key = key;
         same = same-entries;
         labels = λ v g. label-is v;
-        small = λ g h. f .fine .small (I + g);
+        small = λ g h. f .fine .small (s .inputs + g);
         few = few-leaves;
       }
 
   -- **the cover**
-  pub told-cover : {ts luts : List ℕ} {r : ℕ} → k ≤ stride → PeriodFound (wiring I G B ps so co) k target tops os oc n ls r → ¬ (r ≡ 0)
-      → RootsTold (wires I G W B ps so co) ls os n r k marks sizes nodes backs → Tabulated I G ps so co ts marks sizes nodes backs luts G
-      → CoverTold I G B ps so co ts os oc n tops k target (kept I G r ls marks sizes nodes backs luts)
+  pub told-cover : {ts luts : List ℕ} {r : ℕ} → k ≤ stride → PeriodFound (wiring s net) k target tops os oc n ls r → ¬ (r ≡ 0)
+      → RootsTold (wiring s net) ls os n r k marks sizes nodes backs → Tabulated (s .inputs) (s .gates) net (drop (sourcesAt (s .gates)) net) (drop (countsAt (s .gates)) net) ts marks sizes nodes backs luts (s .gates)
+      → CoverTold s net ts os oc n tops k target (kept (s .inputs) (s .gates) r ls marks sizes nodes backs luts)
   told-cover {luts = luts} six f z told tab = record {
     cover = λ N S P T o. record {
       none = λ e. absurd (z e);

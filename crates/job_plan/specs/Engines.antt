@@ -1,21 +1,20 @@
 -- The engine's arrays: at rest at the start, and what the choice of the roots and the tables ask.
-use mathlib.Core.Path.{_≡_, refl, sym, ap, subst, _∙_}
-use mathlib.Core.List.{List, [], _∷_}
-use Prim.Native.Nat.{ℕ, zero, suc, _+_, _*_, _≤_, _<_}
+use mathlib.Core.Path.{_≡_, refl, sym, subst, _∙_}
+use mathlib.Core.List.{List, [], _∷_, _++_}
+use Prim.Native.Nat.{ℕ, zero, suc, _+_, _-_, _*_, _≤_}
 use native.Mathlib.Nat.{mul-le-mul-right}
 use native.Mathlib.Omega.{arith}
 use lib.IntN.{ℤ}
-use lib.ListN.{length, getD, replicate, length-replicate}
+use lib.ListN.{length, take, drop, replicate, length-replicate, length-append, length-drop}
+use lib.Seq.{length-take-le, take-at, getD-drop}
 use Rattle.sequences.specs.Zeros.{zeros}
-use Rattle.net_model.specs.Net.{Net}
-use Rattle.net_model.specs.Arrays.{stride}
-use Rattle.net_model.specs.Wired.{Wired}
-use Rattle.limits.specs.Limits.{mostPeriod, mostCopies, mostTable, mostList}
-use Rattle.cone_copies.specs.CopyLists.{SmallWires}
-use Rattle.cut_circuit.specs.Circuit.{circuit}
-use Rattle.cut_least.specs.Bridge.{Holds}
-use Rattle.cut_question.specs.Question.{AtRest}
-use Rattle.cut_forced.specs.Forcing.{wires}
+use Rattle.limits.specs.Limits.{mostCopies, mostNodes, mostTable, mostList, mostStack, mostHeld}
+use Rattle.cone_descent.specs.Descent.{Clear}
+use Rattle.cut_circuit.specs.Circuit.{Circuit, total}
+use Rattle.cut_circuit.specs.Packed.{packedOf, sourcesAt, countsAt}
+use Rattle.cut_circuit.specs.PackedLaws.{behind}
+use Rattle.cut_circuit.specs.declared.Extent.{Extent}
+use Rattle.cut_question.specs.Separating.{AtRest}
 use Rattle.label_visit.specs.LabelVisits.{wiring}
 use Rattle.cover_roots.specs.Choosing.{Chooses, RootsTold}
 use Rattle.cone_luts.specs.Luts.{Tabulates}
@@ -23,31 +22,73 @@ use Rattle.job_plan.specs.Found.{PeriodFound}
 use Rattle.job_plan.specs.Planned.{Engine, Roomy}
 use Rattle.job_plan.specs.Covering.{few-leaves, rising-leaves}
 
-module _ {I G W B : ℕ} {ps fs so co hs ns ts os oc : List ℕ} {n : ℕ} {tops order : List ℕ} {k target : ℕ} {t : List ℕ} {ls : List ℤ}
-    (e : Engine I G W B ps fs so co hs ns ts os oc n tops order k target t ls) where
-  pub engine-rest : AtRest (circuit I G W B ps fs so co hs ns (replicate mostTable 0)) t (replicate mostList 0) (replicate mostCopies 0)
+-- ---- the first bytes of a table
+
+clear-take : (n : ℕ) (t : List ℕ) → Clear t → Clear (take n t)
+clear-take zero t c q = refl
+clear-take (suc n) [] c q = c q
+clear-take (suc n) (x ∷ t) c zero = c zero
+clear-take (suc n) (x ∷ t) c (suc q) = clear-take n t (λ i. c (suc i)) q
+
+pub clear-behind : (x t : List ℕ) (n : ℕ) → Clear x → Clear t → Clear (x ++ drop n t)
+clear-behind [] t n a b q = getD-drop n t q 0 ∙ b (n + q)
+clear-behind (y ∷ x) t n a b zero = a zero
+clear-behind (y ∷ x) t n a b (suc q) = clear-behind x t n (λ i. a (suc i)) b q
+
+pub length-behind : (x t : List ℕ) (n : ℕ) → n ≤ length t → length x ≡ length (take n t) → length (x ++ drop n t) ≡ length t
+length-behind x t n h e = omega (arith, length-append x (drop n t), length-drop n t, length-take-le n t h)
+
+-- two parts of the packed slice up to its end
+module _ (P : List ℕ → List ℕ → Type 0) (net : List ℕ) (a b : ℕ) where
+  pub two-parts : P (drop a net) (drop b net) → P (take (length net - a) (drop a net)) (take (length net - b) (drop b net))
+  two-parts h =
+      subst (λ (l : List ℕ). P l (take (length net - b) (drop b net))) (sym (behind net a)) (subst (λ (l : List ℕ). P (drop a net) l) (sym (behind net b)) h)
+
+  pub two-wholes : P (take (length net - a) (drop a net)) (take (length net - b) (drop b net)) → P (drop a net) (drop b net)
+  two-wholes h = subst (λ (l : List ℕ). P l (drop b net)) (behind net a) (subst (λ (l : List ℕ). P (take (length net - a) (drop a net)) l) (behind net b) h)
+
+-- the questions' part, found again
+pub rest-part : {C : Circuit} {x l stk cnt members : List ℕ} (y : List ℕ) → AtRest C x l stk cnt members → AtRest C (take (total C) (x ++ y)) l stk cnt members
+rest-part {C} {x} {l} {stk} {cnt} {members} y r = subst (λ (z : List ℕ). AtRest C z l stk cnt members) (sym (take-at x y (total C) (r .sized .room))) r
+
+module _ {s : Extent} {net ts os oc : List ℕ} {n : ℕ} {tops order : List ℕ} {k target : ℕ} {t : List ℕ} {ls : List ℤ}
+    (e : Engine s net ts os oc n tops order k target t ls) where
+  -- the questions' part of the table
+  part-size : length (take ((s .inputs + s .gates) * s .width) t) ≡ (s .inputs + s .gates) * s .width
+  part-size = length-take-le ((s .inputs + s .gates) * s .width) t (let a = e .size in let b = e .fits in omega arith)
+
+  pub engine-rest : AtRest (packedOf s net (replicate mostHeld 0)) (take ((s .inputs + s .gates) * s .width) t) (replicate mostList 0) (replicate mostStack 0) (replicate mostNodes 0) (replicate mostCopies 0)
   engine-rest = record {
-    layout = e .layout;
-    chains = e .chains;
-    table = e .size;
-    longer = let a = e .size in let b = e .fits in let c = length-replicate {A = ℕ} mostList 0 in omega arith;
-    cleared = record { zero = e .clear; empty = zeros mostList 0 };
-    unforced = zeros mostTable;
-    space = let c = length-replicate {A = ℕ} mostCopies 0 in omega arith;
+    resting = record {
+      layout = e .layout;
+      chains = e .chains;
+      unforced = λ g h. zeros mostHeld g;
+      space = let c = length-replicate {A = ℕ} mostCopies 0 in let b = e .wires .gates in omega arith;
+    };
+    sized = record {
+      room = part-size;
+      counters = let a = e .wires .inputs in let b = e .wires .gates in let c = length-replicate {A = ℕ} mostNodes 0 in omega arith;
+      deep = let b = e .wires .gates in let c = length-replicate {A = ℕ} mostStack 0 in omega arith;
+      short = let c = length-replicate {A = ℕ} mostStack 0 in omega arith;
+      long = let b = e .wires .gates in let c = length-replicate {A = ℕ} mostList 0 in omega arith;
+      brief = let c = length-replicate {A = ℕ} mostList 0 in omega arith;
+    };
+    cleared = record { zero = clear-take ((s .inputs + s .gates) * s .width) t (e .clear); empty = zeros mostList 0 };
   }
 
-  pub engine-chooses : {marks sizes nodes backs luts : List ℕ} {ls′ : List ℤ} {r : ℕ} → Roomy G marks sizes nodes backs luts → PeriodFound (wiring I G B ps so co) k target tops os oc n ls′ r
-      → Chooses (wires I G W B ps so co) ls′ os n r k marks sizes nodes backs
+  pub engine-chooses : {marks sizes nodes backs luts : List ℕ} {ls′ : List ℤ} {r : ℕ} → Roomy (s .gates) marks sizes nodes backs luts → PeriodFound (wiring s net) k target tops os oc n ls′ r
+      → Chooses (wiring s net) ls′ os n r k marks sizes nodes backs
   engine-chooses {r = r} room f = record {
     asking = record {
       labels = f .fine .size;
       small = f .fine .small;
-      shift = let a = mul-le-mul-right W (f .bound) in let b = e .period .sized .shift in omega arith;
+      shift = let a = mul-le-mul-right (s .width) (f .bound) in let b = e .period .sized .shift in omega arith;
       least = e .period .sized .least;
       few = e .few;
-      copies = e .period .sized .copies;
-      net = e .net;
+      fits = e .period .sized .fits;
+      net = e .model;
       holds = let h = e .suits .holds in record { inputs = h .inputs; gates = h .gates; lists = h .lists };
+      ranked = e .suits .ranked;
       loopless = e .suits .loopless;
     };
     places = record { atMarks = room .atMarks; atSizes = room .atSizes; atNodes = room .atNodes; atBacks = room .atBacks };
@@ -55,10 +96,10 @@ module _ {I G W B : ℕ} {ps fs so co hs ns ts os oc : List ℕ} {n : ℕ} {tops
     unmarked = room .unmarked;
   }
 
-  pub engine-tabulates : {marks₀ sizes₀ nodes₀ backs₀ luts₀ marks sizes nodes backs : List ℕ} {ls′ : List ℤ} {r : ℕ} → Roomy G marks₀ sizes₀ nodes₀ backs₀ luts₀
+  pub engine-tabulates : {marks₀ sizes₀ nodes₀ backs₀ luts₀ marks sizes nodes backs : List ℕ} {ls′ : List ℤ} {r : ℕ} → Roomy (s .gates) marks₀ sizes₀ nodes₀ backs₀ luts₀
       → length marks ≡ length marks₀ → length sizes ≡ length sizes₀ → length nodes ≡ length nodes₀ → length backs ≡ length backs₀
-      → PeriodFound (wiring I G B ps so co) k target tops os oc n ls′ r → ¬ (r ≡ 0) → RootsTold (wires I G W B ps so co) ls′ os n r k marks sizes nodes backs
-      → Tabulates I G ps so co ts marks sizes nodes backs
+      → PeriodFound (wiring s net) k target tops os oc n ls′ r → ¬ (r ≡ 0) → RootsTold (wiring s net) ls′ os n r k marks sizes nodes backs
+      → Tabulates (s .inputs) (s .gates) net (drop (sourcesAt (s .gates)) net) (drop (countsAt (s .gates)) net) ts marks sizes nodes backs
   engine-tabulates room a b c d f z told = record {
     wires = e .wires;
     atTables = e .tables;
@@ -66,6 +107,6 @@ module _ {I G W B : ℕ} {ps fs so co hs ns ts os oc : List ℕ} {n : ℕ} {tops
     atSizes = let m = room .atSizes in omega arith;
     atNodes = let m = room .atNodes in omega arith;
     atBacks = let m = room .atBacks in omega arith;
-    few = few-leaves (e .few) f (omega arith) told (e .net) (e .suits) (e .passed) (e .ended);
-    rising = rising-leaves (e .few) f (omega arith) told (e .net) (e .suits) (e .passed) (e .ended);
+    few = few-leaves (e .few) f (omega arith) told (e .model) (e .suits) (e .passed) (e .ended);
+    rising = rising-leaves (e .few) f (omega arith) told (e .model) (e .suits) (e .passed) (e .ended);
   }

@@ -10,17 +10,18 @@ use Rattle.limits.specs.Limits.{mostPeriod}
 use Rattle.label_theory.specs.Labels.{Least, OutputsMet, Reachable}
 use Rattle.cover_theory.specs.Covers.{LeastPeriod}
 use Rattle.cut_circuit.specs.Circuit.{Circuit}
+use Rattle.cut_circuit.specs.declared.Extent.{Extent}
 use Rattle.signed.specs.Range.{labelIn}
 use Rattle.label_visit.specs.LabelVisits.{Suits, wiring, Fine, Ceilings}
 use Rattle.label_sweep.specs.Sweeps.{Sized, Ordered}
 
 -- arrays for labels, outputs, ceilings and order; a target and gates within the limits
-pub record PeriodAsked (I G W B : ℕ) (ps so co : List ℕ) (ls : List ℤ) (tops order os oc : List ℕ) (n target k : ℕ) : Type 0 where
-  pub sized : Sized I G W ls os oc mostPeriod k n
-  pub ordered : Ordered (wiring I G B ps so co) order
-  pub ceilings : Ceilings (wiring I G B ps so co) mostPeriod tops
-  pub some : 1 ≤ G
-  pub few : G ≤ mostPeriod
+pub record PeriodAsked (s : Extent) (net : List ℕ) (ls : List ℤ) (tops order os oc : List ℕ) (n target k : ℕ) : Type 0 where
+  pub sized : Sized s ls os oc mostPeriod k n
+  pub ordered : Ordered (wiring s net) order
+  pub ceilings : Ceilings (wiring s net) mostPeriod tops
+  pub some : 1 ≤ s .gates
+  pub few : s .gates ≤ mostPeriod
   pub near : target ≤ mostPeriod
 
 -- r is 0 where the target is not reachable; else the target, or the least period for target 0, with its least labelling, for every net that suits

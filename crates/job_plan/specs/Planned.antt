@@ -3,11 +3,11 @@ use mathlib.Core.Path.{_≡_}
 use mathlib.Core.List.{List}
 use Prim.Native.Nat.{ℕ, _+_, _*_, _-_, _≤_, _<_}
 use lib.IntN.{ℤ, pos}
-use lib.ListN.{length, getD, replicate}
+use lib.ListN.{length, getD, drop, replicate}
 use Rattle.net_model.specs.Net.{Net, IsGate}
 use Rattle.net_model.specs.Arrays.{stride, pinsIn, netIn}
 use Rattle.net_model.specs.Checks.{Passed}
-use Rattle.limits.specs.Limits.{leastK, mostK, mostPeriod, mostTable}
+use Rattle.limits.specs.Limits.{leastK, mostK, mostPeriod, mostTable, mostHeld}
 use Rattle.label_theory.specs.Labels.{Reachable}
 use Rattle.label_theory.specs.Pins.{OutPath}
 use Rattle.cover_theory.specs.Covers.{LeastPeriod}
@@ -19,8 +19,10 @@ use Rattle.net_reader.specs.WalkFacts.{WalkFacts}
 use Rattle.net_reader.specs.declared.Wiring.{Wiring}
 use Rattle.cone_copies.specs.CopyLists.{SmallWires}
 use Rattle.cone_table.specs.ConeWords.{Tabled}
-use Rattle.cut_circuit.specs.Circuit.{circuit, Layout}
+use Rattle.cut_circuit.specs.Circuit.{Layout}
 use Rattle.cut_circuit.specs.Chains.{Chains}
+use Rattle.cut_circuit.specs.Packed.{packedOf, sourcesAt, countsAt}
+use Rattle.cut_circuit.specs.declared.Extent.{Extent}
 use Rattle.label_visit.specs.LabelVisits.{Suits, wiring}
 use Rattle.job_plan.specs.Found.{PeriodAsked}
 
@@ -80,21 +82,22 @@ pub record Roomy (G : ℕ) (marks sizes nodes backs luts : List ℕ) : Type 0 wh
   pub atLuts : G ≤ length luts
 
 -- The engine's arrays for a net, with nothing forced.
-pub record Engine (I G W B : ℕ) (ps fs so co hs ns ts os oc : List ℕ) (n : ℕ) (tops order : List ℕ) (k target : ℕ) (t : List ℕ) (ls : List ℤ) : Type 0 where
-  pub net : Net
-  pub suits : Suits (wiring I G B ps so co) k tops net
-  pub passed : Passed net k
-  pub ended : net .outputs ≡ pinsIn os oc 0 n
-  pub layout : Layout (circuit I G W B ps fs so co hs ns (replicate mostTable 0))
-  pub chains : Chains (circuit I G W B ps fs so co hs ns (replicate mostTable 0))
-  pub size : length t ≡ (I + G) * W
-  pub fits : (I + G) * W ≤ mostTable
+pub record Engine (s : Extent) (net ts os oc : List ℕ) (n : ℕ) (tops order : List ℕ) (k target : ℕ) (t : List ℕ) (ls : List ℤ) : Type 0 where
+  pub model : Net
+  pub suits : Suits (wiring s net) k tops model
+  pub passed : Passed model k
+  pub ended : model .outputs ≡ pinsIn os oc 0 n
+  pub layout : Layout (packedOf s net (replicate mostHeld 0))
+  pub chains : Chains (packedOf s net (replicate mostHeld 0))
+  pub size : length t ≡ mostTable
+  pub fits : (s .inputs + s .gates) * s .width ≤ mostTable
   pub clear : (c : ℕ) → getD t c 0 ≡ 0
-  pub period : PeriodAsked I G W B ps so co ls tops order os oc n target k
-  pub wires : SmallWires I G ps so co
-  pub tables : G ≤ length ts
+  pub period : PeriodAsked s net ls tops order os oc n target k
+  pub wires : SmallWires (s .inputs) (s .gates) net (drop (sourcesAt (s .gates)) net) (drop (countsAt (s .gates)) net)
+  pub parts : countsAt (s .gates) ≤ length net
+  pub tables : s .gates ≤ length ts
   pub few : k ≤ stride
 
 -- the cover, for every net that suits
-pub record CoverTold (I G B : ℕ) (ps so co ts os oc : List ℕ) (n : ℕ) (tops : List ℕ) (k target : ℕ) (a : Kept) : Type 0 where
-  pub cover : (N : Net) → Suits (wiring I G B ps so co) k tops N → Passed N k → Tabled N I G ts → N .outputs ≡ pinsIn os oc 0 n → Planned N k target a
+pub record CoverTold (s : Extent) (net ts os oc : List ℕ) (n : ℕ) (tops : List ℕ) (k target : ℕ) (a : Kept) : Type 0 where
+  pub cover : (N : Net) → Suits (wiring s net) k tops N → Passed N k → Tabled N (s .inputs) (s .gates) ts → N .outputs ≡ pinsIn os oc 0 n → Planned N k target a

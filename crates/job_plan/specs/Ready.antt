@@ -14,7 +14,7 @@ use Rattle.net_model.specs.ArrayLaws.{gate-netIn, gateAt, outputs-netIn}
 use Rattle.net_model.specs.Wired.{Wired}
 use Rattle.net_model.specs.WiredLaws.{netIn-wired}
 use Rattle.net_model.specs.Checks.{Passed}
-use Rattle.limits.specs.Limits.{mostBeyond, mostCount, mostGates, mostNodes, mostPeriod, mostPins, mostPlaces, mostReach, mostTable}
+use Rattle.limits.specs.Limits.{mostBeyond, mostCount, mostGates, mostNodes, mostPeriod, mostPins, mostPlaces, mostReach, mostTable, mostHeld, mostPacked}
 use Rattle.cone_theory.specs.Ranks.{ranked}
 use Rattle.cone_theory.specs.Reach.{reachOf}
 use Rattle.cover_records.specs.Kept.{Kept, kept, entriesIn}
@@ -26,11 +26,15 @@ use Rattle.net_reader.specs.WalkFacts.{WalkFacts}
 use Rattle.net_reader.specs.declared.Wiring.{Wiring}
 use Rattle.cone_copies.specs.CopyLists.{SmallWires}
 use Rattle.cone_table.specs.ConeWords.{Tabled}
-use Rattle.cut_circuit.specs.Circuit.{circuit, Layout}
+use Rattle.cut_circuit.specs.Circuit.{Circuit, circuit, Layout}
+use Rattle.cut_circuit.specs.Packed.{packedOf, sourcesAt, countsAt}
+use Rattle.cut_circuit.specs.Packing.{PackAsked, Packs}
+use Rattle.cut_circuit.specs.PackingLaws.{layout-packed, chains-packed, holds-packed}
+use Rattle.cut_circuit.specs.declared.Extent.{Extent}
 use Rattle.cut_circuit.specs.Chains.{Chains}
 use Rattle.cut_circuit.specs.PinLinks.{LinkAsked, Linked}
 use Rattle.cut_circuit.specs.PinLinksLaws.{chains}
-use Rattle.cut_least.specs.Bridge.{Holds}
+use Rattle.cut_circuit.specs.Bridge.{Holds}
 use Rattle.label_sweep.specs.Sweeps.{Sized, Ordered}
 use Rattle.label_visit.specs.LabelVisits.{Suits, wiring, Ceilings}
 use Rattle.job_plan.specs.Counts.{Counted, SumCounts}
@@ -120,47 +124,75 @@ module _ {k target : ℕ} {w : Wiring} {first tops order : List ℕ} (p : Planni
     border-enough : k * reachOf N ≤ k * m
     border-enough = mul-le-mul-left k (sum-reach s N wired)
 
-    suits : Suits (wiring I G (k * m) (w .pins) (w .sources) (w .counts)) k tops N
-    suits = record {
-      holds = record { inputs = wired .inputs; gates = wired .gates; lists = wired .wiring };
-      ranked = ranked (p .passed .reached);
-      loopless = p .passed .loopless;
-      sound = p .passed .sound;
-      fits = p .passed .fits;
-      border = border-enough;
-      path = p .path;
-    }
+    -- the sizes of the circuit
+    abbrev pub extent : Extent
+    extent = record { inputs = I; gates = G; width = k * m + mostBeyond; border = k * m }
 
-    layout : (hs ns : List ℕ) → Layout (circuit I G (k * m + mostBeyond) (k * m) (w .pins) first (w .sources) (w .counts) hs ns (replicate mostTable 0))
+    abbrev apart : List ℕ → List ℕ → Circuit
+    apart hs ns = circuit I G (k * m + mostBeyond) (k * m) (w .pins) first (w .sources) (w .counts) hs ns (replicate mostHeld 0)
+
+    layout : (hs ns : List ℕ) → Layout (apart hs ns)
     layout hs ns = record {
       wide = omega arith;
       pins = let c = p .facts .gates-high in let d = l .atPins in omega arith;
       sources = let c = p .facts .gates-high in let d = l .atSources in omega arith;
       counts = let c = p .facts .gates-high in let d = l .atCounts in omega arith;
       firsts = p .firsts;
-      inside = let a = table-small in let b = length-replicate {A = ℕ} mostTable 0 in omega arith;
+      slots = let a = p .facts .gates-high in let b = length-replicate {A = ℕ} mostHeld 0 in omega arith;
+      held = λ g h. let z = zeros mostHeld g in omega arith;
       first = p .pin;
       few = p .facts .pins-high;
       source = p .facts .source;
       count = λ g j h i. let a = p .facts .count g j h i in omega arith;
-      forced = λ x h. absurd (none x (zeros mostTable x) h);
     }
-      where
-        none : (x : ℕ) → _≡_ {A = ℕ} (getD (replicate mostTable 0) x 0) 0 → 0 < getD (replicate mostTable 0) x 0 → ⊥
-        none x e h = omega arith
+
+    pub plan-pack : (hs ns net : List ℕ) → length hs ≡ mostNodes → length ns ≡ mostPlaces → length net ≡ mostPacked → PackAsked extent (w .pins) first (w .sources) (w .counts) hs ns net
+    plan-pack hs ns net a b e = record {
+      pin = let c = p .facts .gates-high in let d = l .atPins in omega arith;
+      firsts = p .firsts;
+      source = let c = p .facts .gates-high in let d = l .atSources in omega arith;
+      count = let c = p .facts .gates-high in let d = l .atCounts in omega arith;
+      head = let c = p .facts .gates-high in let d = p .facts .inputs-high in omega arith;
+      next = let c = p .facts .gates-high in omega arith;
+      room = let c = p .facts .gates-high in let d = p .facts .inputs-high in omega arith;
+    }
+
+    module _ {hs ns net : List ℕ} (K : Packs extent (w .pins) first (w .sources) (w .counts) hs ns net) where
+      packed : Layout (packedOf extent net (replicate mostHeld 0))
+      packed = layout-packed K (layout hs ns)
+
+      pub suits : Suits (wiring extent net) k tops N
+      suits = record {
+        holds = let h = holds-packed K (layout hs ns) (record { inputs = wired .inputs; gates = wired .gates; lists = wired .wiring }) in record { inputs = h .inputs; gates = h .gates; lists = h .lists };
+        ranked = ranked (p .passed .reached);
+        loopless = p .passed .loopless;
+        sound = p .passed .sound;
+        fits = p .passed .fits;
+        border = border-enough;
+        path = p .path;
+      }
+
+      wires : SmallWires I G net (drop (sourcesAt G) net) (drop (countsAt G) net)
+      wires = record {
+        wires = record { sizes = packed .pins; room = packed .sources; room′ = packed .counts; pins = packed .few; node = packed .source };
+        inputs = p .facts .inputs-high;
+        gates = p .facts .gates-high;
+        count = λ g j h i. let a = packed .count g j h i in omega arith;
+      }
 
     -- what 32 times a small number is
     far : (x : ℕ) → x ≤ 100000 → mostPeriod * x ≤ room
     far x h = let a = mul-le-mul-left mostPeriod h in omega arith
 
-    period : (ls : List ℤ) → length ls ≡ I + G → PeriodAsked I G (k * m + mostBeyond) (k * m) (w .pins) (w .sources) (w .counts) ls tops order (w .outs) (w .delays) (w .outputs) target k
-    period ls e = record {
+    period : (net : List ℕ) (ls : List ℤ) → length ls ≡ I + G → PeriodAsked extent net ls tops order (w .outs) (w .delays) (w .outputs) target k
+    period net ls e = record {
       sized = record {
         size = e;
         shift = far (k * m + mostBeyond) (let a = border-small in omega arith);
         period = omega arith;
         least = let a = p .low in omega arith;
-        copies = let a = mul-le-mul (p .high) (p .facts .gates-high) in omega arith;
+        limit = p .high;
+        fits = let a = table-small in omega arith;
         sources = let a = p .facts .outputs-high in let b = l .atOuts in omega arith;
         counts = let a = p .facts .outputs-high in let b = l .atDelays in omega arith;
         node = p .facts .out-source;
@@ -173,9 +205,6 @@ module _ {k target : ℕ} {w : Wiring} {first tops order : List ℕ} (p : Planni
       near = p .near;
     }
 
-    wires : SmallWires I G (w .pins) (w .sources) (w .counts)
-    wires = net-wires (p .facts) l
-
     outputs-are : N .outputs ≡ pinsIn (w .outs) (w .delays) 0 (w .outputs)
     outputs-are = outputs-netIn (arraysOf w)
 
@@ -184,30 +213,31 @@ module _ {k target : ℕ} {w : Wiring} {first tops order : List ℕ} (p : Planni
     tabled = tabled-netIn (arraysOf w)
 
     -- **the engine's arrays**
-    pub plan-engine : (hs ns : List ℕ) → length hs ≡ mostNodes → length ns ≡ mostPlaces → Linked (I + G) G (w .pins) (w .sources) hs ns (mostPins * G) → (t : List ℕ) → t ≡ replicate ((I + G) * (k * m + mostBeyond)) 0
-        → (ls : List ℤ) → length ls ≡ I + G
-        → Engine I G (k * m + mostBeyond) (k * m) (w .pins) first (w .sources) (w .counts) hs ns (w .tables) (w .outs) (w .delays) (w .outputs) tops order k target t ls
-    plan-engine hs ns a b linked t e ls f = record {
-      net = N;
-      suits = suits;
+    pub plan-engine : (hs ns net : List ℕ) → length hs ≡ mostNodes → length ns ≡ mostPlaces → Linked (I + G) G (w .pins) (w .sources) hs ns (mostPins * G)
+        → Packs extent (w .pins) first (w .sources) (w .counts) hs ns net → (t : List ℕ) → t ≡ replicate mostTable 0 → (ls : List ℤ) → length ls ≡ I + G
+        → Engine extent net (w .tables) (w .outs) (w .delays) (w .outputs) tops order k target t ls
+    plan-engine hs ns net a b linked K t e ls f = record {
+      model = N;
+      suits = suits K;
       passed = p .passed;
       ended = outputs-are;
-      layout = layout hs ns;
-      chains = chains (plan-link hs ns a b) linked;
-      size = ap length e ∙ length-replicate {A = ℕ} ((I + G) * (k * m + mostBeyond)) 0;
+      layout = packed K;
+      chains = chains-packed K (layout hs ns) (chains (plan-link hs ns a b) linked);
+      size = ap length e ∙ length-replicate {A = ℕ} mostTable 0;
       fits = table-small;
-      clear = λ c. ap (λ (x : List ℕ). getD x c 0) e ∙ zeros ((I + G) * (k * m + mostBeyond)) c;
-      period = period ls f;
-      wires = wires;
+      clear = λ c. ap (λ (x : List ℕ). getD x c 0) e ∙ zeros mostTable c;
+      period = period net ls f;
+      wires = wires K;
+      parts = let h = K .room in omega arith;
       tables = let c = p .facts .gates-high in let d = l .atTables in omega arith;
       few = p .high;
     }
 
     -- **the cover, with its labels in front of a longer array**
-    pub plan-planned : {ls : List ℤ} {marks sizes nodes backs luts : List ℕ} {r : ℕ} (rest : List ℤ) → length ls ≡ I + G
-        → CoverTold I G (k * m) (w .pins) (w .sources) (w .counts) (w .tables) (w .outs) (w .delays) (w .outputs) tops k target (kept I G r ls marks sizes nodes backs luts)
+    pub plan-planned : {hs ns net : List ℕ} → Packs extent (w .pins) first (w .sources) (w .counts) hs ns net → {ls : List ℤ} {marks sizes nodes backs luts : List ℕ} {r : ℕ} (rest : List ℤ) → length ls ≡ I + G
+        → CoverTold extent net (w .tables) (w .outs) (w .delays) (w .outputs) tops k target (kept I G r ls marks sizes nodes backs luts)
         → Planned N k target (kept I G r (ls ++ rest) marks sizes nodes backs luts)
-    plan-planned {ls} {marks} {sizes} {nodes} {backs} {luts} {r} rest e told = relabel (told .cover N suits (p .passed) tabled outputs-are)
+    plan-planned K {ls} {marks} {sizes} {nodes} {backs} {luts} {r} rest e told = relabel (told .cover N (suits K) (p .passed) tabled outputs-are)
       where
         same : (u : ℕ) → u < I + G → getD ls u (pos 0) ≡ getD (ls ++ rest) u (pos 0)
         same u h = sym (List·getD-append ls rest (pos 0) u (omega (arith, e, h)))

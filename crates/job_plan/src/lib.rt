@@ -3,15 +3,19 @@ use cone_luts::tabulate;
 use cover_roots::choose;
 use cut_circuit::Extent;
 use cut_circuit::link;
+use cut_circuit::pack;
 use job_scratch::clear_first;
 use label_period::least_period;
 use label_sweep::reach;
 use limits::BEYOND;
 use limits::COPIES;
+use limits::HELD;
 use limits::LIST;
 use limits::NODES;
+use limits::PACKED;
 use limits::PINS;
 use limits::PLACES;
+use limits::STACK;
 use limits::TABLE;
 use net_reader::Wiring;
 ghost use mathlib.Core.Path.{_≡_};
@@ -20,8 +24,8 @@ ghost use lib.ListN.{length};
 ghost use Rattle.net_model.specs.Arrays.{netIn};
 ghost use Rattle.limits.specs.Limits.{mostNodes, mostTable};
 ghost use Rattle.net_reader.specs.ReadAnswer.{arraysOf};
-ghost use Rattle.cut_circuit.specs.Circuit.{circuit};
-ghost use Rattle.cut_question.specs.Question.{AtRest};
+ghost use Rattle.cut_circuit.specs.Packed.{packedOf};
+ghost use Rattle.cut_question.specs.Separating.{AtRest};
 ghost use Rattle.label_visit.specs.LabelVisits.{wiring};
 ghost use Rattle.job_plan.specs.Counts.{MostCount, Counted, SumCounts};
 ghost use Rattle.cover_records.specs.Kept.{kept};
@@ -68,69 +72,60 @@ fn sum_counts(gates: usize, pins: &[usize], counts: &[usize]) -> usize
 // The target where it is reachable, or the least period for target 0, with the least labelling left in labels. 0: the target is not reachable.
 fn find_period(
     s: Extent,
-    pins: &[usize],
-    first: &[usize],
-    sources: &[usize],
-    counts: &[usize],
-    heads: &[usize],
-    nexts: &[usize],
-    inside: &mut [u8],
+    net: &[usize],
+    slots: &mut [u32],
     table: &mut [u8],
-    list: &mut [usize],
-    members: &mut [usize],
+    list: &mut [u32],
+    stack: &mut [u32],
+    counts: &mut [u32],
+    members: &mut [u32],
     labels: &mut [i64],
     tops: &[usize],
     order: &[usize],
     outs: &[usize],
-    backs: &[usize],
+    delays: &[usize],
     n: usize,
     target: usize,
     k: usize,
 ) -> usize
-    requires { ⌜ AtRest (circuit (s .inputs) (s .gates) (s .width) (s .border) (now pins) (now first) (now sources) (now counts) (now heads) (now nexts) (now inside)) (now table) (now list) (now members) ⌝ }
-    requires { ⌜ PeriodAsked (s .inputs) (s .gates) (s .width) (s .border) (now pins) (now sources) (now counts) (now labels) (now tops) (now order) (now outs) (now backs) n target k ⌝ }
-    ensures { λ _. ⌜ AtRest (circuit (s .inputs) (s .gates) (s .width) (s .border) (now (pins .entry)) (now (first .entry)) (now (sources .entry)) (now (counts .entry)) (now (heads .entry)) (now (nexts .entry)) (now (inside .exit))) (now (table .exit)) (now (list .exit)) (now (members .exit)) ⌝ }
-    ensures { λ r. ⌜ PeriodFound (wiring (s .inputs) (s .gates) (s .border) (now (pins .entry)) (now (sources .entry)) (now (counts .entry))) k target (now (tops .entry)) (now (outs .entry)) (now (backs .entry)) n (now (labels .exit)) r ⌝ }
+    requires { ⌜ AtRest (packedOf s (now net) (now slots)) (now table) (now list) (now stack) (now counts) (now members) ⌝ }
+    requires { ⌜ PeriodAsked s (now net) (now labels) (now tops) (now order) (now outs) (now delays) n target k ⌝ }
+    ensures { λ _. ⌜ AtRest (packedOf s (now (net .entry)) (now (slots .exit))) (now (table .exit)) (now (list .exit)) (now (stack .exit)) (now (counts .exit)) (now (members .exit)) ⌝ }
+    ensures { λ r. ⌜ PeriodFound (wiring s (now (net .entry))) k target (now (tops .entry)) (now (outs .entry)) (now (delays .entry)) n (now (labels .exit)) r ⌝ }
 {
     if target == 0 {
         return least_period(
             s,
-            pins,
-            first,
-            sources,
-            counts,
-            heads,
-            nexts,
-            inside,
+            net,
+            slots,
             table,
             list,
+            stack,
+            counts,
             members,
             labels,
             tops,
             order,
             outs,
-            backs,
+            delays,
             n,
             k,
         );
     }
     if reach(
         s,
-        pins,
-        first,
-        sources,
-        counts,
-        heads,
-        nexts,
-        inside,
+        net,
+        slots,
         table,
         list,
+        stack,
+        counts,
         members,
         labels,
         tops,
         order,
         outs,
-        backs,
+        delays,
         n,
         target,
         k,
@@ -140,15 +135,10 @@ fn find_period(
     0
 }
 
-// Period, labels, chosen roots, cuts and tables, with the engine's table lent; the period is 0 where the target is not reachable.
+// Period, labels, chosen roots, cuts and tables, with the engine's table lent, whose first bytes the questions take; the period is 0 where the target is not reachable.
 fn cover(
     s: Extent,
-    pins: &[usize],
-    first: &[usize],
-    sources: &[usize],
-    counts: &[usize],
-    heads: &[usize],
-    nexts: &[usize],
+    net: &[usize],
     tables: &[u64],
     outs: &[usize],
     delays: &[usize],
@@ -165,24 +155,24 @@ fn cover(
     backs: &mut [usize],
     luts: &mut [u64],
 ) -> usize
-    requires { ⌜ Engine (s .inputs) (s .gates) (s .width) (s .border) (now pins) (now first) (now sources) (now counts) (now heads) (now nexts) (now tables) (now outs) (now delays) n (now tops) (now order) k target (now table) (now labels) ⌝ }
+    requires { ⌜ Engine s (now net) (now tables) (now outs) (now delays) n (now tops) (now order) k target (now table) (now labels) ⌝ }
     requires { ⌜ Roomy (s .gates) (now marks) (now sizes) (now nodes) (now backs) (now luts) ⌝ }
-    ensures { λ r. ⌜ CoverTold (s .inputs) (s .gates) (s .border) (now (pins .entry)) (now (sources .entry)) (now (counts .entry)) (now (tables .entry)) (now (outs .entry)) (now (delays .entry)) n (now (tops .entry)) k target (kept (s .inputs) (s .gates) r (now (labels .exit)) (now (marks .exit)) (now (sizes .exit)) (now (nodes .exit)) (now (backs .exit)) (now (luts .exit))) ⌝ }
+    ensures { λ r. ⌜ CoverTold s (now (net .entry)) (now (tables .entry)) (now (outs .entry)) (now (delays .entry)) n (now (tops .entry)) k target (kept (s .inputs) (s .gates) r (now (labels .exit)) (now (marks .exit)) (now (sizes .exit)) (now (nodes .exit)) (now (backs .exit)) (now (luts .exit))) ⌝ }
 {
-    let mut inside = [0u8; TABLE];
-    let mut list = [0usize; LIST];
-    let mut members = [0usize; COPIES];
+    let end = (s.inputs + s.gates) * s.width;
+    let mut slots = [0u32; HELD];
+    let mut list = [0u32; LIST];
+    let mut stack = [0u32; STACK];
+    let mut counts = [0u32; NODES];
+    let mut members = [0u32; COPIES];
     let phi = find_period(
         s,
-        pins,
-        first,
-        sources,
-        counts,
-        heads,
-        nexts,
-        &mut inside,
-        table,
+        net,
+        &mut slots,
+        &mut table[..end],
         &mut list,
+        &mut stack,
+        &mut counts,
         &mut members,
         labels,
         tops,
@@ -198,15 +188,12 @@ fn cover(
     }
     choose(
         s,
-        pins,
-        first,
-        sources,
-        counts,
-        heads,
-        nexts,
-        &mut inside,
-        table,
+        net,
+        &mut slots,
+        &mut table[..end],
         &mut list,
+        &mut stack,
+        &mut counts,
         &mut members,
         labels,
         outs,
@@ -218,18 +205,21 @@ fn cover(
         nodes,
         backs,
     );
+    let a = 2 * s.gates;
+    let b = (2 + PINS) * s.gates;
     tabulate(
         s.inputs,
         s.gates,
-        pins,
-        sources,
-        counts,
+        net,
+        &net[a..],
+        &net[b..],
         tables,
         marks,
         sizes,
         nodes,
         backs,
         luts,
+        table,
     );
     phi
 }
@@ -266,7 +256,6 @@ fn fit(
     let border = k * m;
     let width = border + BEYOND;
     let all = inputs + gates;
-    let total = all * width;
     let s = Extent {
         inputs: inputs,
         gates: gates,
@@ -276,15 +265,13 @@ fn fit(
     let mut heads = [0usize; NODES];
     let mut nexts = [0usize; PLACES];
     link(all, gates, pins, sources, &mut heads, &mut nexts);
-    clear_first(work, total);
+    let mut net = [0usize; PACKED];
+    pack(s, pins, first, sources, counts, &heads, &nexts, &mut net);
+    let end = TABLE;
+    clear_first(work, end);
     cover(
         s,
-        pins,
-        first,
-        sources,
-        counts,
-        &heads,
-        &nexts,
+        &net,
         tables,
         outs,
         delays,
@@ -293,7 +280,7 @@ fn fit(
         order,
         k,
         target,
-        &mut work[..total],
+        &mut work[..end],
         &mut labels[..all],
         marks,
         sizes,

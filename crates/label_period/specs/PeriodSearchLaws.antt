@@ -1,8 +1,8 @@
 -- The least period by search: periods 1, 2, ... until one is reachable; the number of gates is.
-use mathlib.Core.Path.{_≡_, refl, sym, subst}
+use mathlib.Core.Path.{_≡_, refl}
 use mathlib.Core.List.{List}
 use mathlib.Core.Bool.{Bool, true, false}
-use Prim.Native.Nat.{ℕ, suc, _+_, _*_, _≤_, _<_}
+use Prim.Native.Nat.{ℕ, _+_, _≤_, _<_}
 use native.Mathlib.Nat.{mul-le-mul-right}
 use native.Mathlib.Decide.{ℕ-discrete}
 use native.Mathlib.Omega.{arith}
@@ -16,20 +16,21 @@ use Rattle.cover_theory.specs.Covers.{LeastPeriod}
 use Rattle.cover_theory.specs.Joined.{reachable-met, met-reachable}
 use Rattle.cover_theory.specs.Period.{gates-reach}
 use Rattle.cut_circuit.specs.Circuit.{Circuit}
-use Rattle.limits.specs.Limits.{mostCopies}
+use Rattle.cut_circuit.specs.declared.Extent.{Extent}
 use Rattle.signed.specs.Range.{labelIn}
 use Rattle.label_visit.specs.LabelVisits.{Suits, Ceilings}
 use Rattle.label_sweep.specs.Sweeps.{Sized, Labelled}
 use Rattle.label_period.specs.PeriodSearch.{NoneBelow, Period}
 
 -- ---- smaller periods ask less
-pub sized-less : {I G W : ℕ} {ls ls′ : List ℤ} {os oc : List ℕ} {k n φ : ℕ} (ψ : ℕ) → ψ ≤ φ → length ls′ ≡ length ls → Sized I G W ls os oc φ k n → Sized I G W ls′ os oc ψ k n
-sized-less {W = W} {oc = oc} ψ h e z = record {
-  size = let s = z .size in omega arith;
-  shift = let a = mul-le-mul-right W h in let b = z .shift in omega arith;
+pub sized-less : {s : Extent} {ls ls′ : List ℤ} {os oc : List ℕ} {k n φ : ℕ} (ψ : ℕ) → ψ ≤ φ → length ls′ ≡ length ls → Sized s ls os oc φ k n → Sized s ls′ os oc ψ k n
+sized-less {s} {oc = oc} ψ h e z = record {
+  size = let a = z .size in omega arith;
+  shift = let a = mul-le-mul-right (s .width) h in let b = z .shift in omega arith;
   period = let b = z .period in omega arith;
   least = z .least;
-  copies = z .copies;
+  limit = z .limit;
+  fits = z .fits;
   sources = z .sources;
   counts = z .counts;
   node = z .node;
@@ -38,9 +39,6 @@ sized-less {W = W} {oc = oc} ψ h e z = record {
 
 pub ceilings-less : {C : Circuit} {tops : List ℕ} {φ : ℕ} (ψ : ℕ) → ψ ≤ φ → Ceilings C φ tops → Ceilings C ψ tops
 ceilings-less {tops = tops} ψ h c = record { size = c .size; top = λ g l. let a = mul-le-mul-right (getD tops g 0) h in let b = c .top g l in omega arith }
-
-pub sized-few : {I G W : ℕ} {ls : List ℤ} {os oc : List ℕ} {φ k n : ℕ} → Sized I G W ls os oc φ k n → G ≤ mostCopies
-sized-few {G = G} z = let a = mul-le-mul-right G (z .least) in let b = z .copies in omega arith
 
 module _ {C : Circuit} {k : ℕ} {tops os oc : List ℕ} {n : ℕ} where
   pub none-first : NoneBelow C k tops os oc n 1

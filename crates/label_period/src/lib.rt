@@ -1,11 +1,9 @@
 // The least period, by search over periods from 1 up.
 use cut_circuit::Extent;
 use label_sweep::reach;
-ghost use mathlib.Core.Path.{_≡_};
-ghost use Prim.Native.Nat.{ℕ, _+_, _*_, _≤_, _<_};
-ghost use lib.ListN.{length, getD};
-ghost use Rattle.cut_circuit.specs.Circuit.{circuit};
-ghost use Rattle.cut_question.specs.Question.{AtRest};
+ghost use Prim.Native.Nat.{_≤_, _<_};
+ghost use Rattle.cut_circuit.specs.Packed.{packedOf};
+ghost use Rattle.cut_question.specs.Separating.{AtRest};
 ghost use Rattle.label_visit.specs.LabelVisits.{wiring, Ceilings};
 ghost use Rattle.label_sweep.specs.Sweeps.{Sized, Ordered};
 ghost use Rattle.label_period.specs.PeriodSearch.{Period};
@@ -13,16 +11,13 @@ ghost use Rattle.label_period.specs.PeriodSearch.{Period};
 // The least period, with its least labelling left in labels.
 pub fn least_period(
     s: Extent,
-    pins: &[usize],
-    first: &[usize],
-    sources: &[usize],
-    counts: &[usize],
-    heads: &[usize],
-    nexts: &[usize],
-    inside: &mut [u8],
+    net: &[usize],
+    slots: &mut [u32],
     table: &mut [u8],
-    list: &mut [usize],
-    members: &mut [usize],
+    list: &mut [u32],
+    stack: &mut [u32],
+    counts: &mut [u32],
+    members: &mut [u32],
     labels: &mut [i64],
     tops: &[usize],
     order: &[usize],
@@ -31,24 +26,21 @@ pub fn least_period(
     n: usize,
     k: usize,
 ) -> usize
-    requires { ⌜ AtRest (circuit (s .inputs) (s .gates) (s .width) (s .border) (now pins) (now first) (now sources) (now counts) (now heads) (now nexts) (now inside)) (now table) (now list) (now members) ⌝ }
-    requires { ⌜ Sized (s .inputs) (s .gates) (s .width) (now labels) (now outs) (now delays) (s .gates) k n × Ordered (wiring (s .inputs) (s .gates) (s .border) (now pins) (now sources) (now counts)) (now order) × Ceilings (wiring (s .inputs) (s .gates) (s .border) (now pins) (now sources) (now counts)) (s .gates) (now tops) × (1 ≤ s .gates) ⌝ }
-    ensures { λ _. ⌜ AtRest (circuit (s .inputs) (s .gates) (s .width) (s .border) (now (pins .entry)) (now (first .entry)) (now (sources .entry)) (now (counts .entry)) (now (heads .entry)) (now (nexts .entry)) (now (inside .exit))) (now (table .exit)) (now (list .exit)) (now (members .exit)) ⌝ }
-    ensures { λ r. ⌜ Period (wiring (s .inputs) (s .gates) (s .border) (now (pins .entry)) (now (sources .entry)) (now (counts .entry))) k (now (tops .entry)) (now (outs .entry)) (now (delays .entry)) n (now (labels .exit)) r ⌝ }
+    requires { ⌜ AtRest (packedOf s (now net) (now slots)) (now table) (now list) (now stack) (now counts) (now members) ⌝ }
+    requires { ⌜ Sized s (now labels) (now outs) (now delays) (s .gates) k n × Ordered (wiring s (now net)) (now order) × Ceilings (wiring s (now net)) (s .gates) (now tops) × (1 ≤ s .gates) ⌝ }
+    ensures { λ _. ⌜ AtRest (packedOf s (now (net .entry)) (now (slots .exit))) (now (table .exit)) (now (list .exit)) (now (stack .exit)) (now (counts .exit)) (now (members .exit)) ⌝ }
+    ensures { λ r. ⌜ Period (wiring s (now (net .entry))) k (now (tops .entry)) (now (outs .entry)) (now (delays .entry)) n (now (labels .exit)) r ⌝ }
 {
     let mut phi = 1;
     while phi < s.gates {
         if reach(
             s,
-            pins,
-            first,
-            sources,
-            counts,
-            heads,
-            nexts,
-            inside,
+            net,
+            slots,
             table,
             list,
+            stack,
+            counts,
             members,
             labels,
             tops,
@@ -65,15 +57,12 @@ pub fn least_period(
     }
     reach(
         s,
-        pins,
-        first,
-        sources,
-        counts,
-        heads,
-        nexts,
-        inside,
+        net,
+        slots,
         table,
         list,
+        stack,
+        counts,
         members,
         labels,
         tops,

@@ -22,6 +22,7 @@ use Rattle.label_theory.specs.Lower.{outputs-under}
 use Rattle.label_theory.specs.Floor.{floor}
 use Rattle.signed.specs.Range.{Small, room, labelIn}
 use Rattle.cut_circuit.specs.Circuit.{Circuit}
+use Rattle.cut_circuit.specs.declared.Extent.{Extent}
 use Rattle.label_visit.specs.LabelVisits.{Bounds, wiring, Ready, Fine}
 use Rattle.label_visit.specs.BoundLaws.{quiet-least}
 use Rattle.label_pins.specs.PinHeights.{heightAt}
@@ -86,10 +87,10 @@ start-bounds {C} {k} {φ} {tops} {ls} {m} {low} one em e s N S = record {
         rw (x ∙ e) (omega (arith, ints, height-parts φ (pos 0) (reachOf N), sub-parts (pos 1) (pos (φ * m))))
 
 -- sizes that do not depend on what the labels hold
-pub ready-of : {I G W : ℕ} {ls ls′ : List ℤ} {os oc : List ℕ} {φ k n : ℕ} {low : ℤ} → Sized I G W ls os oc φ k n → Started I G ls′ low → Ready I G W ls′ φ k
-ready-of z s = record { size = s .size; small = s .small; shift = z .shift; least = z .least; copies = z .copies }
+pub ready-of : {s : Extent} {ls ls′ : List ℤ} {os oc : List ℕ} {φ k n : ℕ} {low : ℤ} → Sized s ls os oc φ k n → Started (s .inputs) (s .gates) ls′ low → Ready s ls′ φ k
+ready-of z b = record { size = b .size; small = b .small; shift = z .shift; least = z .least; limit = z .limit; fits = z .fits }
 
-pub out-fits : {I G W B : ℕ} {ps so co : List ℕ} {ls ls′ : List ℤ} {os oc : List ℕ} {φ k n : ℕ} → Sized I G W ls os oc φ k n → Fine (wiring I G B ps so co) ls′ → OutFits os oc ls′ φ n
+pub out-fits : {s : Extent} {net : List ℕ} {ls ls′ : List ℤ} {os oc : List ℕ} {φ k n : ℕ} → Sized s ls os oc φ k n → Fine (wiring s net) ls′ → OutFits os oc ls′ φ n
 out-fits {os = os} z f = record {
   period = z .period;
   sources = z .sources;

@@ -2,7 +2,7 @@
 use mathlib.Core.Path.{_≡_}
 use mathlib.Core.List.{List}
 use mathlib.Core.Bool.{Bool, true, false}
-use Prim.Native.Nat.{ℕ, _+_, _*_, _≤_, _<_}
+use Prim.Native.Nat.{ℕ, _+_, _*_, _^_, _≤_, _<_}
 use lib.IntN.{ℤ}
 use lib.ListN.{length, getD}
 use Rattle.net_model.specs.Net.{Net}
@@ -10,7 +10,8 @@ use Rattle.net_model.specs.Arrays.{pinsIn}
 use Rattle.label_theory.specs.Labels.{Least, OutputsMet, Reachable}
 use Rattle.signed.specs.Range.{room, labelIn}
 use Rattle.cut_circuit.specs.Circuit.{Circuit}
-use Rattle.limits.specs.Limits.{mostCopies}
+use Rattle.cut_circuit.specs.declared.Extent.{Extent}
+use Rattle.limits.specs.Limits.{mostK}
 use Rattle.label_visit.specs.LabelVisits.{Suits, Quiet, Bounds, Refuted, Fine, left}
 use Rattle.label_pins.specs.PinHeights.{PinFits}
 
@@ -68,15 +69,16 @@ pub record OutFits (os oc : List ℕ) (ls : List ℤ) (φ n : ℕ) : Type 0 wher
   pub pin : (i : ℕ) → i < n → PinFits os oc ls φ i
 
 -- what the search for labels needs, whatever the labels hold
-pub record Sized (I G width : ℕ) (ls : List ℤ) (os oc : List ℕ) (φ k n : ℕ) : Type 0 where
-  pub size : length ls ≡ I + G
-  pub shift : φ * width ≤ room
+pub record Sized (s : Extent) (ls : List ℤ) (os oc : List ℕ) (φ k n : ℕ) : Type 0 where
+  pub size : length ls ≡ s .inputs + s .gates
+  pub shift : φ * s .width ≤ room
   pub period : φ ≤ room
   pub least : 1 ≤ k
-  pub copies : k * G ≤ mostCopies
+  pub limit : k ≤ mostK
+  pub fits : (s .inputs + s .gates) * s .width * 16 < 2 ^ 32
   pub sources : n ≤ length os
   pub counts : n ≤ length oc
-  pub node : (i : ℕ) → i < n → getD os i 0 < I + G
+  pub node : (i : ℕ) → i < n → getD os i 0 < s .inputs + s .gates
   pub count : (i : ℕ) → i < n → φ * getD oc i 0 ≤ room
 
 -- The labels' end, for every net with this wiring and these outputs: the least labelling, which meets the outputs, or that the target is not reachable.

@@ -11,8 +11,8 @@ ghost use lib.IntN.{pos, _-ℤ_};
 ghost use lib.ListN.{length};
 ghost use lib.Signed.{_≤ℤ_, _<ℤ_};
 ghost use Rattle.signed.specs.Range.{Small, room};
-ghost use Rattle.cut_circuit.specs.Circuit.{circuit};
-ghost use Rattle.cut_question.specs.Question.{AtRest};
+ghost use Rattle.cut_circuit.specs.Packed.{packedOf};
+ghost use Rattle.cut_question.specs.Separating.{AtRest};
 ghost use Rattle.label_visit.specs.LabelVisits.{wiring, Ready, Ceilings};
 ghost use Rattle.label_pins.specs.PinHeights.{heightAt, PinFits};
 ghost use Rattle.label_sweep.specs.Sweeps.{Ordered, IfRose, QuietFrom, SweepTold, Outcome, SettleTold, Filled, OutFits, Sized, Labelled};
@@ -22,16 +22,13 @@ ghost use Rattle.label_sweep.specs.Starting.{Started, OutsMet};
 // 0 where nothing can change, the place behind the last rise, or gates + 1 where a label would pass its ceiling.
 fn sweep(
     s: Extent,
-    pins: &[usize],
-    first: &[usize],
-    sources: &[usize],
-    counts: &[usize],
-    heads: &[usize],
-    nexts: &[usize],
-    inside: &mut [u8],
+    net: &[usize],
+    slots: &mut [u32],
     table: &mut [u8],
-    list: &mut [usize],
-    members: &mut [usize],
+    list: &mut [u32],
+    stack: &mut [u32],
+    counts: &mut [u32],
+    members: &mut [u32],
     labels: &mut [i64],
     tops: &[usize],
     order: &[usize],
@@ -39,11 +36,11 @@ fn sweep(
     k: usize,
     stop: usize,
 ) -> usize
-    requires { ⌜ AtRest (circuit (s .inputs) (s .gates) (s .width) (s .border) (now pins) (now first) (now sources) (now counts) (now heads) (now nexts) (now inside)) (now table) (now list) (now members) ⌝ }
-    requires { ⌜ Ready (s .inputs) (s .gates) (s .width) (now labels) phi k × Ordered (wiring (s .inputs) (s .gates) (s .border) (now pins) (now sources) (now counts)) (now order) × Ceilings (wiring (s .inputs) (s .gates) (s .border) (now pins) (now sources) (now counts)) phi (now tops) ⌝ }
-    requires { ⌜ (stop ≤ s .gates) × QuietFrom (wiring (s .inputs) (s .gates) (s .border) (now pins) (now sources) (now counts)) k phi (now tops) (now order) (now labels) stop ⌝ }
-    ensures { λ _. ⌜ AtRest (circuit (s .inputs) (s .gates) (s .width) (s .border) (now (pins .entry)) (now (first .entry)) (now (sources .entry)) (now (counts .entry)) (now (heads .entry)) (now (nexts .entry)) (now (inside .exit))) (now (table .exit)) (now (list .exit)) (now (members .exit)) ⌝ }
-    ensures { λ r. ⌜ SweepTold (wiring (s .inputs) (s .gates) (s .border) (now (pins .entry)) (now (sources .entry)) (now (counts .entry))) k phi (now (tops .entry)) (now (order .entry)) (now (labels .entry)) (now (labels .exit)) r ⌝ }
+    requires { ⌜ AtRest (packedOf s (now net) (now slots)) (now table) (now list) (now stack) (now counts) (now members) ⌝ }
+    requires { ⌜ Ready s (now labels) phi k × Ordered (wiring s (now net)) (now order) × Ceilings (wiring s (now net)) phi (now tops) ⌝ }
+    requires { ⌜ (stop ≤ s .gates) × QuietFrom (wiring s (now net)) k phi (now tops) (now order) (now labels) stop ⌝ }
+    ensures { λ _. ⌜ AtRest (packedOf s (now (net .entry)) (now (slots .exit))) (now (table .exit)) (now (list .exit)) (now (stack .exit)) (now (counts .exit)) (now (members .exit)) ⌝ }
+    ensures { λ r. ⌜ SweepTold (wiring s (now (net .entry))) k phi (now (tops .entry)) (now (order .entry)) (now (labels .entry)) (now (labels .exit)) r ⌝ }
 {
     let mut last = 0;
     let mut end = stop;
@@ -51,15 +48,12 @@ fn sweep(
     while i < end {
         let e = visit(
             s,
-            pins,
-            first,
-            sources,
-            counts,
-            heads,
-            nexts,
-            inside,
+            net,
+            slots,
             table,
             list,
+            stack,
+            counts,
             members,
             labels,
             tops,
@@ -100,41 +94,35 @@ fn outcome(gates: usize, r: usize) -> usize
 // Sweeps until nothing can change, or a label would pass its ceiling.
 fn sweep_all(
     s: Extent,
-    pins: &[usize],
-    first: &[usize],
-    sources: &[usize],
-    counts: &[usize],
-    heads: &[usize],
-    nexts: &[usize],
-    inside: &mut [u8],
+    net: &[usize],
+    slots: &mut [u32],
     table: &mut [u8],
-    list: &mut [usize],
-    members: &mut [usize],
+    list: &mut [u32],
+    stack: &mut [u32],
+    counts: &mut [u32],
+    members: &mut [u32],
     labels: &mut [i64],
     tops: &[usize],
     order: &[usize],
     phi: usize,
     k: usize,
 ) -> usize
-    requires { ⌜ AtRest (circuit (s .inputs) (s .gates) (s .width) (s .border) (now pins) (now first) (now sources) (now counts) (now heads) (now nexts) (now inside)) (now table) (now list) (now members) ⌝ }
-    requires { ⌜ Ready (s .inputs) (s .gates) (s .width) (now labels) phi k × Ordered (wiring (s .inputs) (s .gates) (s .border) (now pins) (now sources) (now counts)) (now order) × Ceilings (wiring (s .inputs) (s .gates) (s .border) (now pins) (now sources) (now counts)) phi (now tops) ⌝ }
-    ensures { λ _. ⌜ AtRest (circuit (s .inputs) (s .gates) (s .width) (s .border) (now (pins .entry)) (now (first .entry)) (now (sources .entry)) (now (counts .entry)) (now (heads .entry)) (now (nexts .entry)) (now (inside .exit))) (now (table .exit)) (now (list .exit)) (now (members .exit)) ⌝ }
-    ensures { λ r. ⌜ SettleTold (wiring (s .inputs) (s .gates) (s .border) (now (pins .entry)) (now (sources .entry)) (now (counts .entry))) k phi (now (tops .entry)) (now (labels .entry)) (now (labels .exit)) r ⌝ }
+    requires { ⌜ AtRest (packedOf s (now net) (now slots)) (now table) (now list) (now stack) (now counts) (now members) ⌝ }
+    requires { ⌜ Ready s (now labels) phi k × Ordered (wiring s (now net)) (now order) × Ceilings (wiring s (now net)) phi (now tops) ⌝ }
+    ensures { λ _. ⌜ AtRest (packedOf s (now (net .entry)) (now (slots .exit))) (now (table .exit)) (now (list .exit)) (now (stack .exit)) (now (counts .exit)) (now (members .exit)) ⌝ }
+    ensures { λ r. ⌜ SettleTold (wiring s (now (net .entry))) k phi (now (tops .entry)) (now (labels .entry)) (now (labels .exit)) r ⌝ }
 {
     let mut stop = s.gates;
     let mut r = 1;
     while r == 1 {
         stop = sweep(
             s,
-            pins,
-            first,
-            sources,
-            counts,
-            heads,
-            nexts,
-            inside,
+            net,
+            slots,
             table,
             list,
+            stack,
+            counts,
             members,
             labels,
             tops,
@@ -207,16 +195,13 @@ fn outputs_met(outs: &[usize], delays: &[usize], labels: &[i64], phi: usize, n: 
 // The least labelling for φ, where it meets the outputs. Else no labelling does: the target is not reachable.
 pub fn reach(
     s: Extent,
-    pins: &[usize],
-    first: &[usize],
-    sources: &[usize],
-    counts: &[usize],
-    heads: &[usize],
-    nexts: &[usize],
-    inside: &mut [u8],
+    net: &[usize],
+    slots: &mut [u32],
     table: &mut [u8],
-    list: &mut [usize],
-    members: &mut [usize],
+    list: &mut [u32],
+    stack: &mut [u32],
+    counts: &mut [u32],
+    members: &mut [u32],
     labels: &mut [i64],
     tops: &[usize],
     order: &[usize],
@@ -226,25 +211,22 @@ pub fn reach(
     phi: usize,
     k: usize,
 ) -> bool
-    requires { ⌜ AtRest (circuit (s .inputs) (s .gates) (s .width) (s .border) (now pins) (now first) (now sources) (now counts) (now heads) (now nexts) (now inside)) (now table) (now list) (now members) ⌝ }
-    requires { ⌜ Sized (s .inputs) (s .gates) (s .width) (now labels) (now outs) (now delays) phi k n × Ordered (wiring (s .inputs) (s .gates) (s .border) (now pins) (now sources) (now counts)) (now order) × Ceilings (wiring (s .inputs) (s .gates) (s .border) (now pins) (now sources) (now counts)) phi (now tops) ⌝ }
-    ensures { λ _. ⌜ AtRest (circuit (s .inputs) (s .gates) (s .width) (s .border) (now (pins .entry)) (now (first .entry)) (now (sources .entry)) (now (counts .entry)) (now (heads .entry)) (now (nexts .entry)) (now (inside .exit))) (now (table .exit)) (now (list .exit)) (now (members .exit)) ⌝ }
-    ensures { λ r. ⌜ Labelled (wiring (s .inputs) (s .gates) (s .border) (now (pins .entry)) (now (sources .entry)) (now (counts .entry))) k phi (now (tops .entry)) (now (outs .entry)) (now (delays .entry)) n (now (labels .exit)) r ⌝ }
+    requires { ⌜ AtRest (packedOf s (now net) (now slots)) (now table) (now list) (now stack) (now counts) (now members) ⌝ }
+    requires { ⌜ Sized s (now labels) (now outs) (now delays) phi k n × Ordered (wiring s (now net)) (now order) × Ceilings (wiring s (now net)) phi (now tops) ⌝ }
+    ensures { λ _. ⌜ AtRest (packedOf s (now (net .entry)) (now (slots .exit))) (now (table .exit)) (now (list .exit)) (now (stack .exit)) (now (counts .exit)) (now (members .exit)) ⌝ }
+    ensures { λ r. ⌜ Labelled (wiring s (now (net .entry))) k phi (now (tops .entry)) (now (outs .entry)) (now (delays .entry)) n (now (labels .exit)) r ⌝ }
 {
     let m = s.border / k;
     let low = floor(phi, m);
     begin(labels, s.inputs, s.gates, low);
     let r = sweep_all(
         s,
-        pins,
-        first,
-        sources,
-        counts,
-        heads,
-        nexts,
-        inside,
+        net,
+        slots,
         table,
         list,
+        stack,
+        counts,
         members,
         labels,
         tops,

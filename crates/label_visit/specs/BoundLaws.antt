@@ -24,7 +24,7 @@ use Rattle.label_theory.specs.Modes.{bordered-plain}
 use Rattle.label_theory.specs.Forced.{Falling, separation-cut}
 use Rattle.signed.specs.Range.{labelIn}
 use Rattle.cut_circuit.specs.Circuit.{Circuit}
-use Rattle.cut_least.specs.Bridge.{Holds, gate-of}
+use Rattle.cut_circuit.specs.Bridge.{Holds, gate-of}
 use Rattle.cut_question.specs.Question.{Decides}
 use Rattle.label_visit.specs.LabelVisits.{Suits, pinHeight, PinMax, Quiet, higher, level, Bounds, Refuted}
 

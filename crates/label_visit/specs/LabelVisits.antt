@@ -1,11 +1,11 @@
 -- Definitions: one visit of a gate in the sweep: what it keeps, when nothing can change, and when it refutes.
 use mathlib.Core.Path.{_≡_}
 use mathlib.Core.List.{List, []}
-use Prim.Native.Nat.{ℕ, zero, suc, _+_, _-_, _*_, _≤_, _<_}
+use Prim.Native.Nat.{ℕ, zero, suc, _+_, _-_, _*_, _^_, _≤_, _<_}
 use lib.IntN.{ℤ, pos, _+ℤ_, _-ℤ_}
-use lib.ListN.{length, getD, set}
+use lib.ListN.{length, getD, set, drop}
 use lib.Signed.{_≤ℤ_, _<ℤ_}
-use Rattle.limits.specs.Limits.{mostCopies}
+use Rattle.limits.specs.Limits.{mostK, mostPins}
 use Rattle.integers.specs.Parts.{up}
 use Rattle.net_model.specs.Net.{Net}
 use Rattle.net_model.specs.Arrays.{stride}
@@ -16,10 +16,12 @@ use Rattle.label_theory.specs.Labels.{Labelling, OutputsMet}
 use Rattle.label_theory.specs.Pins.{OutPath}
 use Rattle.label_theory.specs.Bounds.{LowerBound}
 use Rattle.signed.specs.Range.{Small, room, labelIn}
-use Rattle.cut_circuit.specs.Circuit.{Circuit, circuit}
-use Rattle.cut_least.specs.Bridge.{Holds}
+use Rattle.cut_circuit.specs.Circuit.{Circuit}
+use Rattle.cut_circuit.specs.Packed.{packedOf, sourcesAt, countsAt}
+use Rattle.cut_circuit.specs.declared.Extent.{Extent}
+use Rattle.cut_circuit.specs.Bridge.{Holds}
 use Rattle.cut_question.specs.Question.{Parted}
-use Rattle.label_pins.specs.PinHeights.{heightAt}
+use Rattle.label_pins.specs.PinHeights.{heightAt, PinFits}
 
 -- What the sweep may assume of a net: its wiring is the circuit's, it passed the checks, the border leaves room for its cuts, and each gate g has a path to an
 -- output with tops g − 1 registers.
@@ -57,9 +59,17 @@ Bounds C k φ tops ls = (N : Net) → Suits C k tops N → LowerBound N k φ (la
 abbrev pub Refuted : Circuit → ℕ → ℕ → List ℕ → Type 0
 Refuted C k φ tops = (N : Net) → Suits C k tops N → (lab : ℕ → ℤ) → Labelling N k φ lab → ¬ OutputsMet N φ lab
 
--- the wiring alone
-abbrev pub wiring : ℕ → ℕ → ℕ → List ℕ → List ℕ → List ℕ → Circuit
-wiring inputs gates border pins sources counts = circuit inputs gates 0 border pins [] sources counts [] [] []
+-- the circuit without slots: what is told of labels does not speak of forced copies
+abbrev pub wiring : Extent → List ℕ → Circuit
+wiring s net = packedOf s net []
+
+-- The pins of gate g can be read, and their numbers do not overflow.
+pub record PinsFit (s : Extent) (net : List ℕ) (ls : List ℤ) (φ g : ℕ) : Type 0 where
+  pub gate : g < s .gates
+  pub room : countsAt (s .gates) + mostPins * s .gates ≤ length net
+  pub some : 0 < getD net g 0
+  pub few : getD net g 0 ≤ mostPins
+  pub pin : (j : ℕ) → j < getD net g 0 → PinFits (drop (sourcesAt (s .gates)) net) (drop (countsAt (s .gates)) net) ls φ (mostPins * g + j)
 
 -- the label of v raised to p, unless it is p
 pub record Raised (ls ls′ : List ℤ) (v : ℕ) (p : ℤ) (r : ℕ) : Type 0 where
@@ -79,12 +89,13 @@ pub record Fine (C : Circuit) (ls : List ℤ) : Type 0 where
   pub small : (u : ℕ) → Small (labelIn ls u)
 
 -- what the engine needs of labels and sizes
-pub record Ready (I G width : ℕ) (ls : List ℤ) (φ k : ℕ) : Type 0 where
-  pub size : length ls ≡ I + G
+pub record Ready (s : Extent) (ls : List ℤ) (φ k : ℕ) : Type 0 where
+  pub size : length ls ≡ s .inputs + s .gates
   pub small : (u : ℕ) → Small (labelIn ls u)
-  pub shift : φ * width ≤ room
+  pub shift : φ * s .width ≤ room
   pub least : 1 ≤ k
-  pub copies : k * G ≤ mostCopies
+  pub limit : k ≤ mostK
+  pub fits : (s .inputs + s .gates) * s .width * 16 < 2 ^ 32
 
 -- ceilings that do not overflow
 pub record Ceilings (C : Circuit) (φ : ℕ) (tops : List ℕ) : Type 0 where

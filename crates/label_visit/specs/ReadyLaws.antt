@@ -5,32 +5,35 @@ use mathlib.Core.Logic.{_⊎_, inl, inr}
 use Prim.Native.Nat.{ℕ, zero, suc, _+_, _*_, _≤_, _<_}
 use native.Mathlib.Decide.{ℕ-discrete}
 use native.Mathlib.Omega.{arith}
-use native.Mathlib.Nat.{mul-le-mul-left, mul-le-mul-right}
+use native.Mathlib.Nat.{mul-le-mul-left}
+use mir.Syntax.{w64}
+use mir.Val.{toZ, ofZ}
 use lib.IntN.{ℤ, pos, _+ℤ_}
-use lib.ListN.{length, getD, set, length-set}
+use lib.ListN.{length, getD, set, drop, length-set, length-drop}
 use lib.Seq.{getD-set-same, getD-set-other}
 use lib.Signed.{_≤ℤ_, _<ℤ_}
-use Rattle.limits.specs.Limits.{mostCopies, mostPins}
+use Rattle.limits.specs.Limits.{mostPins}
 use Rattle.integers.specs.Parts.{ints, +-parts}
 use Rattle.integers.specs.Order.{≤ℤ-antisym}
 use Rattle.signed.specs.Range.{Small, room, labelIn}
 use Rattle.signed.specs.RangeLaws.{small-between}
-use Rattle.cut_circuit.specs.Circuit.{Circuit, circuit, Layout}
+use Rattle.cut_circuit.specs.Circuit.{Circuit, Layout}
+use Rattle.cut_circuit.specs.Packed.{packedOf, sourcesAt, countsAt}
+use Rattle.cut_circuit.specs.declared.Extent.{Extent}
 use Rattle.cut_question.specs.Question.{Decides, Asks}
 use Rattle.label_pins.specs.PinHeights.{heightAt, PinFits, Best}
-use Rattle.label_visit.specs.LabelVisits.{PinMax, wiring, Raised, Changed, Fine, Ready}
+use Rattle.label_pins.specs.PinHeightLaws.{height-back, small-height}
+use Rattle.label_visit.specs.LabelVisits.{PinMax, wiring, PinsFit, Raised, Changed, Fine, Ready}
 
 -- the answers speak of the wiring alone
-pub decides-wiring : {I G W B : ℕ} {ps first so co heads nexts inside : List ℕ} {ls : List ℤ} {φ k g r : ℕ} {h : ℤ}
-    → Decides (circuit I G W B ps first so co heads nexts inside) ls φ k g h r → Decides (wiring I G B ps so co) ls φ k g h r
+pub decides-wiring : {s : Extent} {net slots : List ℕ} {ls : List ℤ} {φ k g r : ℕ} {h : ℤ} → Decides (packedOf s net slots) ls φ k g h r → Decides (wiring s net) ls φ k g h r
 decides-wiring a = record {
   none = λ N H. a .none N (record { inputs = H .inputs; gates = H .gates; lists = H .lists });
   some = λ N H. a .some N (record { inputs = H .inputs; gates = H .gates; lists = H .lists });
 }
 
-pub asks-of : {I G W B : ℕ} {ps first so co heads nexts inside : List ℕ} {ls : List ℤ} {φ k g : ℕ} → Ready I G W ls φ k → g < G
-    → Asks (circuit I G W B ps first so co heads nexts inside) ls φ k g
-asks-of r h = record { labels = r .size; small = r .small; shift = r .shift; gate = h; least = r .least; copies = r .copies }
+pub asks-of : {s : Extent} {net slots : List ℕ} {ls : List ℤ} {φ k g : ℕ} → Ready s ls φ k → g < s .gates → Asks (packedOf s net slots) ls φ k g
+asks-of r h = record { labels = r .size; small = r .small; shift = r .shift; gate = h; least = r .least; limit = r .limit; fits = r .fits }
 
 pub raise-lower : (ls : List ℤ) (v : ℕ) (p q : ℤ) → q ≡ p → labelIn ls v <ℤ p → Raised ls (set ls v q) v p 1
 raise-lower ls v p q e h = record { bound = omega arith; lower = λ i. (h, ap (set ls v) e); there = λ i. absurd (omega (arith, i)) }
@@ -51,25 +54,49 @@ changed-then a b = record { size = b .size ∙ a .size; at = b .at; other = λ u
 pub pinmax-at : {C : Circuit} {ls : List ℤ} {φ g : ℕ} {p q : ℤ} → p ≡ q → PinMax C ls φ g p → PinMax C ls φ g q
 pinmax-at {C} {ls} {φ} {g} e m = subst (PinMax C ls φ g) e m
 
--- pins can be read, and their numbers do not overflow
-pub pin-fits : {I G W B φ k : ℕ} {ps first so co heads nexts inside : List ℕ} {ls : List ℤ} → Layout (circuit I G W B ps first so co heads nexts inside) → Ready I G W ls φ k
-    → (g : ℕ) → g < G → (j : ℕ) → j < getD ps g 0 → PinFits so co ls φ (mostPins * g + j)
-pin-fits {W = W} {φ = φ} {so = so} {co = co} L y g h j l =
-    let a = L .few g h in
-    let b = L .sources in
-    let d = L .counts in
-    let s = L .source g j h l in
-    let w = L .count g j h l in
-    let e = y .size in
-    let m = mul-le-mul-left φ (let x : getD co (mostPins * g + j) 0 ≤ W = omega arith in x) in
-    let r = y .shift in
-    record { source = omega arith; count = omega arith; node = omega arith; small = y .small (getD so (mostPins * g + j) 0); shift = omega arith }
+-- the pins of a gate can be read, and their numbers do not overflow
+pub pins-fit : {s : Extent} {net slots : List ℕ} {ls : List ℤ} {φ k : ℕ} → Layout (packedOf s net slots) → Ready s ls φ k → (g : ℕ) → g < s .gates → PinsFit s net ls φ g
+pins-fit {s} {net} {ls = ls} {φ = φ} L y g h = record {
+  gate = h;
+  room = omega (arith, L .counts, length-drop (countsAt (s .gates)) net, h);
+  some = omega (arith, L .first g h);
+  few = L .few g h;
+  pin = pin;
+}
+  where
+    so : List ℕ
+    so = drop (sourcesAt (s .gates)) net
 
-pub best-max : {I G B : ℕ} {ps so co : List ℕ} {ls : List ℤ} {φ g r : ℕ} → Best so co ls φ (mostPins * g) (getD ps g 0) r → PinMax (wiring I G B ps so co) ls φ g (heightAt so co ls φ (mostPins * g + r))
-best-max {r = r} b = record { above = b .above; pin = r; isPin = b .bound; attained = refl }
+    co : List ℕ
+    co = drop (countsAt (s .gates)) net
 
-pub ready-few : {I G W φ k : ℕ} {ls : List ℤ} → Ready I G W ls φ k → G ≤ mostCopies
-ready-few {G = G} {k = k} y = let a = y .least in let b = y .copies in let m = mul-le-mul-right G a in omega arith
+    pin : (j : ℕ) → j < getD net g 0 → PinFits so co ls φ (mostPins * g + j)
+    pin j l =
+        let a = L .few g h in
+        let b = L .sources in
+        let d = L .counts in
+        let r = L .source g j h l in
+        let w = L .count g j h l in
+        let e = y .size in
+        let m = mul-le-mul-left φ (let x : getD co (mostPins * g + j) 0 ≤ s .width = omega arith in x) in
+        let q = y .shift in
+        record { source = omega arith; count = omega arith; node = omega arith; small = y .small (getD so (mostPins * g + j) 0); shift = omega arith }
+
+pub best-max : (s : Extent) (net : List ℕ) {ls : List ℤ} {φ g r : ℕ} → Best (drop (sourcesAt (s .gates)) net) (drop (countsAt (s .gates)) net) ls φ (mostPins * g) (getD net g 0) r
+    → PinMax (wiring s net) ls φ g (heightAt (drop (sourcesAt (s .gates)) net) (drop (countsAt (s .gates)) net) ls φ (mostPins * g + r))
+best-max s net {r = r} b = record { above = b .above; pin = r; isPin = b .bound; attained = refl }
+
+-- the pins' largest is small where it is no lower than a small number
+pub max-small : {s : Extent} {net : List ℕ} {ls : List ℤ} {φ g : ℕ} {p : ℤ} (x : ℤ) → PinsFit s net ls φ g → PinMax (wiring s net) ls φ g p → Small x → x ≤ℤ p → Small p
+max-small {s} {net} {ls} {φ} {g} {p} x f m h l =
+    subst Small (m .attained) (small-height (drop (sourcesAt (s .gates)) net) (drop (countsAt (s .gates)) net) ls φ (mostPins * g + m .pin) x (f .pin (m .pin) (m .isPin)) h
+    (subst (λ (z : ℤ). x ≤ℤ z) (sym (m .attained)) l))
+
+-- and 64 bits hold it
+pub max-back : {s : Extent} {net : List ℕ} {ls : List ℤ} {φ g : ℕ} {p : ℤ} → PinsFit s net ls φ g → PinMax (wiring s net) ls φ g p → p ≡ toZ w64 (ofZ w64 p)
+max-back {s} {net} {ls} {φ} {g} f m =
+    subst (λ (z : ℤ). z ≡ toZ w64 (ofZ w64 z)) (m .attained)
+    (sym (height-back (drop (sourcesAt (s .gates)) net) (drop (countsAt (s .gates)) net) ls φ (mostPins * g + m .pin) (f .pin (m .pin) (m .isPin))))
 
 pub two-cases : (n : ℕ) → n < 2 → (n ≡ 0) ⊎ (n ≡ 1)
 two-cases zero l = inl refl
@@ -91,16 +118,16 @@ changed-small {ls} {ls′} {v} {q} f s c u = go (ℕ-discrete u v)
     go (yes e) = subst (λ (x : ℕ). Small (labelIn ls′ x)) (sym e) (subst Small (sym (c .at)) s)
     go (no n) = subst Small (sym (c .other u n)) (f u)
 
-pub raised-ready : {I G W φ k : ℕ} {ls ls′ : List ℤ} (g : ℕ) {rose : ℕ} {p : ℤ} → Ready I G W ls φ k → g < G → Small p → Raised ls ls′ (I + g) p rose → Ready I G W ls′ φ k
-raised-ready g y h s R =
+pub raised-ready : {s : Extent} {φ k : ℕ} {ls ls′ : List ℤ} (g : ℕ) {rose : ℕ} {p : ℤ} → Ready s ls φ k → g < s .gates → Small p → Raised ls ls′ (s .inputs + g) p rose → Ready s ls′ φ k
+raised-ready g y h q R =
     let c = raised-changed (let e = y .size in omega arith) R in
-    record { size = c .size ∙ y .size; small = changed-small (y .small) s c; shift = y .shift; least = y .least; copies = y .copies }
+    record { size = c .size ∙ y .size; small = changed-small (y .small) q c; shift = y .shift; least = y .least; limit = y .limit; fits = y .fits }
 
-pub ready-fine : {I G W B φ k : ℕ} {ps so co : List ℕ} {ls : List ℤ} → Ready I G W ls φ k → Fine (wiring I G B ps so co) ls
+pub ready-fine : {s : Extent} {net : List ℕ} {φ k : ℕ} {ls : List ℤ} → Ready s ls φ k → Fine (wiring s net) ls
 ready-fine y = record { size = y .size; small = y .small }
 
-pub ready-after : {I G W B φ k : ℕ} {ps so co : List ℕ} {ls ls′ : List ℤ} → Ready I G W ls φ k → Fine (wiring I G B ps so co) ls′ → Ready I G W ls′ φ k
-ready-after y f = record { size = f .size; small = f .small; shift = y .shift; least = y .least; copies = y .copies }
+pub ready-after : {s : Extent} {net : List ℕ} {φ k : ℕ} {ls ls′ : List ℤ} → Ready s ls φ k → Fine (wiring s net) ls′ → Ready s ls′ φ k
+ready-after y f = record { size = f .size; small = f .small; shift = y .shift; least = y .least; limit = y .limit; fits = y .fits }
 
 pub small-next : (p : ℤ) (top : ℕ) → Small p → top ≤ room → p <ℤ pos top → Small (p +ℤ pos 1)
 small-next p top s h l = small-between p (pos top) (p +ℤ pos 1) s (record { size = h }) (omega (arith, ints, +-parts p (pos 1))) (omega (arith, ints, +-parts p (pos 1)))

@@ -14,9 +14,9 @@ ghost use lib.IntN.{pos, _+ℤ_};
 ghost use lib.ListN.{length, set};
 ghost use lib.Signed.{_≤ℤ_, _<ℤ_};
 ghost use Rattle.signed.specs.Range.{Small, room, labelIn};
-ghost use Rattle.cut_circuit.specs.Circuit.{circuit};
-ghost use Rattle.cut_question.specs.Question.{AtRest};
-ghost use Rattle.label_visit.specs.LabelVisits.{wiring, PinMax, Raised, Ready, Ceilings, Visited};
+ghost use Rattle.cut_circuit.specs.Packed.{packedOf};
+ghost use Rattle.cut_question.specs.Separating.{AtRest};
+ghost use Rattle.label_visit.specs.LabelVisits.{wiring, PinsFit, PinMax, Raised, Ready, Ceilings, Visited};
 
 // Raises a label to p: 1 if it was lower.
 fn raise(labels: &mut [i64], v: usize, p: i64) -> usize
@@ -52,16 +52,13 @@ fn below(p: i64, top: usize) -> bool
 // Gate g, whose pins' largest is p: its label becomes p, or p + 1 where there is no k-cut of height p, unless it would pass its ceiling.
 fn try_label(
     s: Extent,
-    pins: &[usize],
-    first: &[usize],
-    sources: &[usize],
-    counts: &[usize],
-    heads: &[usize],
-    nexts: &[usize],
-    inside: &mut [u8],
+    net: &[usize],
+    slots: &mut [u32],
     table: &mut [u8],
-    list: &mut [usize],
-    members: &mut [usize],
+    list: &mut [u32],
+    stack: &mut [u32],
+    counts: &mut [u32],
+    members: &mut [u32],
     labels: &mut [i64],
     tops: &[usize],
     phi: usize,
@@ -69,11 +66,11 @@ fn try_label(
     g: usize,
     p: i64,
 ) -> usize
-    requires { ⌜ AtRest (circuit (s .inputs) (s .gates) (s .width) (s .border) (now pins) (now first) (now sources) (now counts) (now heads) (now nexts) (now inside)) (now table) (now list) (now members) ⌝ }
-    requires { ⌜ Ready (s .inputs) (s .gates) (s .width) (now labels) phi k × (g < s .gates) × Ceilings (wiring (s .inputs) (s .gates) (s .border) (now pins) (now sources) (now counts)) phi (now tops) ⌝ }
-    requires { ⌜ PinMax (wiring (s .inputs) (s .gates) (s .border) (now pins) (now sources) (now counts)) (now labels) phi g p × (labelIn (now labels) (s .inputs + g) ≤ℤ p) × Small p ⌝ }
-    ensures { λ _. ⌜ AtRest (circuit (s .inputs) (s .gates) (s .width) (s .border) (now (pins .entry)) (now (first .entry)) (now (sources .entry)) (now (counts .entry)) (now (heads .entry)) (now (nexts .entry)) (now (inside .exit))) (now (table .exit)) (now (list .exit)) (now (members .exit)) ⌝ }
-    ensures { λ r. ⌜ Visited (wiring (s .inputs) (s .gates) (s .border) (now (pins .entry)) (now (sources .entry)) (now (counts .entry))) k phi (now (tops .entry)) (now (labels .entry)) (now (labels .exit)) g r ⌝ }
+    requires { ⌜ AtRest (packedOf s (now net) (now slots)) (now table) (now list) (now stack) (now counts) (now members) ⌝ }
+    requires { ⌜ Ready s (now labels) phi k × (g < s .gates) × Ceilings (wiring s (now net)) phi (now tops) ⌝ }
+    requires { ⌜ PinMax (wiring s (now net)) (now labels) phi g p × (labelIn (now labels) (s .inputs + g) ≤ℤ p) × Small p ⌝ }
+    ensures { λ _. ⌜ AtRest (packedOf s (now (net .entry)) (now (slots .exit))) (now (table .exit)) (now (list .exit)) (now (stack .exit)) (now (counts .exit)) (now (members .exit)) ⌝ }
+    ensures { λ r. ⌜ Visited (wiring s (now (net .entry))) k phi (now (tops .entry)) (now (labels .entry)) (now (labels .exit)) g r ⌝ }
 {
     let v = s.inputs + g;
     let top = phi * tops[g];
@@ -81,15 +78,12 @@ fn try_label(
         let rose = raise(labels, v, p);
         let r = question(
             s,
-            pins,
-            first,
-            sources,
-            counts,
-            heads,
-            nexts,
-            inside,
+            net,
+            slots,
             table,
             list,
+            stack,
+            counts,
             members,
             labels,
             phi,
@@ -110,49 +104,52 @@ fn try_label(
     }
 }
 
+// The largest of gate g's pins.
+fn highest(s: Extent, net: &[usize], labels: &[i64], phi: usize, g: usize) -> i64
+    requires { ⌜ PinsFit s (now net) (now labels) phi g ⌝ }
+    ensures { λ r. ⌜ PinMax (wiring s (now (net .entry))) (now (labels .entry)) phi g r ⌝ }
+{
+    let a = 2 * s.gates;
+    let b = (2 + PINS) * s.gates;
+    let at = PINS * g;
+    let best = best_pin(&net[a..], &net[b..], labels, phi, at, net[g]);
+    pin_height(&net[a..], &net[b..], labels, phi, at + best)
+}
+
 // One visit of gate g: 0 where nothing can change, 1 where its label rose, 2 where it would pass its ceiling.
 pub fn visit(
     s: Extent,
-    pins: &[usize],
-    first: &[usize],
-    sources: &[usize],
-    counts: &[usize],
-    heads: &[usize],
-    nexts: &[usize],
-    inside: &mut [u8],
+    net: &[usize],
+    slots: &mut [u32],
     table: &mut [u8],
-    list: &mut [usize],
-    members: &mut [usize],
+    list: &mut [u32],
+    stack: &mut [u32],
+    counts: &mut [u32],
+    members: &mut [u32],
     labels: &mut [i64],
     tops: &[usize],
     phi: usize,
     k: usize,
     g: usize,
 ) -> usize
-    requires { ⌜ AtRest (circuit (s .inputs) (s .gates) (s .width) (s .border) (now pins) (now first) (now sources) (now counts) (now heads) (now nexts) (now inside)) (now table) (now list) (now members) ⌝ }
-    requires { ⌜ Ready (s .inputs) (s .gates) (s .width) (now labels) phi k × (g < s .gates) × Ceilings (wiring (s .inputs) (s .gates) (s .border) (now pins) (now sources) (now counts)) phi (now tops) ⌝ }
-    ensures { λ _. ⌜ AtRest (circuit (s .inputs) (s .gates) (s .width) (s .border) (now (pins .entry)) (now (first .entry)) (now (sources .entry)) (now (counts .entry)) (now (heads .entry)) (now (nexts .entry)) (now (inside .exit))) (now (table .exit)) (now (list .exit)) (now (members .exit)) ⌝ }
-    ensures { λ r. ⌜ Visited (wiring (s .inputs) (s .gates) (s .border) (now (pins .entry)) (now (sources .entry)) (now (counts .entry))) k phi (now (tops .entry)) (now (labels .entry)) (now (labels .exit)) g r ⌝ }
+    requires { ⌜ AtRest (packedOf s (now net) (now slots)) (now table) (now list) (now stack) (now counts) (now members) ⌝ }
+    requires { ⌜ Ready s (now labels) phi k × (g < s .gates) × Ceilings (wiring s (now net)) phi (now tops) ⌝ }
+    ensures { λ _. ⌜ AtRest (packedOf s (now (net .entry)) (now (slots .exit))) (now (table .exit)) (now (list .exit)) (now (stack .exit)) (now (counts .exit)) (now (members .exit)) ⌝ }
+    ensures { λ r. ⌜ Visited (wiring s (now (net .entry))) k phi (now (tops .entry)) (now (labels .entry)) (now (labels .exit)) g r ⌝ }
 {
     let v = s.inputs + g;
-    let n = pins[g];
-    let at = PINS * g;
-    let best = best_pin(sources, counts, labels, phi, at, n);
-    let p = pin_height(sources, counts, labels, phi, at + best);
+    let p = highest(s, net, labels, phi, g);
     if higher(labels, v, p) {
         return 0;
     }
     try_label(
         s,
-        pins,
-        first,
-        sources,
-        counts,
-        heads,
-        nexts,
-        inside,
+        net,
+        slots,
         table,
         list,
+        stack,
+        counts,
         members,
         labels,
         tops,

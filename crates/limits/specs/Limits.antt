@@ -73,15 +73,26 @@ mostReach = mostK * (mostGates * mostCount)
 abbrev pub mostLag : ℕ
 mostLag = mostGates * mostCount
 
--- the table of the minimum cut: a byte a copy u:d, where d may go beyond the border by the registers of a pin; and the list of the copies touched, behind its length
+-- the table of the minimum cut: a byte a copy u:d, where d may go beyond the border by the registers of a pin
 abbrev pub mostBeyond : ℕ
 mostBeyond = suc mostCount
 
 abbrev pub mostTable : ℕ
 mostTable = mostNodes * (mostReach + mostBeyond)
 
+-- the search of a unit, with at most mostK of them there: the list of the copies touched and the stack, behind their lengths; the forced copies by gate, their
+-- numbers and places for them; the arrays of a net in one slice
 abbrev pub mostList : ℕ
-mostList = suc mostTable
+mostList = 63 * mostGates + 7
+
+abbrev pub mostStack : ℕ
+mostStack = 28 * mostGates + 7
+
+abbrev pub mostHeld : ℕ
+mostHeld = suc mostK * mostGates
+
+abbrev pub mostPacked : ℕ
+mostPacked = (2 + 3 * mostPins) * mostGates + mostNodes
 
 -- "for each bit its d, two bytes": a stored d is below
 abbrev pub depthRoom : ℕ

@@ -3,7 +3,7 @@
 ghost use mathlib.Core.Path.{_≡_};
 ghost use Prim.Native.Nat.{_≤_};
 ghost use Rattle.limits.specs.Courses.{long, short};
-ghost use Rattle.limits.specs.Limits.{mostInputs, mostGates, mostOutputs, leastK, mostK, mostCount, mostPeriod, mostLuts, coverArea, scratchArea, shortGates, shortK, mostPins, mostItems, mostNodes, mostPlaces, mostLeaves, mostCopies, mostReach, mostBeyond, mostTable, mostList, textRoom, refusalRoom, lineRoom, inputRoom};
+ghost use Rattle.limits.specs.Limits.{mostInputs, mostGates, mostOutputs, leastK, mostK, mostCount, mostPeriod, mostLuts, coverArea, scratchArea, shortGates, shortK, mostPins, mostItems, mostNodes, mostPlaces, mostLeaves, mostCopies, mostReach, mostBeyond, mostTable, mostList, mostStack, mostHeld, mostPacked, textRoom, refusalRoom, lineRoom, inputRoom};
 
 pub const INPUTS: usize = 16;
 
@@ -42,13 +42,21 @@ pub const LEAVES: usize = PINS * LUTS;
 
 pub const COPIES: usize = PINS * GATES;
 
+pub const SLOTS: usize = 6;
+
 pub const REACH: usize = PINS * GATES * COUNT;
 
 pub const BEYOND: usize = COUNT + 1;
 
 pub const TABLE: usize = NODES * (REACH + BEYOND);
 
-pub const LIST: usize = TABLE + 1;
+pub const LIST: usize = 63 * GATES + 7;
+
+pub const STACK: usize = 28 * GATES + 7;
+
+pub const HELD: usize = (1 + SLOTS) * GATES;
+
+pub const PACKED: usize = (2 + 3 * PINS) * GATES + NODES;
 
 pub const INPUT: usize = 65536;
 
@@ -88,10 +96,14 @@ pub struct Limits {
     pub places: usize,
     pub leaves: usize,
     pub copies: usize,
+    pub slots: usize,
     pub reach: usize,
     pub beyond: usize,
     pub table: usize,
     pub list: usize,
+    pub stack: usize,
+    pub held: usize,
+    pub packed: usize,
     pub text: usize,
     pub answer: usize,
     pub line: usize,
@@ -118,10 +130,14 @@ pub fn agree() -> Limits
     ensures places { λ r. ⌜ r .places ≡ mostPlaces ⌝ }
     ensures leaves { λ r. ⌜ r .leaves ≡ mostLeaves ⌝ }
     ensures copies { λ r. ⌜ r .copies ≡ mostCopies ⌝ }
+    ensures slots { λ r. ⌜ r .slots ≡ mostK ⌝ }
     ensures reach { λ r. ⌜ r .reach ≡ mostReach ⌝ }
     ensures beyond { λ r. ⌜ r .beyond ≡ mostBeyond ⌝ }
     ensures table { λ r. ⌜ r .table ≡ mostTable ⌝ }
     ensures list { λ r. ⌜ r .list ≡ mostList ⌝ }
+    ensures stack { λ r. ⌜ r .stack ≡ mostStack ⌝ }
+    ensures held { λ r. ⌜ r .held ≡ mostHeld ⌝ }
+    ensures packed { λ r. ⌜ r .packed ≡ mostPacked ⌝ }
     ensures text { λ r. ⌜ r .text ≡ textRoom ⌝ }
     ensures answer { λ r. ⌜ refusalRoom ≤ r .answer ⌝ }
     ensures line { λ r. ⌜ r .line ≡ lineRoom ⌝ }
@@ -146,10 +162,14 @@ pub fn agree() -> Limits
         places: PLACES,
         leaves: LEAVES,
         copies: COPIES,
+        slots: SLOTS,
         reach: REACH,
         beyond: BEYOND,
         table: TABLE,
         list: LIST,
+        stack: STACK,
+        held: HELD,
+        packed: PACKED,
         text: TEXT,
         answer: ANSWER,
         line: LINE,

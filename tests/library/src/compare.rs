@@ -3,7 +3,6 @@
 
 use crate::nets::{hand_made, net_a, net_b, net_c, of_family, FAMILIES};
 use crate::programs::printed;
-use kamfelu::STACK;
 use second::damage::{candidate, damaged, damaged_net};
 use second::encode::{encode, encode_with_holes};
 use second::generate::{random_net, wild_net, Shape};
@@ -123,7 +122,10 @@ impl Tally {
     }
 }
 
-/// Two threads with a stack of 8 MiB each; the work gets its number and how many there
+/// Enough for the second mapper.
+const STACK: usize = 8 << 20;
+
+/// Two threads; the work gets its number and how many there
 /// are. What they give, in order.
 pub fn each_thread<T: Send>(work: impl Fn(u64, u64) -> T + Sync) -> Vec<T> {
     std::thread::scope(|scope| {

@@ -1,17 +1,16 @@
-//! The stack of the compiled library, by counting: each function's frame is read off its code, and a
-//! function that calls itself is counted once for each round that document 01's limits allow.
-//! All of it together fits a stack of 8 MiB.
+//! The stack of the compiled library, by counting: each function's frame is read off its code, and no
+//! function can call itself. All of them together fit 256 KiB, and calls run in a thread with no more.
 
 use kamfelu::STACK;
+use library::nets::{of_family, FAMILIES};
+use second::encode::encode;
+use second::Random;
 use std::collections::BTreeMap;
 use std::path::Path;
 use std::process::Command;
 
-/// Gate copies within the border, 32 · (576 + 1): each round of the search marks one more of them,
-/// and the last call marks none.
-const ROUNDS: usize = 32 * 577 + 1;
 /// For the functions of the C library that clear and copy, and the caller.
-const ROOM: usize = 64 << 10;
+const ROOM: usize = 16 << 10;
 
 #[derive(Default)]
 struct Function {
@@ -93,7 +92,7 @@ fn leads(all: &BTreeMap<String, Function>, from: &str, to: &str) -> bool {
 }
 
 #[test]
-fn the_stack_fits_8_mib() {
+fn the_stack_fits_256_kib() {
     let archive = Path::new(env!("CARGO_MANIFEST_DIR")).join("../../target/staticlib/libkamfelu.a");
     let printed = Command::new("objdump")
         .args(["-d", "-r", "--no-show-raw-insn"])
@@ -119,22 +118,42 @@ fn the_stack_fits_8_mib() {
     assert!(all.contains_key("kamfelu_map") && all.contains_key("kamfelu_mark"));
 
     let mut total = ROOM;
-    let mut rounds = 0;
     for (name, function) in &all {
-        assert!(
-            !leads(&all, name, name),
-            "{name} is in a longer cycle of calls"
-        );
-        if function.calls.contains(name) {
-            println!("{name} calls itself: {} bytes a round", function.frame);
-            assert!(leads(&all, "kamfelu_map", name) && leads(&all, "kamfelu_mark", name));
-            rounds += 1;
-            total += ROUNDS * function.frame;
-        } else {
-            total += function.frame;
-        }
+        let alone = !function.calls.contains(name);
+        assert!(alone && !leads(&all, name, name), "{name} can call itself");
+        total += function.frame;
     }
     println!("at most {total} bytes of stack");
-    assert_eq!(rounds, 1, "the search alone calls itself");
     assert!(total <= STACK, "{total} bytes");
+}
+
+/// Map and mark on nets of all families, at all k, in a thread with so little stack.
+#[test]
+fn calls_in_a_small_thread() {
+    let mut random = Random::new(4100);
+    let mut nets = Vec::new();
+    for family in 0..FAMILIES.len() {
+        for gates in [8, 20, 32] {
+            nets.push(encode(&of_family(family, &mut random, gates, 6)));
+        }
+    }
+    let small = std::thread::Builder::new().stack_size(STACK);
+    let work = move || {
+        let mut scratch = vec![0u8; kamfelu::SCRATCH];
+        let mut cover = vec![0u8; kamfelu::COVER_AREA];
+        let mut accepted = 0;
+        for net in &nets {
+            for k in 2..=6 {
+                let Ok(length) = kamfelu::map(net, k, 0, &mut cover, &mut scratch) else {
+                    continue;
+                };
+                let excess = kamfelu::mark(net, k, &cover[..length], &mut scratch);
+                assert_eq!(excess, Ok(0));
+                accepted += 1;
+            }
+        }
+        accepted
+    };
+    let accepted = small.spawn(work).expect("a thread").join();
+    assert!(accepted.expect("the thread ends") > 0);
 }

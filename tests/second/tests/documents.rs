@@ -326,9 +326,7 @@ fn refusals_of_the_header() {
 /// What a caller must know of the stack is one sentence.
 #[test]
 fn stack_of_a_caller() {
-    let sentence =
-        "The calling thread must have a stack of 8 MiB: on Linux the main thread has one \
-        by default, other threads must ask for it.";
+    let sentence = "A call takes less than 256 KiB of the calling thread's stack.";
     for name in [
         "include/kamfelu.h",
         "rust/src/lib.rs",

@@ -2,7 +2,7 @@
 use borrow.Author.Needs.{needs}
 use denote.Ref.{now}
 use mathlib.Core.Path.{refl}
-use Prim.Native.Nat.{_+_, _*_, _≤_, _<_, _^_}
+use Prim.Native.Nat.{_*_, _≤_, _<_, _^_}
 use native.Mathlib.Omega.{arith}
 use lib.ListN.{length, getD}
 use Rattle.net_model.specs.Arrays.{copyAt}
@@ -125,7 +125,8 @@ returns-2 c =
 push-requires : tie.Need-push-requires
 push-requires c κs =
     let meet = c .before .before .before .before .before .before .before .before .meet in
-    let start = c .before .before .before .before .before .before .before .before .before .before .before .before .before .before .before .before .before .before .before .before .before .before .before .before .before in
+    let start = c .before .before .before .before .before .before .before .before .before .before .before .before .before .before .before .before .before .before .before .before .before .before
+    .before .before .before in
     let a = start .args in
     let p = start .pre .1 in
     let L = copiesIn (now (a .leaf-nodes)) (now (a .leaf-backs)) (a .n) in
@@ -137,20 +138,23 @@ push-requires c κs =
 
 mul-turns-2 : tie.Need-mul-turns-2
 mul-turns-2 c =
-    let start = c .before .before .before .before .before .before .before .before .before .before .before .before .before .before .before .before .before .before .before .before .before .before .before .before .before .before .before .before .before .before .before .before .before .before in
+    let start = c .before .before .before .before .before .before .before .before .before .before .before .before .before .before .before .before .before .before .before .before .before .before
+    .before .before .before .before .before .before .before .before .before .before .before .before in
     let p = start .pre .1 in
     let q : length (now (start .args .turns)) * 8 < 2 ^ 63 = start .good .1 .1 .1 .1 .1 .1 .1 .1 .1 .1 .1 .1 .1 .0 .1 in
     omega (arith, p .fits, p .turns)
 
 slice-write-turns-2 : tie.Need-slice-write-turns-2
 slice-write-turns-2 c =
-    let p = c .before .before .before .before .before .before .before .before .before .before .before .before .before .before .before .before .before .before .before .before .before .before .before .before .before .before .before .before .before .before .before .before .before .before .pre .1 in
+    let p = c .before .before .before .before .before .before .before .before .before .before .before .before .before .before .before .before .before .before .before .before .before .before
+    .before .before .before .before .before .before .before .before .before .before .before .before .pre .1 in
     omega (arith, p .fits, p .turns, c .before .before .before .before .before .before .before .before .push .kept .1 .1 .0)
 
 add-result : tie.Need-add-result
 add-result c =
     let meet = c .before .before .before .before .before .before .before .before .before .before .before .before .before .before .before .before .before .meet in
-    let start = c .before .before .before .before .before .before .before .before .before .before .before .before .before .before .before .before .before .before .before .before .before .before .before .before .before .before .before .before .before .before .before .before .before .before in
+    let start = c .before .before .before .before .before .before .before .before .before .before .before .before .before .before .before .before .before .before .before .before .before .before
+    .before .before .before .before .before .before .before .before .before .before .before .before in
     let a = start .args in
     let p = start .pre .1 in
     let L = copiesIn (now (a .leaf-nodes)) (now (a .leaf-backs)) (a .n) in
@@ -180,7 +184,8 @@ same-length-10 c = search needs
 returns-3 : tie.Need-returns-3
 returns-3 c =
     let meet = c .before .before .before .before .before .before .before .before .before .before .before .before .before .before .before .before .before .meet in
-    let start = c .before .before .before .before .before .before .before .before .before .before .before .before .before .before .before .before .before .before .before .before .before .before .before .before .before .before .before .before .before .before .before .before .before .before in
+    let start = c .before .before .before .before .before .before .before .before .before .before .before .before .before .before .before .before .before .before .before .before .before .before
+    .before .before .before .before .before .before .before .before .before .before .before .before in
     let a = start .args in
     let p = start .pre .1 in
     let L = copiesIn (now (a .leaf-nodes)) (now (a .leaf-backs)) (a .n) in

@@ -2,10 +2,9 @@
 use borrow.Author.Needs.{needs}
 use denote.Ref.{now}
 use mathlib.Core.Path.{_≡_, refl, _∙_}
-use Prim.Native.Nat.{ℕ, _-_, _≤_, _<_}
-use native.Mathlib.Nat.{not-suc-le-zero}
+use Prim.Native.Nat.{_-_, _≤_}
 use native.Mathlib.Omega.{arith}
-use lib.ListN.{length, getD, length-set}
+use lib.ListN.{length, length-set}
 use Rattle.net_model.specs.Arrays.{copyAt}
 use Rattle.cone_descent.specs.Descent.{place, Wiped}
 use Rattle.cone_descent.specs.DescentStepLaws.{wiped-none, wiped-more, wiped-all}

@@ -5,7 +5,7 @@ use mathlib.Core.Path.{refl}
 use native.Mathlib.Omega.{arith}
 use lib.ListN.{getD}
 use Rattle.net_model.specs.Copies.{copy}
-use Rattle.cone_leaves.specs.ArrayLookup.{readable-all, array-first}
+use Rattle.cone_leaves.specs.ArrayLookup.{array-first}
 use Rattle.cone_descent.specs.DescentSteps.{Meet}
 use Rattle.cone_descent.specs.DescentStepLaws.{meet-leaf, meet-input, meet-beyond, meet-full, meet-fresh}
 use Rattle.cone_descent.proofs.meet.Statement.{statement}

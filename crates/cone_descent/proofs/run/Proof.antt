@@ -1,22 +1,24 @@
 -- `cone_descent::run` meets its contract. The loop's invariant: the walk is on its way.
 use borrow.Author.Needs.{needs}
 use denote.Ref.{now}
-use mathlib.Core.Path.{_≡_, refl, sym, _∙_}
-use Prim.Native.Nat.{ℕ, _+_, _-_, _*_, _≤_, _<_, _^_}
+use mathlib.Core.Path.{_≡_, refl, _∙_}
+use Prim.Native.Nat.{_+_, _-_, _*_, _<_, _^_}
 use native.Mathlib.Omega.{arith}
-use lib.ListN.{length, getD}
+use lib.ListN.{length}
 use Rattle.cone_descent.specs.DescentSteps.{work, Turn}
 use Rattle.cone_descent.specs.DescentStepLaws.{top-low, top-gate, top-below, top-table, top-pin, run-moved, run-denied, run-left, run-done, work-left}
 use Rattle.cone_descent.proofs.run.Statement.{statement}
 use Rattle.cone_descent.proofs.run.Tie as tie
 
 abbrev Inv-loop : tie.InvT-loop
-Inv-loop inputs gates pins sources counts leaf-nodes leaf-backs n seen₀ border width root room nodes₀ backs₀ stack-nodes₀ stack-backs₀ turns₀ marks₀ len₀ depth₀ seen nodes backs stack-nodes stack-backs turns marks len depth =
+Inv-loop inputs gates pins sources counts leaf-nodes leaf-backs n seen₀ border width root room nodes₀ backs₀ stack-nodes₀ stack-backs₀ turns₀ marks₀ len₀ depth₀ seen nodes backs stack-nodes
+    stack-backs turns marks len depth =
     Turn inputs gates width border room pins sources counts leaf-nodes leaf-backs n root nodes backs len stack-nodes stack-backs turns depth seen marks × (length seen ≡ length seen₀) ×
     (length marks ≡ length marks₀)
 
 abbrev μ-loop : tie.MeasureT-loop
-μ-loop inputs gates pins sources counts leaf-nodes leaf-backs n seen₀ border width root room nodes₀ backs₀ stack-nodes₀ stack-backs₀ turns₀ marks₀ len₀ depth₀ seen nodes backs stack-nodes stack-backs turns marks len depth =
+μ-loop inputs gates pins sources counts leaf-nodes leaf-backs n seen₀ border width root room nodes₀ backs₀ stack-nodes₀ stack-backs₀ turns₀ marks₀ len₀ depth₀ seen nodes backs stack-nodes
+    stack-backs turns marks len depth =
     work room (len + depth) turns depth
 
 loop-holds : tie.Need-loop-holds Inv-loop μ-loop
@@ -102,7 +104,8 @@ same-length-7 c = search needs
 
 returns : tie.Need-returns Inv-loop μ-loop
 returns c =
-    let t = c .before .before .before .before .before .before .before .before .before .before .before .before .before .before .before .before .before .before .before .before .before .before .loop .inv .0 in
+    let t = c .before .before .before .before .before .before .before .before .before .before .before .before .before .before .before .before .before .before .before .before .before .before .loop
+    .inv .0 in
     let k = c .before .before .before .before .before .before .before .before .before .before .before .advance .kept in
     run-denied t (omega arith) (c .before .before .before .before .before .before .before .before .before .before .before .advance .result) _ _ _ _ _
     (c .before .before .before .before .before .before .before .before .before .before .before .before .before .before .before .before .before .if1 .taken)
@@ -111,7 +114,8 @@ returns c =
 
 loop-less : tie.Need-loop-less Inv-loop μ-loop
 loop-less c =
-    let t = c .before .before .before .before .before .before .before .before .before .before .before .before .before .before .before .before .before .before .before .before .before .before .loop .inv .0 in
+    let t = c .before .before .before .before .before .before .before .before .before .before .before .before .before .before .before .before .before .before .before .before .before .before .loop
+    .inv .0 in
     let k = c .before .before .before .before .before .before .before .before .before .before .before .advance .kept in
     let step = run-moved t (omega arith) (c .before .before .before .before .before .before .before .before .before .before .before .advance .result) _ _ _ _ _
     (c .before .before .before .before .before .before .before .before .before .before .before .before .before .before .before .before .before .if1 .taken)
@@ -121,13 +125,19 @@ loop-less c =
 
 loop-again : tie.Need-loop-again Inv-loop μ-loop
 loop-again c =
-    let t = c .before .before .before .before .before .before .before .before .before .before .before .before .before .before .before .before .before .before .before .before .before .before .loop .inv .0 in
+    let t = c .before .before .before .before .before .before .before .before .before .before .before .before .before .before .before .before .before .before .before .before .before .before .loop
+    .inv .0 in
     let k = c .before .before .before .before .before .before .before .before .before .before .before .advance .kept in
     let step = run-moved t (omega arith) (c .before .before .before .before .before .before .before .before .before .before .before .advance .result) _ _ _ _ _
     (c .before .before .before .before .before .before .before .before .before .before .before .before .before .before .before .before .before .if1 .taken)
     (c .before .before .before .before .before .before .before .before .before .before .before .advance .ensures) (k .1 .1 .1 .1 .1 .1 .1 .1 .1 .1 .1 .0)
-    (k .1 .1 .1 .1 .1 .1 .1 .1 .1 .1 .1 .1 .0) (k .1 .1 .1 .1 .1 .1 .1 .1 .1 .1 .1 .1 .1 .0) (k .1 .1 .1 .1 .1 .1 .1 .1 .1 .1 .1 .1 .1 .1 .1 .0) (k .1 .1 .1 .1 .1 .1 .0) (c .if2 .left) in
-    (step .0, k .1 .1 .1 .1 .1 .1 .0 ∙ c .before .before .before .before .before .before .before .before .before .before .before .before .before .before .before .before .before .before .before .before .before .before .loop .inv .1, k .1 .1 .1 .1 .1 .1 .1 .1 .1 .1 .1 .1 .1 .1 .1 .0 ∙ c .before .before .before .before .before .before .before .before .before .before .before .before .before .before .before .before .before .before .before .before .before .before .loop .inv .2)
+    (k .1 .1 .1 .1 .1 .1 .1 .1 .1 .1 .1 .1 .0) (k .1 .1 .1 .1 .1 .1 .1 .1 .1 .1 .1 .1 .1 .0) (k .1 .1 .1 .1 .1 .1 .1 .1 .1 .1 .1 .1 .1 .1 .1 .0) (k .1 .1 .1 .1 .1 .1 .0) (c .if2 .left) in (
+      step .0,
+      k .1 .1 .1 .1 .1 .1 .0 ∙ c .before .before .before .before .before .before .before .before .before .before .before .before .before .before .before .before .before .before .before
+          .before .before .before .loop .inv .1,
+      k .1 .1 .1 .1 .1 .1 .1 .1 .1 .1 .1 .1 .1 .1 .1 .0 ∙ c .before .before .before .before .before .before .before .before .before .before .before .before
+          .before .before .before .before .before .before .before .before .before .before .loop .inv .2,
+    )
 
 mul-back : tie.Need-mul-back Inv-loop μ-loop
 mul-back c =
@@ -148,13 +158,25 @@ mul-leave : tie.Need-mul-leave Inv-loop μ-loop
 mul-leave c =
     let loop = c .before .before .before .before .before .before .before .before .before .loop in
     let t = loop .inv .0 in
-    omega (arith, top-table t (omega arith), loop .inv .2, c .before .before .before .before .before .before .before .before .before .before .before .before .before .before .before .before .before .before .before .before .before .before .good .1 .1 .1 .1 .1 .1 .1 .1 .1 .1 .1 .1 .1 .1 .1 .1 .1 .1 .0 .1)
+    omega (
+      arith,
+      top-table t (omega arith),
+      loop .inv .2,
+      c .before .before .before .before .before .before .before .before .before .before .before .before .before .before .before .before
+          .before .before .before .before .before .before .good .1 .1 .1 .1 .1 .1 .1 .1 .1 .1 .1 .1 .1 .1 .1 .1 .1 .1 .0 .1,
+    )
 
 add-leave : tie.Need-add-leave Inv-loop μ-loop
 add-leave c =
     let loop = c .before .before .before .before .before .before .before .before .before .loop in
     let t = loop .inv .0 in
-    omega (arith, top-table t (omega arith), loop .inv .2, c .before .before .before .before .before .before .before .before .before .before .before .before .before .before .before .before .before .before .before .before .before .before .good .1 .1 .1 .1 .1 .1 .1 .1 .1 .1 .1 .1 .1 .1 .1 .1 .1 .1 .0 .1)
+    omega (
+      arith,
+      top-table t (omega arith),
+      loop .inv .2,
+      c .before .before .before .before .before .before .before .before .before .before .before .before .before .before .before .before
+          .before .before .before .before .before .before .good .1 .1 .1 .1 .1 .1 .1 .1 .1 .1 .1 .1 .1 .1 .1 .1 .1 .1 .0 .1,
+    )
 
 leave-requires : tie.Need-leave-requires Inv-loop μ-loop
 leave-requires c κs =
@@ -166,7 +188,12 @@ add-len : tie.Need-add-len Inv-loop μ-loop
 add-len c =
     let t = c .before .before .before .before .before .before .before .before .before .before .before .before .before .before .before .before .loop .inv .0 in
     let b = top-below t (omega arith) in
-    omega (arith, t .fits, c .before .before .before .before .before .before .before .before .before .before .before .before .before .before .before .before .before .before .before .before .before .before .before .before .before .before .before .before .before .fits .room)
+    omega (
+      arith,
+      t .fits,
+      c .before .before .before .before .before .before .before .before .before .before .before .before .before .before .before .before .before .before .before .before
+          .before .before .before .before .before .before .before .before .before .fits .room,
+    )
 
 loop-less-2 : tie.Need-loop-less-2 Inv-loop μ-loop
 loop-less-2 c =

@@ -1,13 +1,12 @@
 -- `cone_descent::seat` meets its contract. The loop's invariant: p has the mark, and the copy stands at no place before p that has it.
 use borrow.Author.Needs.{needs}
 use denote.Ref.{now}
-use mathlib.Core.Path.{_≡_, refl}
-use Prim.Native.Nat.{_-_, _*_, _<_, _^_}
+use mathlib.Core.Path.{_≡_}
+use Prim.Native.Nat.{_-_, _<_}
 use native.Mathlib.Omega.{arith}
-use lib.ListN.{length}
 use Rattle.net_model.specs.Copies.{copy}
-use Rattle.cone_descent.specs.Descent.{seatMark}
-use Rattle.cone_descent.specs.Seats.{Missed, missed-first, missed-more, seat-none, seat-here, seat-end}
+use Rattle.cone_descent.specs.Descent.{seatMark, Missed}
+use Rattle.cone_descent.specs.Seats.{missed-first, missed-more, seat-none, seat-here, seat-end}
 use Rattle.cone_descent.proofs.seat.Statement.{statement}
 use Rattle.cone_descent.proofs.seat.Tie as tie
 

@@ -2,67 +2,74 @@
 use borrow.Author.Needs.{needs}
 use denote.Ref.{now}
 use mathlib.Core.Path.{_≡_, refl, _∙_}
-use Prim.Native.Nat.{ℕ, _-_, _≤_}
+use Prim.Native.Nat.{_-_, _≤_}
 use native.Mathlib.Omega.{arith}
 use lib.ListN.{length, length-set}
+use Rattle.cone_descent.specs.Descent.{Clear}
 use Rattle.cone_luts.specs.Luts.{Tabulated}
 use Rattle.cone_luts.specs.LutLaws.{tabulated-none, tabulated-next, tabulated-all}
 use Rattle.cone_luts.proofs.tabulate.Statement.{statement}
 use Rattle.cone_luts.proofs.tabulate.Tie as tie
-use Rattle.cone_luts.proofs.tabulate.Reads as reads
-use Rattle.cone_luts.proofs.tabulate.Lts as lts
-use Rattle.cone_luts.proofs.gate_table.Reads as gate-table-reads
 
 abbrev Inv-loop : tie.InvT-loop
-Inv-loop inputs gates pins sources counts tables marks sizes nodes backs luts₀ g₀ luts g =
-    (g ≤ gates) × (length luts ≡ length luts₀) × Tabulated inputs gates pins sources counts tables marks sizes nodes backs luts g
+Inv-loop inputs gates pins sources counts tables marks sizes nodes backs luts₀ work₀ g₀ luts work g =
+    (g ≤ gates) × (length luts ≡ length luts₀) × Tabulated inputs gates pins sources counts tables marks sizes nodes backs luts g × (length work ≡ length work₀) × Clear work
 
 abbrev μ-loop : tie.MeasureT-loop
-μ-loop inputs gates pins sources counts tables marks sizes nodes backs luts₀ g₀ luts g = gates - g
+μ-loop inputs gates pins sources counts tables marks sizes nodes backs luts₀ work₀ g₀ luts work g = gates - g
 
--- src/lib.rt:111:5
 loop-holds : tie.Need-loop-holds Inv-loop μ-loop
-loop-holds c = (omega arith, refl, tabulated-none (now (c .before .before .before .before .before .before .before .before .before .args .luts)))
+loop-holds c = (
+  omega arith,
+  refl,
+  tabulated-none (now (c .before .before .before .before .before .before .before .before .before .before .args .luts)),
+  refl,
+  c .before .before .before .before
+      .before .before .before .before .before .before .pre .1 .1,
+)
 
--- src/lib.rt:112:19
 gate-table-requires : tie.Need-gate-table-requires Inv-loop μ-loop
-gate-table-requires c κs = (c .before .before .before .before .before .before .before .before .before .before .before .pre .0, c .loop-test .taken)
+gate-table-requires c κs =
+    let p = c .before .before .before .before .before .before .before .before .before .before .before .before .before .pre in
+    let e = c .before .before .loop .inv .3 in
+    ((p .0 .0, c .before .loop-test .taken), (omega (arith, e, p .1 .0), c .before .before .loop .inv .4))
 
--- src/lib.rt:112:9
 mul-luts : tie.Need-mul-luts Inv-loop μ-loop
-mul-luts c = let a = c .before .before .before .before .before .before .before .before .before .before .before .before .pre .1 in let e = c .before .before .loop .inv .1 in search needs
+mul-luts c = let a = c .before .before .before .before .before .before .before .before .before .before .before .before .before .before .before .before .pre .0 .1 in let e = c .before .before
+    .before .before .before .loop .inv .1 in search needs
 
--- src/lib.rt:112:9
 slice-write-luts : tie.Need-slice-write-luts Inv-loop μ-loop
-slice-write-luts c = let a = c .before .before .before .before .before .before .before .before .before .before .before .before .pre .1 in let e = c .before .before .loop .inv .1 in search needs
+slice-write-luts c = let a = c .before .before .before .before .before .before .before .before .before .before .before .before .before .before .before .before .pre .0 .1 in let e = c .before
+    .before .before .before .before .loop .inv .1 in search needs
 
--- src/lib.rt:125:9
 add-g : tie.Need-add-g Inv-loop μ-loop
-add-g c = let h = c .before .loop-test .taken in search needs
+add-g c = let h = c .before .before .before .before .loop-test .taken in search needs
 
--- src/lib.rt:111:5
 loop-less : tie.Need-loop-less Inv-loop μ-loop
-loop-less c = let h = c .before .loop-test .taken in omega arith
+loop-less c = let h = c .before .before .before .before .loop-test .taken in omega arith
 
--- src/lib.rt:111:5
 loop-again : tie.Need-loop-again Inv-loop μ-loop
 loop-again c =
-    let h = c .before .loop-test .taken in (
+    let h = c .before .before .before .before .loop-test .taken in (
       omega arith,
-      length-set (c .before .before .loop .luts) (c .before .before .loop .g) (c .gate-table .result) ∙
-          c .before .before .loop .inv .1,
-      tabulated-next _ (c .before .before .loop .g) _
-          (let a = c .before .before .before .before .before .before .before .before .before .before .before .before .pre .1 in let e = c .before .before .loop .inv .1 in omega arith)
-          (c .before .before .loop .inv .2) (c .gate-table .ensures),
+      length-set (c .before .before .before .before .before .loop .luts) (c .before .before .before .before .before .loop .g) (c .before .before .gate-table .result) ∙
+          c .before .before .before .before .before .loop .inv .1,
+      tabulated-next _ (c .before .before .before .before .before .loop .g) _
+          (let a = c .before .before .before .before .before .before .before .before .before .before .before .before .before .before .before .before .pre .0 .1 in let e = c .before .before
+          .before .before .before .loop .inv .1 in omega arith)
+          (c .before .before .before .before .before .loop .inv .2) (c .before .before .gate-table .ensures .0),
+      c .before .before .gate-table .kept .1 .1 .1 .1 .1 .1 .1 .1 .1 .1 .1 .0 ∙ c .before .before .before .before .before .loop .inv .3,
+      c .before .before .gate-table .ensures .1,
     )
 
--- src/lib.rt:94:1
 same-length : tie.Need-same-length Inv-loop μ-loop
 same-length c = c .before .loop .inv .1
 
--- src/lib.rt:94:1
+same-length-2 : tie.Need-same-length-2 Inv-loop μ-loop
+same-length-2 c = c .before .loop .inv .3
+
 returns : tie.Need-returns Inv-loop μ-loop
-returns c = tabulated-all (c .before .loop .inv .0) (omega (arith, c .loop-test .left)) (c .before .loop .inv .2)
+returns c = (tabulated-all (c .before .loop .inv .0) (omega (arith, c .loop-test .left)) (c .before .loop .inv .2), c .before .loop .inv .4)
 
 pub tabulate-spec : {M : Type 1} → statement M
 tabulate-spec =
@@ -78,4 +85,5 @@ tabulate-spec =
     loop-less
     loop-again
     same-length
+    same-length-2
     returns)

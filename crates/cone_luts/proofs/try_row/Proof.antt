@@ -8,79 +8,69 @@ use Rattle.cone_luts.specs.LutLaws.{tried-row, rising-row}
 use borrow.Author.Needs.{needs}
 use Rattle.cone_luts.proofs.try_row.Statement.{statement}
 use Rattle.cone_luts.proofs.try_row.Tie as tie
-use Rattle.cone_luts.proofs.try_row.Reads as reads
-use Rattle.cone_luts.proofs.try_row.Lts as lts
-use Rattle.cone_luts.proofs.try_lut.Reads as try-lut-reads
 
--- src/lib.rt:90:14
 mul-at : tie.Need-mul-at
 mul-at c = search needs
 
--- src/lib.rt:91:13
 mul-n : tie.Need-mul-n
 mul-n c = search needs
 
--- src/lib.rt:91:13
 shared-slice-read-n : tie.Need-shared-slice-read-n
 shared-slice-read-n c = search needs
 
--- src/lib.rt:99:9
 mul-try-lut : tie.Need-mul-try-lut
 mul-try-lut c = search needs
 
--- src/lib.rt:99:9
 sub-try-lut : tie.Need-sub-try-lut
 sub-try-lut c = search needs
 
--- src/lib.rt:99:9
 part-try-lut-start : tie.Need-part-try-lut-start
 part-try-lut-start c = search needs
 
--- src/lib.rt:99:9
 part-try-lut-end : tie.Need-part-try-lut-end
 part-try-lut-end c = search needs
 
--- src/lib.rt:100:9
 mul-try-lut-2 : tie.Need-mul-try-lut-2
 mul-try-lut-2 c = search needs
 
--- src/lib.rt:100:9
 sub-try-lut-2 : tie.Need-sub-try-lut-2
 sub-try-lut-2 c = search needs
 
--- src/lib.rt:100:9
 part-try-lut-start-2 : tie.Need-part-try-lut-start-2
 part-try-lut-start-2 c = search needs
 
--- src/lib.rt:100:9
 part-try-lut-end-2 : tie.Need-part-try-lut-end-2
 part-try-lut-end-2 c = search needs
 
--- src/lib.rt:92:5
 try-lut-requires : tie.Need-try-lut-requires
 try-lut-requires c κs =
-    let start = c .before .before .before .before .before .before .before .before .before .before in
-    let p = start .pre in
+    let start = c .before .before .before .before .before .before .before .before .before .before .before .before in
+    let p = start .pre .0 in
     let a = start .args in
     let r = p .2 in
     let n = r .atNodes in
     let b = r .atBacks in
     let f = r .few in (
-      p .0,
-      p .1,
-      f,
-      length-behind (a .nodes .now) (stride * a .i) (getD (a .sizes .now) (a .i) 0) (omega arith),
-      length-behind (a .backs .now) (stride * a .i)
-          (getD (a .sizes .now) (a .i) 0) (omega arith),
-      p .3,
-      rising-row (a .sizes .now) (a .nodes .now) (a .backs .now) (a .i) r,
+      (
+        p .0,
+        p .1,
+        f,
+        length-behind (a .nodes .now) (stride * a .i) (getD (a .sizes .now) (a .i) 0) (omega arith),
+        length-behind (a .backs .now) (stride * a .i)
+            (getD (a .sizes .now) (a .i) 0) (omega arith),
+        p .3,
+        rising-row (a .sizes .now) (a .nodes .now) (a .backs .now) (a .i) r,
+      ),
+      start .pre .1,
     )
 
--- src/lib.rt:74:1
+same-length : tie.Need-same-length
+same-length c = search needs
+
 returns : tie.Need-returns
 returns c =
-    let a = c .before .before .before .before .before .before .before .before .before .before .before .args in tried-row (a .sizes .now) (a .nodes .now) (a .backs .now) (a .i)
-    (c .try-lut .ensures)
+    let a = c .before .before .before .before .before .before .before .before .before .before .before .before .before .before .before .args in
+    (tried-row (a .sizes .now) (a .nodes .now) (a .backs .now) (a .i) (c .before .before .try-lut .ensures .0), c .before .before .try-lut .ensures .1)
 
 pub try-row-spec : {M : Type 1} → statement M
 try-row-spec =
@@ -98,4 +88,5 @@ try-row-spec =
     part-try-lut-start-2
     part-try-lut-end-2
     try-lut-requires
+    same-length
     returns)

@@ -15,13 +15,13 @@ shared-slice-read-g c = search needs
 
 sub-g : tie.Need-sub-g
 sub-g c =
-    let start = c .before .before .before .before .before .before .before .before .before .before in
+    let start = c .before .before .before .before .before .before .before .before .before .before .before in
     let m = member (now (start .args .cone-nodes)) (now (start .args .cone-backs)) (start .args .len) (start .args .p) (start .pre .0 .bounded) (start .pre .2) in
     m .low
 
 mul-m : tie.Need-mul-m
 mul-m c =
-    let start = c .before .before .before .before .before .before .before .before .before .before in
+    let start = c .before .before .before .before .before .before .before .before .before .before .before in
     let w = start .pre .0 .wires in
     let r = start .pre .0 .room in
     let m = member (now (start .args .cone-nodes)) (now (start .args .cone-backs)) (start .args .len) (start .args .p) (start .pre .0 .bounded) (start .pre .2) in
@@ -31,7 +31,7 @@ mul-m c =
 
 shared-slice-read-m : tie.Need-shared-slice-read-m
 shared-slice-read-m c =
-    let start = c .before .before .before .before .before .before .before .before .before .before .before in
+    let start = c .before .before .before .before .before .before .before .before .before .before .before .before in
     let w = start .pre .0 .wires in
     let r = start .pre .0 .room in
     let m = member (now (start .args .cone-nodes)) (now (start .args .cone-backs)) (start .args .len) (start .args .p) (start .pre .0 .bounded) (start .pre .2) in
@@ -48,7 +48,7 @@ shared-slice-read-gather c = search needs
 
 gather-requires : tie.Need-gather-requires
 gather-requires c κs =
-    let start = c .before .before .before .before .before .before .before .before .before .before .before .before in
+    let start = c .before .before .before .before .before .before .before .before .before .before .before .before .before in
     let w = start .pre .0 .wires in
     let r = start .pre .0 .room in
     let m = member (now (start .args .cone-nodes)) (now (start .args .cone-backs)) (start .args .len) (start .args .p) (start .pre .0 .bounded) (start .pre .2) in
@@ -65,6 +65,8 @@ gather-requires c κs =
         let e = start .pre .1 in
             omega arith,
         start .pre .0 .rising,
+        start .pre .0 .space,
+        λ q h. start .pre .0 .marked q (omega (arith, h, start .pre .2)),
       ),
       λ j h. place _ j w g h,
       omega arith,
@@ -74,7 +76,7 @@ gather-requires c κs =
 
 mul-compose : tie.Need-mul-compose
 mul-compose c =
-    let start = c .before .before .before .before .before .before .before .before .before .before .before .before .before in
+    let start = c .before .before .before .before .before .before .before .before .before .before .before .before .before .before in
     let w = start .pre .0 .wires in
     let r = start .pre .0 .room in
     let m = member (now (start .args .cone-nodes)) (now (start .args .cone-backs)) (start .args .len) (start .args .p) (start .pre .0 .bounded) (start .pre .2) in
@@ -84,7 +86,7 @@ mul-compose c =
 
 shared-slice-read-compose : tie.Need-shared-slice-read-compose
 shared-slice-read-compose c =
-    let start = c .before .before .before .before .before .before .before .before .before .before .before .before .before .before in
+    let start = c .before .before .before .before .before .before .before .before .before .before .before .before .before .before .before in
     let w = start .pre .0 .wires in
     let r = start .pre .0 .room in
     let m = member (now (start .args .cone-nodes)) (now (start .args .cone-backs)) (start .args .len) (start .args .p) (start .pre .0 .bounded) (start .pre .2) in
@@ -98,7 +100,7 @@ shl-compose c = search needs
 
 compose-requires : tie.Need-compose-requires
 compose-requires c κs =
-    let start = c .before .before .before .before .before .before .before .before .before .before .before .before .before .before in
+    let start = c .before .before .before .before .before .before .before .before .before .before .before .before .before .before .before in
     let w = start .pre .0 .wires in
     let r = start .pre .0 .room in
     let m = member (now (start .args .cone-nodes)) (now (start .args .cone-backs)) (start .args .len) (start .args .p) (start .pre .0 .bounded) (start .pre .2) in
@@ -108,7 +110,7 @@ compose-requires c κs =
 
 returns : tie.Need-returns
 returns c =
-    let start = c .before .before .before .before .before .before .before .before .before .before .before .before .before .before .before in
+    let start = c .before .before .before .before .before .before .before .before .before .before .before .before .before .before .before .before in
     let e = c .before .before .gather .ensures in
     record { fed = c .before .before .gather .result; size = e .0; each = e .1; word = composed-choices (start .args .n) (start .pre .0 .few) (c .compose .ensures) }
 

@@ -12,15 +12,15 @@ use Rattle.cone_table.proofs.fill_words.Statement.{statement}
 use Rattle.cone_table.proofs.fill_words.Tie as tie
 
 abbrev Inv-loop : tie.InvT-loop
-Inv-loop inputs gates pins sources counts tables leaf-nodes leaf-backs n cone-nodes cone-backs len words₀ p₀ words p =
+Inv-loop inputs gates pins sources counts tables leaf-nodes leaf-backs n cone-nodes cone-backs len marks words₀ p₀ words p =
     (p ≤ len) × (length words ≡ members) × WordsSettled inputs gates pins sources counts tables (copiesIn leaf-nodes leaf-backs n) cone-nodes cone-backs len words (2 ^ n) p
 
 abbrev μ-loop : tie.MeasureT-loop
-μ-loop inputs gates pins sources counts tables leaf-nodes leaf-backs n cone-nodes cone-backs len words₀ p₀ words p = len - p
+μ-loop inputs gates pins sources counts tables leaf-nodes leaf-backs n cone-nodes cone-backs len marks words₀ p₀ words p = len - p
 
 loop-holds : tie.Need-loop-holds Inv-loop μ-loop
 loop-holds c =
-    let a = c .before .before .before .before .before .before .before .before .args in
+    let a = c .before .before .before .before .before .before .before .before .before .args in
     (omega arith, refl, settled-none (now (a .cone-nodes)) (now (a .cone-backs)) (a .len) _ (2 ^ a .n))
 
 slice-aggregate-copy-word : tie.Need-slice-aggregate-copy-word Inv-loop μ-loop
@@ -28,25 +28,25 @@ slice-aggregate-copy-word c = search needs
 
 copy-word-requires : tie.Need-copy-word-requires Inv-loop μ-loop
 copy-word-requires c κs =
-    let start = c .before .before .before .before .before .before .before .before .before .before .before in
+    let start = c .before .before .before .before .before .before .before .before .before .before .before .before in
     let f = start .pre .room .fits in
     let e = c .before .before .loop .inv .1 in
     (start .pre, omega arith, omega arith)
 
 mul-words : tie.Need-mul-words Inv-loop μ-loop
 mul-words c =
-    let f = c .before .before .before .before .before .before .before .before .before .before .before .before .pre .room .fits in
+    let f = c .before .before .before .before .before .before .before .before .before .before .before .before .before .pre .room .fits in
     omega arith
 
 array-write-words : tie.Need-array-write-words Inv-loop μ-loop
 array-write-words c =
-    let f = c .before .before .before .before .before .before .before .before .before .before .before .before .pre .room .fits in
+    let f = c .before .before .before .before .before .before .before .before .before .before .before .before .before .pre .room .fits in
     let e = c .before .before .before .loop .inv .1 in
     omega arith
 
 add-p : tie.Need-add-p Inv-loop μ-loop
 add-p c =
-    let f = c .before .before .before .before .before .before .before .before .before .before .before .before .pre .room .fits in
+    let f = c .before .before .before .before .before .before .before .before .before .before .before .before .before .pre .room .fits in
     omega arith
 
 loop-less : tie.Need-loop-less Inv-loop μ-loop
@@ -55,7 +55,7 @@ loop-less c = search needs
 loop-again : tie.Need-loop-again Inv-loop μ-loop
 loop-again c =
     let loop = c .before .before .before .loop in
-    let s = c .before .before .before .before .before .before .before .before .before .before .before .before in
+    let s = c .before .before .before .before .before .before .before .before .before .before .before .before .before in
     let a = s .args in
     let f = s .pre .room .fits in
     let e = loop .inv .1 in (

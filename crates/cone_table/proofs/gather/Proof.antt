@@ -13,12 +13,12 @@ use Rattle.cone_table.proofs.gather.Statement.{statement}
 use Rattle.cone_table.proofs.gather.Tie as tie
 
 abbrev Inv-loop : tie.InvT-loop
-Inv-loop sources counts leaf-nodes leaf-backs n cone-nodes cone-backs len words g m base fed₀ j₀ fed j =
+Inv-loop sources counts leaf-nodes leaf-backs n cone-nodes cone-backs len words marks g m base fed₀ j₀ fed j =
     (j ≤ m) × (length fed ≡ mostPins) × ((i : ℕ) → i < j → Carries (copiesIn leaf-nodes leaf-backs n) (copiesIn cone-nodes cone-backs len) words (sourceAt sources counts g base i)
     (getD fed i 0))
 
 abbrev μ-loop : tie.MeasureT-loop
-μ-loop sources counts leaf-nodes leaf-backs n cone-nodes cone-backs len words g m base fed₀ j₀ fed j = m - j
+μ-loop sources counts leaf-nodes leaf-backs n cone-nodes cone-backs len words marks g m base fed₀ j₀ fed j = m - j
 
 loop-holds : tie.Need-loop-holds Inv-loop μ-loop
 loop-holds c = (omega arith, refl, λ i h. absurd (none h))
@@ -28,41 +28,45 @@ loop-holds c = (omega arith, refl, λ i h. absurd (none h))
 
 mul-at : tie.Need-mul-at Inv-loop μ-loop
 mul-at c =
-    let p = c .before .before .before .before .before .before .before .before .before .pre .1 (c .before .loop .j) (omega arith) in
+    let p = c .before .before .before .before .before .before .before .before .before .before .pre .1 (c .before .loop .j) (omega arith) in
     omega arith
 
 add-at : tie.Need-add-at Inv-loop μ-loop
 add-at c =
-    let p = c .before .before .before .before .before .before .before .before .before .pre .1 (c .before .loop .j) (omega arith) in
+    let p = c .before .before .before .before .before .before .before .before .before .before .pre .1 (c .before .loop .j) (omega arith) in
     omega arith
 
 mul-source-word : tie.Need-mul-source-word Inv-loop μ-loop
 mul-source-word c =
-    let p = c .before .before .before .before .before .before .before .before .before .pre .1 (c .before .loop .j) (omega arith) in
+    let p = c .before .before .before .before .before .before .before .before .before .before .pre .1 (c .before .loop .j) (omega arith) in
     omega arith
 
 shared-slice-read-source-word : tie.Need-shared-slice-read-source-word Inv-loop μ-loop
 shared-slice-read-source-word c =
-    let p = c .before .before .before .before .before .before .before .before .before .before .pre .1 (c .before .before .loop .j) (omega arith) in
+    let p = c .before .before .before .before .before .before .before .before .before .before .before .pre .1 (c .before .before .loop .j) (omega arith) in
     p .room
 
 mul-source-word-2 : tie.Need-mul-source-word-2 Inv-loop μ-loop
 mul-source-word-2 c =
-    let p = c .before .before .before .before .before .before .before .before .before .before .pre .1 (c .before .before .loop .j) (omega arith) in
+    let p = c .before .before .before .before .before .before .before .before .before .before .before .pre .1 (c .before .before .loop .j) (omega arith) in
     omega arith
 
 shared-slice-read-source-word-2 : tie.Need-shared-slice-read-source-word-2 Inv-loop μ-loop
 shared-slice-read-source-word-2 c =
-    let p = c .before .before .before .before .before .before .before .before .before .before .before .pre .1 (c .before .before .before .loop .j) (omega arith) in
+    let p = c .before .before .before .before .before .before .before .before .before .before .before .before .pre .1 (c .before .before .before .loop .j) (omega arith) in
     p .room′
 
 add-source-word : tie.Need-add-source-word Inv-loop μ-loop
 add-source-word c =
-    let p = c .before .before .before .before .before .before .before .before .before .before .before .pre .1 (c .before .before .before .loop .j) (omega arith) in
+    let p = c .before .before .before .before .before .before .before .before .before .before .before .before .pre .1 (c .before .before .before .loop .j) (omega arith) in
     omega arith
 
 source-word-requires : tie.Need-source-word-requires Inv-loop μ-loop
-source-word-requires c κs = c .before .before .before .before .before .before .before .before .before .before .before .pre .0
+source-word-requires c κs =
+    let start = c .before .before .before .before .before .before .before .before .before .before .before .before in
+    let p = start .pre .1 (c .before .before .before .loop .j) (omega arith) in
+    let b = start .pre .4 in
+    (start .pre .0, p .node, omega (arith, p .count, b))
 
 mul-fed : tie.Need-mul-fed Inv-loop μ-loop
 mul-fed c = search needs
@@ -81,7 +85,7 @@ loop-less c = search needs
 loop-again : tie.Need-loop-again Inv-loop μ-loop
 loop-again c =
     let loop = c .before .before .before .before .loop in
-    let a = c .before .before .before .before .before .before .before .before .before .before .before .before .args in
+    let a = c .before .before .before .before .before .before .before .before .before .before .before .before .before .args in
     let e = loop .inv .1 in (
       omega arith,
       length-set (loop .fed) (loop .j) (c .source-word .result) ∙ e,

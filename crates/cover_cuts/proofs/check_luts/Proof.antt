@@ -4,44 +4,51 @@ use Rattle.cover_cuts.specs.CutLaws.{told-no-cut, told-wrong, told-right
 use borrow.Author.Needs.{needs}
 use Rattle.cover_cuts.proofs.check_luts.Statement.{statement}
 use Rattle.cover_cuts.proofs.check_luts.Tie as tie
-use Rattle.cover_cuts.proofs.check_luts.Reads as reads
-use Rattle.cover_cuts.proofs.check_luts.Lts as lts
-use Rattle.cover_cuts.proofs.differ.Reads as differ-reads
-use Rattle.cover_cuts.proofs.no_cuts.Reads as no-cuts-reads
 
--- src/lib.rt:199:9
 slice-aggregate-no-cuts : tie.Need-slice-aggregate-no-cuts
 slice-aggregate-no-cuts c = search needs
 
--- src/lib.rt:186:9
 no-cuts-requires : tie.Need-no-cuts-requires
 no-cuts-requires c κs = search needs
 
--- src/lib.rt:201:30
 slice-aggregate-differ : tie.Need-slice-aggregate-differ
 slice-aggregate-differ c = search needs
 
--- src/lib.rt:201:9
 differ-requires : tie.Need-differ-requires
 differ-requires c κs = search needs
 
--- src/lib.rt:203:9
+same-length : tie.Need-same-length
+same-length c = search needs
+
 returns : tie.Need-returns
 returns c =
-    let start = c .before .before .before .before .before .before .before .before .before .before .before .before .before .before .before in
-    told-no-cut (start .pre .0) (now (start .args .luts)) (c .before .before .before .before .no-cuts .ensures) (c .if1 .taken)
+    let start = c .before .before .before .before .before .before .before .before .before .before .before .before .before .before .before .before .before .before .before in (
+      told-no-cut (start .pre .0 .0) (now (start .args .luts)) (c .before .before .before .before .before .before .no-cuts .ensures .0) (c .if1 .taken),
+      c .before .before .before .before .before
+          .before .no-cuts .ensures .1,
+    )
 
--- src/lib.rt:206:9
+same-length-2 : tie.Need-same-length-2
+same-length-2 c = search needs
+
 returns-2 : tie.Need-returns-2
 returns-2 c =
-    let start = c .before .before .before .before .before .before .before .before .before .before .before .before .before .before .before .before in
-    told-wrong (start .pre .0) (now (start .args .luts)) (c .before .before .before .before .before .no-cuts .ensures) (c .before .if1 .left) (c .before .before .differ .ensures) (c .if2 .taken)
+    let start = c .before .before .before .before .before .before .before .before .before .before .before .before .before .before .before .before .before .before .before .before in (
+      told-wrong (start .pre .0 .0) (now (start .args .luts)) (c .before .before .before .before .before .before .before .no-cuts .ensures .0) (c .before .if1 .left) (c .before .before .differ
+          .ensures) (c .if2 .taken),
+      c .before .before .before .before .before .before .before .no-cuts .ensures .1,
+    )
 
--- src/lib.rt:167:1
+same-length-3 : tie.Need-same-length-3
+same-length-3 c = search needs
+
 returns-3 : tie.Need-returns-3
 returns-3 c =
-    let start = c .before .before .before .before .before .before .before .before .before .before .before .before .before .before .before .before in
-    told-right (start .pre .0) (now (start .args .luts)) (c .before .before .before .before .before .no-cuts .ensures) (c .before .if1 .left) (c .before .before .differ .ensures) (c .if2 .left)
+    let start = c .before .before .before .before .before .before .before .before .before .before .before .before .before .before .before .before .before .before .before .before in (
+      told-right (start .pre .0 .0) (now (start .args .luts)) (c .before .before .before .before .before .before .before .no-cuts .ensures .0) (c .before .if1 .left) (c .before .before .differ
+          .ensures) (c .if2 .left),
+      c .before .before .before .before .before .before .before .no-cuts .ensures .1,
+    )
 
 pub check-luts-spec : {M : Type 1} → statement M
 check-luts-spec =
@@ -51,6 +58,9 @@ check-luts-spec =
     no-cuts-requires
     slice-aggregate-differ
     differ-requires
+    same-length
     returns
+    same-length-2
     returns-2
+    same-length-3
     returns-3)

@@ -1,13 +1,11 @@
 -- `cover_cuts::differ` meets its contract.
-use Prim.Native.Nat.{ℕ, _-_, _≤_}
+use Prim.Native.Nat.{_-_, _≤_}
 use native.Mathlib.Omega.{arith}
 use Rattle.cover_cuts.specs.Cuts.{Same}
 use Rattle.cover_cuts.specs.CutLaws.{same-none, same-next, compared-same, compared-different}
 use borrow.Author.Needs.{needs}
 use Rattle.cover_cuts.proofs.differ.Statement.{statement}
 use Rattle.cover_cuts.proofs.differ.Tie as tie
-use Rattle.cover_cuts.proofs.differ.Reads as reads
-use Rattle.cover_cuts.proofs.differ.Lts as lts
 
 abbrev Inv-loop : tie.InvT-loop
 Inv-loop a b n i₀ i = (i ≤ n) × Same a b i

@@ -17,7 +17,7 @@ none-marked-requires c κs = search needs
 returns : tie.Need-returns
 returns c =
     let a = c .before .before .before .before .before .before .before .args in
-    told-none (a .inputs) (now (a .roots)) (now (a .sizes)) (now (a .nodes)) (now (a .backs)) (now (a .lags)) (a .n) (c .before .before .rounds .result) (a .period)
+    told-none (a .inputs) (now (a .spots)) (now (a .sizes)) (now (a .nodes)) (now (a .backs)) (now (a .lags)) (a .n) (c .before .before .rounds .result) (a .period)
     (c .none-marked .result) (c .before .before .rounds .ensures .1) (c .none-marked .ensures)
 
 pub chains-short-spec : {M : Type 1} → statement M

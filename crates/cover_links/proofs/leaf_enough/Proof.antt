@@ -52,7 +52,7 @@ returns : tie.Need-returns
 returns c =
     let a = c .before .before .before .before .before .before .before .args in
     tells-enough (c .before .before .level-of .result) (leafIn (now (a .backs)) (a .i) (a .j) + c .raised .result)
-    (levelOf (a .inputs) (now (a .roots)) (now (a .lags)) (a .n) (leafIn (now (a .nodes)) (a .i) (a .j))) (leafIn (now (a .backs)) (a .i) (a .j) + raisedAt (now (a .lags)) (a .i))
+    (levelOf (a .inputs) (now (a .spots)) (now (a .lags)) (leafIn (now (a .nodes)) (a .i) (a .j))) (leafIn (now (a .backs)) (a .i) (a .j) + raisedAt (now (a .lags)) (a .i))
     (c .before .before .level-of .ensures) (ap (λ (x : ℕ). leafIn (now (a .backs)) (a .i) (a .j) + x) (c .raised .ensures))
 
 pub leaf-enough-spec : {M : Type 1} → statement M

@@ -1,9 +1,11 @@
 -- `cover_links::leaf_long` meets its contract: one law for each way out.
 use borrow.Author.Needs.{needs}
 use denote.Ref.{now}
+use mathlib.Core.Path.{refl}
 use native.Mathlib.Omega.{arith}
 use lib.IntN.{pos}
 use lib.ListN.{getD}
+use Rattle.cover_links.specs.LinkPlaces.{leafIn}
 use Rattle.cover_links.specs.LinkPlaceLaws.{raise-small, long-input, long-unmarked, long-marked}
 use Rattle.cover_links.proofs.leaf_long.Statement.{statement}
 use Rattle.cover_links.proofs.leaf_long.Tie as tie
@@ -23,15 +25,17 @@ shared-slice-read-u c = search needs
 returns : tie.Need-returns
 returns c =
     let a = c .before .before .before .before .before .before .args in
-    long-input (a .inputs) (now (a .roots)) (now (a .nodes)) (now (a .backs)) (now (a .lags)) (a .n) (a .i) (a .j) (now (a .ends)) (omega arith)
+    long-input (a .inputs) (now (a .spots)) (now (a .nodes)) (now (a .backs)) (now (a .lags)) (a .i) (a .j) (now (a .ends)) (omega arith)
 
-place-of-requires : tie.Need-place-of-requires
-place-of-requires c κs = search needs
+mul-k : tie.Need-mul-k
+mul-k c = search needs
+
+shared-slice-read-k : tie.Need-shared-slice-read-k
+shared-slice-read-k c = search needs
 
 mul-if2 : tie.Need-mul-if2
 mul-if2 c =
     let start = c .before .before .before .before .before .before .before in
-    let e = c .place-of .ensures in
     let f = start .pre .1 .found (omega arith) in
     let p = start .pre .0 in
     omega arith
@@ -39,7 +43,6 @@ mul-if2 c =
 shared-slice-read-if2 : tie.Need-shared-slice-read-if2
 shared-slice-read-if2 c =
     let start = c .before .before .before .before .before .before .before .before in
-    let e = c .before .place-of .ensures in
     let f = start .pre .1 .found (omega arith) in
     let p = start .pre .0 in
     omega arith
@@ -47,16 +50,15 @@ shared-slice-read-if2 c =
 returns-2 : tie.Need-returns-2
 returns-2 c =
     let a = c .before .before .before .before .before .before .before .before .before .args in
-    long-unmarked (a .inputs) (now (a .roots)) (now (a .nodes)) (now (a .backs)) (now (a .lags)) (a .n) (a .i) (a .j) (now (a .ends)) (c .before .before .place-of .result)
-    (c .before .before .place-of .ensures) (c .if2 .taken)
+    long-unmarked (a .inputs) (now (a .spots)) (now (a .nodes)) (now (a .backs)) (now (a .lags)) (a .i) (a .j) (now (a .ends)) _ refl (c .if2 .taken)
 
 raised-requires : tie.Need-raised-requires
 raised-requires c κs =
     let start = c .before .before .before .before .before .before .before .before .before in
-    let e = c .before .before .place-of .ensures in
+    let a = start .args in
     let f = start .pre .1 .found (omega arith) in
     let p = start .pre .0 in
-    (omega (arith, p .0 .atLags), p .0 .lag (c .before .before .place-of .result) (omega arith))
+    (omega (arith, p .0 .atLags), p .0 .lag (getD (now (a .spots)) (leafIn (now (a .nodes)) (a .i) (a .j)) 0) (omega arith))
 
 mul-result : tie.Need-mul-result
 mul-result c = search needs
@@ -82,11 +84,10 @@ add-result c =
 
 returns-3 : tie.Need-returns-3
 returns-3 c =
-    let place-of = c .before .before .before .before .before .place-of in
     let a = c .before .before .before .before .before .before .before .before .before .before .before .before .args in
-    long-marked (a .inputs) (now (a .roots)) (now (a .nodes)) (now (a .backs)) (now (a .lags)) (a .n) (a .i) (a .j) (now (a .ends)) (place-of .result)
-    (c .before .before .raised .result) (c .raised2 .result) (omega arith) (place-of .ensures) (c .before .before .before .if2 .left) (c .before .before .raised .ensures)
-    (c .raised2 .ensures)
+    long-marked (a .inputs) (now (a .spots)) (now (a .nodes)) (now (a .backs)) (now (a .lags)) (a .i) (a .j) (now (a .ends)) _ (c .before .before .raised .result) (c .raised2 .result) (omega
+    arith) refl
+    (c .before .before .before .if2 .left) (c .before .before .raised .ensures) (c .raised2 .ensures)
 
 pub leaf-long-spec : {M : Type 1} → statement M
 leaf-long-spec =
@@ -97,7 +98,8 @@ leaf-long-spec =
     mul-u
     shared-slice-read-u
     returns
-    place-of-requires
+    mul-k
+    shared-slice-read-k
     mul-if2
     shared-slice-read-if2
     returns-2

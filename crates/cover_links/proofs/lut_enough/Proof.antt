@@ -13,10 +13,10 @@ use Rattle.cover_links.proofs.lut_enough.Statement.{statement}
 use Rattle.cover_links.proofs.lut_enough.Tie as tie
 
 abbrev Inv-loop : tie.InvT-loop
-Inv-loop inputs gates roots sizes nodes backs lags n i m j₀ j = (j ≤ m) × (m ≡ getD sizes i 0) × ((k : ℕ) → k < j → LeafEnough inputs roots nodes backs lags n i k)
+Inv-loop inputs spots sizes nodes backs lags n i m j₀ j = (j ≤ m) × (m ≡ getD sizes i 0) × ((k : ℕ) → k < j → LeafEnough inputs spots nodes backs lags i k)
 
 abbrev μ-loop : tie.MeasureT-loop
-μ-loop inputs gates roots sizes nodes backs lags n i m j₀ j = m - j
+μ-loop inputs spots sizes nodes backs lags n i m j₀ j = m - j
 
 mul-m : tie.Need-mul-m Inv-loop μ-loop
 mul-m c =
@@ -47,7 +47,7 @@ returns c =
     let loop = c .before .before .before .loop in
     let a = c .before .before .before .before .before .before .before .before .before .args in
     let e = loop .inv .1 in
-    tells-not (λ (j : ℕ). LeafEnough (a .inputs) (now (a .roots)) (now (a .nodes)) (now (a .backs)) (now (a .lags)) (a .n) (a .i) j) (getD (now (a .sizes)) (a .i) 0) (loop .j)
+    tells-not (λ (j : ℕ). LeafEnough (a .inputs) (now (a .spots)) (now (a .nodes)) (now (a .backs)) (now (a .lags)) (a .i) j) (getD (now (a .sizes)) (a .i) 0) (loop .j)
     (omega arith) (c .before .leaf-enough .ensures .fails (not-true _ (c .if1 .taken)))
 
 add-j : tie.Need-add-j Inv-loop μ-loop
@@ -70,7 +70,7 @@ returns-2 : tie.Need-returns-2 Inv-loop μ-loop
 returns-2 c =
     let a = c .before .before .before .before .before .before .before .args in
     let e = c .before .loop .inv .1 in
-    tells-all (λ (j : ℕ). LeafEnough (a .inputs) (now (a .roots)) (now (a .nodes)) (now (a .backs)) (now (a .lags)) (a .n) (a .i) j) (getD (now (a .sizes)) (a .i) 0)
+    tells-all (λ (j : ℕ). LeafEnough (a .inputs) (now (a .spots)) (now (a .nodes)) (now (a .backs)) (now (a .lags)) (a .i) j) (getD (now (a .sizes)) (a .i) 0)
     (c .before .loop .j) (omega arith) (c .before .loop .inv .2)
 
 pub lut-enough-spec : {M : Type 1} → statement M

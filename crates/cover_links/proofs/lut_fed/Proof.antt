@@ -13,10 +13,10 @@ use Rattle.cover_links.proofs.lut_fed.Statement.{statement}
 use Rattle.cover_links.proofs.lut_fed.Tie as tie
 
 abbrev Inv-loop : tie.InvT-loop
-Inv-loop inputs roots sizes nodes n i m j₀ j = (j ≤ m) × (m ≡ getD sizes i 0) × ((k : ℕ) → k < j → Found inputs roots n (leafIn nodes i k))
+Inv-loop inputs spots sizes nodes n i m j₀ j = (j ≤ m) × (m ≡ getD sizes i 0) × ((k : ℕ) → k < j → Found inputs spots n (leafIn nodes i k))
 
 abbrev μ-loop : tie.MeasureT-loop
-μ-loop inputs roots sizes nodes n i m j₀ j = m - j
+μ-loop inputs spots sizes nodes n i m j₀ j = m - j
 
 mul-m : tie.Need-mul-m Inv-loop μ-loop
 mul-m c = search needs
@@ -59,14 +59,17 @@ shared-slice-read-is-fed c =
     omega arith
 
 is-fed-requires : tie.Need-is-fed-requires Inv-loop μ-loop
-is-fed-requires c κs = c .before .before .before .before .before .before .before .pre .0 .atRoots
+is-fed-requires c κs =
+    let start = c .before .before .before .before .before .before .before in
+    let e = c .before .before .loop .inv .1 in
+    start .pre .0 .node (start .args .i) (c .before .before .loop .j) (start .pre .1) (omega arith)
 
 returns : tie.Need-returns Inv-loop μ-loop
 returns c =
     let loop = c .before .before .before .before .loop in
     let a = c .before .before .before .before .before .before .before .before .before .args in
     let e = loop .inv .1 in
-    tells-not (λ (j : ℕ). Found (a .inputs) (now (a .roots)) (a .n) (leafIn (now (a .nodes)) (a .i) j)) (getD (now (a .sizes)) (a .i) 0) (loop .j) (omega arith)
+    tells-not (λ (j : ℕ). Found (a .inputs) (now (a .spots)) (a .n) (leafIn (now (a .nodes)) (a .i) j)) (getD (now (a .sizes)) (a .i) 0) (loop .j) (omega arith)
     (c .before .is-fed .ensures .fails (not-true _ (c .if1 .taken)))
 
 add-j : tie.Need-add-j Inv-loop μ-loop
@@ -88,7 +91,7 @@ returns-2 : tie.Need-returns-2 Inv-loop μ-loop
 returns-2 c =
     let a = c .before .before .before .before .before .before .args in
     let e = c .before .loop .inv .1 in
-    tells-all (λ (j : ℕ). Found (a .inputs) (now (a .roots)) (a .n) (leafIn (now (a .nodes)) (a .i) j)) (getD (now (a .sizes)) (a .i) 0) (c .before .loop .j) (omega arith) (c .before .loop .inv .2)
+    tells-all (λ (j : ℕ). Found (a .inputs) (now (a .spots)) (a .n) (leafIn (now (a .nodes)) (a .i) j)) (getD (now (a .sizes)) (a .i) 0) (c .before .loop .j) (omega arith) (c .before .loop .inv .2)
 
 pub lut-fed-spec : {M : Type 1} → statement M
 lut-fed-spec =

@@ -12,10 +12,10 @@ use Rattle.cover_links.proofs.lut_long.Statement.{statement}
 use Rattle.cover_links.proofs.lut_long.Tie as tie
 
 abbrev Inv-loop : tie.InvT-loop
-Inv-loop inputs gates roots sizes nodes backs lags n i ends m j₀ j = (j ≤ m) × (m ≡ getD sizes i 0) × ((k : ℕ) → k < j → ¬ LeafLong (Marked ends) inputs roots nodes backs lags n i k)
+Inv-loop inputs spots sizes nodes backs lags n i ends m j₀ j = (j ≤ m) × (m ≡ getD sizes i 0) × ((k : ℕ) → k < j → ¬ LeafLong (Marked ends) inputs spots nodes backs lags i k)
 
 abbrev μ-loop : tie.MeasureT-loop
-μ-loop inputs gates roots sizes nodes backs lags n i ends m j₀ j = m - j
+μ-loop inputs spots sizes nodes backs lags n i ends m j₀ j = m - j
 
 mul-m : tie.Need-mul-m Inv-loop μ-loop
 mul-m c =
@@ -46,7 +46,7 @@ returns c =
     let loop = c .before .before .before .loop in
     let a = c .before .before .before .before .before .before .before .before .before .before .args in
     let e = loop .inv .1 in
-    tells-some (λ (j : ℕ). LeafLong (Marked (now (a .ends))) (a .inputs) (now (a .roots)) (now (a .nodes)) (now (a .backs)) (now (a .lags)) (a .n) (a .i) j)
+    tells-some (λ (j : ℕ). LeafLong (Marked (now (a .ends))) (a .inputs) (now (a .spots)) (now (a .nodes)) (now (a .backs)) (now (a .lags)) (a .i) j)
     (getD (now (a .sizes)) (a .i) 0) (loop .j) (omega arith) (c .before .leaf-long .ensures .holds (c .if1 .taken))
 
 add-j : tie.Need-add-j Inv-loop μ-loop
@@ -69,7 +69,7 @@ returns-2 : tie.Need-returns-2 Inv-loop μ-loop
 returns-2 c =
     let a = c .before .before .before .before .before .before .before .before .args in
     let e = c .before .loop .inv .1 in
-    tells-none (λ (j : ℕ). LeafLong (Marked (now (a .ends))) (a .inputs) (now (a .roots)) (now (a .nodes)) (now (a .backs)) (now (a .lags)) (a .n) (a .i) j)
+    tells-none (λ (j : ℕ). LeafLong (Marked (now (a .ends))) (a .inputs) (now (a .spots)) (now (a .nodes)) (now (a .backs)) (now (a .lags)) (a .i) j)
     (getD (now (a .sizes)) (a .i) 0) (c .before .loop .j) (omega arith) (c .before .loop .inv .2)
 
 pub lut-long-spec : {M : Type 1} → statement M

@@ -10,10 +10,10 @@ use Rattle.cover_links.proofs.luts_enough.Statement.{statement}
 use Rattle.cover_links.proofs.luts_enough.Tie as tie
 
 abbrev Inv-loop : tie.InvT-loop
-Inv-loop inputs gates roots sizes nodes backs lags n i₀ i = (i ≤ n) × ((k : ℕ) → k < i → LutEnough inputs roots sizes nodes backs lags n k)
+Inv-loop inputs spots sizes nodes backs lags n i₀ i = (i ≤ n) × ((k : ℕ) → k < i → LutEnough inputs spots sizes nodes backs lags k)
 
 abbrev μ-loop : tie.MeasureT-loop
-μ-loop inputs gates roots sizes nodes backs lags n i₀ i = n - i
+μ-loop inputs spots sizes nodes backs lags n i₀ i = n - i
 
 loop-holds : tie.Need-loop-holds Inv-loop μ-loop
 loop-holds c = (omega arith, λ i h. absurd (none h))
@@ -29,7 +29,7 @@ lut-enough-requires c κs =
 returns : tie.Need-returns Inv-loop μ-loop
 returns c =
     let a = c .before .before .before .before .before .before .before .before .args in
-    tells-not (λ (i : ℕ). LutEnough (a .inputs) (now (a .roots)) (now (a .sizes)) (now (a .nodes)) (now (a .backs)) (now (a .lags)) (a .n) i) (a .n)
+    tells-not (λ (i : ℕ). LutEnough (a .inputs) (now (a .spots)) (now (a .sizes)) (now (a .nodes)) (now (a .backs)) (now (a .lags)) i) (a .n)
     (c .before .before .before .loop .i) (omega arith) (c .before .lut-enough .ensures .fails (not-true _ (c .if1 .taken)))
 
 add-i : tie.Need-add-i Inv-loop μ-loop
@@ -46,7 +46,7 @@ loop-again c = (omega arith, below-more _ _ (c .before .before .before .loop .in
 returns-2 : tie.Need-returns-2 Inv-loop μ-loop
 returns-2 c =
     let a = c .before .before .before .before .before .before .args in
-    tells-all (λ (i : ℕ). LutEnough (a .inputs) (now (a .roots)) (now (a .sizes)) (now (a .nodes)) (now (a .backs)) (now (a .lags)) (a .n) i) (a .n) (c .before .loop .i)
+    tells-all (λ (i : ℕ). LutEnough (a .inputs) (now (a .spots)) (now (a .sizes)) (now (a .nodes)) (now (a .backs)) (now (a .lags)) i) (a .n) (c .before .loop .i)
     (omega arith) (c .before .loop .inv .1)
 
 pub luts-enough-spec : {M : Type 1} → statement M

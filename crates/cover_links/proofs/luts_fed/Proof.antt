@@ -11,10 +11,10 @@ use Rattle.cover_links.proofs.luts_fed.Statement.{statement}
 use Rattle.cover_links.proofs.luts_fed.Tie as tie
 
 abbrev Inv-loop : tie.InvT-loop
-Inv-loop inputs roots sizes nodes n i₀ i = (i ≤ n) × ((k : ℕ) → k < i → LutFed inputs roots sizes nodes n k)
+Inv-loop inputs spots sizes nodes n i₀ i = (i ≤ n) × ((k : ℕ) → k < i → LutFed inputs spots sizes nodes n k)
 
 abbrev μ-loop : tie.MeasureT-loop
-μ-loop inputs roots sizes nodes n i₀ i = n - i
+μ-loop inputs spots sizes nodes n i₀ i = n - i
 
 loop-holds : tie.Need-loop-holds Inv-loop μ-loop
 loop-holds c = (omega arith, λ i h. absurd (none h))
@@ -28,7 +28,7 @@ lut-fed-requires c κs = (c .before .before .before .before .before .pre, omega 
 returns : tie.Need-returns Inv-loop μ-loop
 returns c =
     let a = c .before .before .before .before .before .before .before .args in
-    tells-not (λ (i : ℕ). LutFed (a .inputs) (now (a .roots)) (now (a .sizes)) (now (a .nodes)) (a .n) i) (a .n) (c .before .before .before .loop .i) (omega arith)
+    tells-not (λ (i : ℕ). LutFed (a .inputs) (now (a .spots)) (now (a .sizes)) (now (a .nodes)) (a .n) i) (a .n) (c .before .before .before .loop .i) (omega arith)
     (c .before .lut-fed .ensures .fails (not-true _ (c .if1 .taken)))
 
 add-i : tie.Need-add-i Inv-loop μ-loop
@@ -43,7 +43,7 @@ loop-again c = (omega arith, below-more _ _ (c .before .before .before .loop .in
 returns-2 : tie.Need-returns-2 Inv-loop μ-loop
 returns-2 c =
     let a = c .before .before .before .before .before .args in
-    tells-all (λ (i : ℕ). LutFed (a .inputs) (now (a .roots)) (now (a .sizes)) (now (a .nodes)) (a .n) i) (a .n) (c .before .loop .i) (omega arith) (c .before .loop .inv .1)
+    tells-all (λ (i : ℕ). LutFed (a .inputs) (now (a .spots)) (now (a .sizes)) (now (a .nodes)) (a .n) i) (a .n) (c .before .loop .i) (omega arith) (c .before .loop .inv .1)
 
 pub luts-fed-spec : {M : Type 1} → statement M
 luts-fed-spec =

@@ -30,7 +30,7 @@ add-result c = search needs
 returns : tie.Need-returns
 returns c =
     let a = c .before .before .before .before .before .before .args in
-    tells-enough (c .before .level-of .result) _ (levelOf (a .inputs) (now (a .roots)) (now (a .lags)) (a .n) (getD (now (a .outs)) (a .o) 0))
+    tells-enough (c .before .level-of .result) _ (levelOf (a .inputs) (now (a .spots)) (now (a .lags)) (getD (now (a .outs)) (a .o) 0))
     (getD (now (a .delays)) (a .o) 0 + base) (c .before .level-of .ensures) (omega arith)
 
 pub output-enough-spec : {M : Type 1} → statement M

@@ -10,10 +10,10 @@ use Rattle.cover_links.proofs.outputs_enough.Statement.{statement}
 use Rattle.cover_links.proofs.outputs_enough.Tie as tie
 
 abbrev Inv-loop : tie.InvT-loop
-Inv-loop inputs roots lags n outs delays outputs o₀ o = (o ≤ outputs) × ((k : ℕ) → k < o → OutputEnough inputs roots lags n outs delays k)
+Inv-loop inputs spots lags n outs delays outputs o₀ o = (o ≤ outputs) × ((k : ℕ) → k < o → OutputEnough inputs spots lags outs delays k)
 
 abbrev μ-loop : tie.MeasureT-loop
-μ-loop inputs roots lags n outs delays outputs o₀ o = outputs - o
+μ-loop inputs spots lags n outs delays outputs o₀ o = outputs - o
 
 loop-holds : tie.Need-loop-holds Inv-loop μ-loop
 loop-holds c = (omega arith, λ i h. absurd (none h))
@@ -24,12 +24,12 @@ loop-holds c = (omega arith, λ i h. absurd (none h))
 output-enough-requires : tie.Need-output-enough-requires Inv-loop μ-loop
 output-enough-requires c κs =
     let p = c .before .before .before .before .before .pre in
-    (p .0 .0, omega (arith, p .0 .1), omega (arith, p .0 .2), p .1 .0 (c .before .loop .o) (omega arith), p .1 .1 (c .before .loop .o) (omega arith))
+    (p .0 .0, omega (arith, p .0 .1), omega (arith, p .0 .2), p .1 .0 (c .before .loop .o) (omega arith), p .1 .1 (c .before .loop .o) (omega arith), p .0 .3 (c .before .loop .o) (omega arith))
 
 returns : tie.Need-returns Inv-loop μ-loop
 returns c =
     let a = c .before .before .before .before .before .before .before .args in
-    tells-not (λ (o : ℕ). OutputEnough (a .inputs) (now (a .roots)) (now (a .lags)) (a .n) (now (a .outs)) (now (a .delays)) o) (a .outputs) (c .before .before .before .loop .o)
+    tells-not (λ (o : ℕ). OutputEnough (a .inputs) (now (a .spots)) (now (a .lags)) (now (a .outs)) (now (a .delays)) o) (a .outputs) (c .before .before .before .loop .o)
     (omega arith) (c .before .output-enough .ensures .fails (not-true _ (c .if1 .taken)))
 
 add-o : tie.Need-add-o Inv-loop μ-loop
@@ -46,7 +46,7 @@ loop-again c = (omega arith, below-more _ _ (c .before .before .before .loop .in
 returns-2 : tie.Need-returns-2 Inv-loop μ-loop
 returns-2 c =
     let a = c .before .before .before .before .before .args in
-    tells-all (λ (o : ℕ). OutputEnough (a .inputs) (now (a .roots)) (now (a .lags)) (a .n) (now (a .outs)) (now (a .delays)) o) (a .outputs) (c .before .loop .o) (omega arith)
+    tells-all (λ (o : ℕ). OutputEnough (a .inputs) (now (a .spots)) (now (a .lags)) (now (a .outs)) (now (a .delays)) o) (a .outputs) (c .before .loop .o) (omega arith)
     (c .before .loop .inv .1)
 
 pub outputs-enough-spec : {M : Type 1} → statement M

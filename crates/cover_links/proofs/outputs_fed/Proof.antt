@@ -12,10 +12,10 @@ use Rattle.cover_links.proofs.outputs_fed.Statement.{statement}
 use Rattle.cover_links.proofs.outputs_fed.Tie as tie
 
 abbrev Inv-loop : tie.InvT-loop
-Inv-loop inputs roots n outs outputs o₀ o = (o ≤ outputs) × ((k : ℕ) → k < o → Found inputs roots n (getD outs k 0))
+Inv-loop inputs spots n outs outputs o₀ o = (o ≤ outputs) × ((k : ℕ) → k < o → Found inputs spots n (getD outs k 0))
 
 abbrev μ-loop : tie.MeasureT-loop
-μ-loop inputs roots n outs outputs o₀ o = outputs - o
+μ-loop inputs spots n outs outputs o₀ o = outputs - o
 
 loop-holds : tie.Need-loop-holds Inv-loop μ-loop
 loop-holds c = (omega arith, λ i h. absurd (none h))
@@ -30,12 +30,12 @@ shared-slice-read-is-fed : tie.Need-shared-slice-read-is-fed Inv-loop μ-loop
 shared-slice-read-is-fed c = search needs
 
 is-fed-requires : tie.Need-is-fed-requires Inv-loop μ-loop
-is-fed-requires c κs = c .before .before .before .before .before .pre .0
+is-fed-requires c κs = c .before .before .before .before .before .pre .1 (c .before .before .loop .o) (omega arith)
 
 returns : tie.Need-returns Inv-loop μ-loop
 returns c =
     let a = c .before .before .before .before .before .before .before .args in
-    tells-not (λ (o : ℕ). Found (a .inputs) (now (a .roots)) (a .n) (getD (now (a .outs)) o 0)) (a .outputs) (c .before .before .before .before .loop .o) (omega arith)
+    tells-not (λ (o : ℕ). Found (a .inputs) (now (a .spots)) (a .n) (getD (now (a .outs)) o 0)) (a .outputs) (c .before .before .before .before .loop .o) (omega arith)
     (c .before .is-fed .ensures .fails (not-true _ (c .if1 .taken)))
 
 add-o : tie.Need-add-o Inv-loop μ-loop
@@ -50,7 +50,7 @@ loop-again c = (omega arith, below-more _ _ (c .before .before .before .before .
 returns-2 : tie.Need-returns-2 Inv-loop μ-loop
 returns-2 c =
     let a = c .before .before .before .before .args in
-    tells-all (λ (o : ℕ). Found (a .inputs) (now (a .roots)) (a .n) (getD (now (a .outs)) o 0)) (a .outputs) (c .before .loop .o) (omega arith) (c .before .loop .inv .1)
+    tells-all (λ (o : ℕ). Found (a .inputs) (now (a .spots)) (a .n) (getD (now (a .outs)) o 0)) (a .outputs) (c .before .loop .o) (omega arith) (c .before .loop .inv .1)
 
 pub outputs-fed-spec : {M : Type 1} → statement M
 outputs-fed-spec =

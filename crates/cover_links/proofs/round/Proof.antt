@@ -10,11 +10,11 @@ use Rattle.cover_links.proofs.round.Statement.{statement}
 use Rattle.cover_links.proofs.round.Tie as tie
 
 abbrev Inv-loop : tie.InvT-loop
-Inv-loop inputs gates roots sizes nodes backs lags n ends next₀ i₀ next i =
-    (i ≤ n) × (length next ≡ most) × ((k : ℕ) → k < i → Marks (getD next k 0) (LutLong (Marked ends) inputs roots sizes nodes backs lags n k))
+Inv-loop inputs spots sizes nodes backs lags n ends next₀ i₀ next i =
+    (i ≤ n) × (length next ≡ most) × ((k : ℕ) → k < i → Marks (getD next k 0) (LutLong (Marked ends) inputs spots sizes nodes backs lags k))
 
 abbrev μ-loop : tie.MeasureT-loop
-μ-loop inputs gates roots sizes nodes backs lags n ends next₀ i₀ next i = n - i
+μ-loop inputs spots sizes nodes backs lags n ends next₀ i₀ next i = n - i
 
 loop-holds : tie.Need-loop-holds Inv-loop μ-loop
 loop-holds c = (omega arith, refl, λ i h. absurd (none h))
@@ -57,7 +57,7 @@ loop-again c =
       omega arith,
       length-set (c .before .before .loop .next) (c .before .before .loop .i) (c .lut-mark .result) ∙ e,
       each-set
-          (λ (k x : ℕ). Marks x (LutLong (Marked (now (a .ends))) (a .inputs) (now (a .roots)) (now (a .sizes)) (now (a .nodes)) (now (a .backs)) (now (a .lags)) (a .n) k))
+          (λ (k x : ℕ). Marks x (LutLong (Marked (now (a .ends))) (a .inputs) (now (a .spots)) (now (a .sizes)) (now (a .nodes)) (now (a .backs)) (now (a .lags)) k))
           (c .before .before .loop .next) (c .before .before .loop .i) (c .lut-mark .result) (omega arith) (c .before .before .loop .inv .2) (c .lut-mark .ensures),
     )
 

@@ -1,137 +1,73 @@
 -- `cover_roots::choose` meets its contract. The loop's invariant: what holds between two roots, and g is the next one.
 use mathlib.Core.Path.{_≡_, refl, _∙_}
+use mathlib.Core.List.{[]}
 use native.Mathlib.Omega.{arith}
 use lib.ListN.{length}
-use Rattle.cut_circuit.specs.Circuit.{circuit}
+use Rattle.cut_circuit.specs.Packed.{packedOf}
 use Rattle.cover_roots.specs.RootMarks.{Pending, left}
 use Rattle.cover_roots.specs.RootRounds.{Choosing}
 use Rattle.cover_roots.specs.RootRoundsLaws.{places-kept, choosing-first, choosing-next, choosing-last, taken-less}
-use Rattle.cut_question.specs.Question.{AtRest}
-use Rattle.cut_forced.specs.Forcing.{wires}
+use Rattle.cut_question.specs.Separating.{AtRest}
 use Rattle.cover_roots.proofs.choose.Statement.{statement}
 use Rattle.cover_roots.proofs.choose.Tie as tie
+use Rattle.cover_roots.proofs.choose.Reads as reads
+use Rattle.cover_roots.proofs.choose.Lts as lts
+use Rattle.cover_roots.proofs.mark_nodes.Reads as mark-nodes-reads
+use Rattle.cover_roots.proofs.pending.Reads as pending-reads
+use Rattle.cover_roots.proofs.take.Reads as take-reads
 
 abbrev Inv-loop : tie.InvT-loop
-Inv-loop s pins first sources counts heads nexts inside₀ table₀ list₀ members₀ labels outs n phi k marks₀ sizes₀ nodes₀ backs₀ g₀ inside table list members marks sizes nodes backs g =
-    AtRest (circuit (s .inputs) (s .gates) (s .width) (s .border) pins first sources counts heads nexts inside) table list members × Choosing
-    (wires (s .inputs) (s .gates) (s .width) (s .border) pins sources counts) labels outs n phi k marks sizes nodes backs
-    × Pending marks (s .gates) g × (length inside ≡ length inside₀) × (length table ≡ length table₀) × (length list ≡ length list₀) × (length members ≡ length members₀) ×
-    (length marks ≡ length marks₀) × (length sizes ≡ length sizes₀) × (length nodes ≡ length nodes₀) × (length backs ≡ length backs₀)
+Inv-loop s net slots₀ table₀ list₀ stack₀ counts₀ members₀ labels outs n phi k marks₀ sizes₀ nodes₀ backs₀ g₀ slots table list stack counts members marks sizes nodes backs g =
+    AtRest (packedOf s net slots) table list stack counts members × Choosing (packedOf s net []) labels outs n phi k marks sizes nodes backs × Pending marks (s .gates) g
+    × (length slots ≡ length slots₀) × (length table ≡ length table₀) × (length list ≡ length list₀) × (length stack ≡ length stack₀) × (length counts ≡ length counts₀) × (length members ≡ length members₀)
+    × (length marks ≡ length marks₀) × (length sizes ≡ length sizes₀) × (length nodes ≡ length nodes₀) × (length backs ≡ length backs₀)
 
 abbrev μ-loop : tie.MeasureT-loop
-μ-loop s pins first sources counts heads nexts inside₀ table₀ list₀ members₀ labels outs n phi k marks₀ sizes₀ nodes₀ backs₀ g₀ inside table list members marks sizes nodes backs g =
-    left marks (s .gates)
+μ-loop s net slots₀ table₀ list₀ stack₀ counts₀ members₀ labels outs n phi k marks₀ sizes₀ nodes₀ backs₀ g₀ slots table list stack counts members marks sizes nodes backs g = left marks (s .gates)
 
 mark-nodes-requires : tie.Need-mark-nodes-requires Inv-loop μ-loop
-mark-nodes-requires c κs =
-    let start = c .before .before .before .before .before .before .before .before .before .before .before .before .before .before .before .before in
-    (start .pre .1 .places .atMarks, omega arith, start .pre .1 .outputs)
+mark-nodes-requires c κs = (c .before .before .before .before .before .before .before .before .before .before .before .before .before .pre .1 .places .atMarks, omega arith, c .before .before .before .before .before .before .before .before .before .before .before .before .before .pre .1 .outputs)
 
 pending-requires : tie.Need-pending-requires Inv-loop μ-loop
-pending-requires c κs =
-    let e = c .before .before .before .mark-nodes .kept .1 .1 .0 in omega (
-      arith,
-      e,
-      c .before .before .before .before .before .before .before .before .before .before .before .before .before .before .before .before .before .before .before
-          .before .pre .1 .places .atMarks,
-    )
+pending-requires c κs = let e = c .before .before .before .mark-nodes .kept .1 .1 .0 in omega (arith, e, c .before .before .before .before .before .before .before .before .before .before .before .before .before .before .before .before .before .pre .1 .places .atMarks)
 
 loop-holds : tie.Need-loop-holds Inv-loop μ-loop
-loop-holds c =
-    let start = c .before .before .before .before .before .before .before .before .before .before .before .before .before .before .before .before .before .before .before .before .before in
-    (start .pre .0, choosing-first (start .pre .1) (c .before .before .before .before .mark-nodes .ensures), c .pending .ensures, refl, refl, refl, refl, refl, refl, refl, refl)
+loop-holds c = (c .before .before .before .before .before .before .before .before .before .before .before .before .before .before .before .before .before .before .pre .0, choosing-first (c .before .before .before .before .before .before .before .before .before .before .before .before .before .before .before .before .before .before .pre .1) (c .before .before .before .before .mark-nodes .ensures), c .pending .ensures, refl, refl, refl, refl, refl, refl, refl, refl, refl, refl)
 
 take-requires : tie.Need-take-requires Inv-loop μ-loop
-take-requires c κs =
-    let loop = c .before .before .before .before .before .before .before .before .before .before .loop in
-    let start = c .before .before .before .before .before .before .before .before .before .before .before .before .before .before .before .before .before .before .before .before
-    .before .before .before .before .before .before .before .before .before .before .before .before in (
-      loop .inv .0,
-      (
-        start .pre .1 .asking,
-        omega arith,
-        places-kept (start .pre .1 .places)
-            (loop .inv .7 ∙ c .before .before .before .before .before .before .before .before .before .before .before .before .before .before .before .mark-nodes .kept .1 .1 .0)
-            (loop .inv .8) (loop .inv .9) (loop .inv .10),
-      ),
-    )
+take-requires c κs = (
+  c .before .before .before .before .before .before .before .before .before .before .before .before .loop .inv .0,
+  (c .before .before .before .before .before .before .before .before .before .before .before .before .before .before .before .before .before .before .before .before .before .before .before .before .before .before .before .before .before .before .before .pre .1 .asking, omega arith, places-kept (c .before .before .before .before .before .before .before .before .before .before .before .before .before .before .before .before .before .before .before .before .before .before .before .before .before .before .before .before .before .before .before .pre .1 .places) (c .before .before .before .before .before .before .before .before .before .before .before .before .loop .inv .9 ∙ c .before .before .before .before .before .before .before .before .before .before .before .before .before .before .before .before .before .mark-nodes .kept .1 .1 .0) (c .before .before .before .before .before .before .before .before .before .before .before .before .loop .inv .10) (c .before .before .before .before .before .before .before .before .before .before .before .before .loop .inv .11) (c .before .before .before .before .before .before .before .before .before .before .before .before .loop .inv .12)),
+)
 
 pending-requires-2 : tie.Need-pending-requires-2 Inv-loop μ-loop
 pending-requires-2 c κs =
-    let p = c .before .before .before .before .before .before .before .before .before .before .before .before .before .before .before .before .before .before .before .before
-    .before .before .before .before .before .before .before .before .before .before .before .before .before .before .before .before .before .before .before .before .before .before
-    .before .before .before .before .before .before .before .before .pre .1 .places .atMarks in
-    let m = c .before .before .before .before .before .before .before .before .before .before .before .before .before .before .before .before .before .before .before .before
-    .before .before .before .before .before .before .before .before .loop .inv .7 ∙
-    c .before .before .before .before .before .before .before .before .before .before .before .before .before .before .before .before .before .before .before .before .before
-    .before .before .before .before .before .before .before .before .before .before .before .before .mark-nodes .kept .1 .1 .0 in
-    let e = c .before .before .before .before .before .before .before .before .before .before .before .before .before .before .before .before
-    .before .take .kept .1 .1 .1 .1 .1 .1 .1 .1 .1 .1 .1 .1 .1 .1 .0 in omega (arith, p, m, e)
+    let m = c .before .before .before .before .before .before .before .before .before .before .before .before .before .before .before .before .before .before .before .before .before .before .before .before .before .before .before .before .before .before .before .before .before .before .loop .inv .9 ∙ c .before .before .before .before .before .before .before .before .before .before .before .before .before .before .before .before .before .before .before .before .before .before .before .before .before .before .before .before .before .before .before .before .before .before .before .before .before .before .before .mark-nodes .kept .1 .1 .0 in
+    let e = c .before .before .before .before .before .before .before .before .before .before .before .before .before .before .before .before .before .before .before .before .before .take .kept .1 .1 .1 .1 .1 .1 .1 .1 .1 .1 .1 .0 in omega (arith, c .before .before .before .before .before .before .before .before .before .before .before .before .before .before .before .before .before .before .before .before .before .before .before .before .before .before .before .before .before .before .before .before .before .before .before .before .before .before .before .before .before .before .before .before .before .before .before .before .before .before .before .before .before .pre .1 .places .atMarks, m, e)
 
 loop-less : tie.Need-loop-less Inv-loop μ-loop
 loop-less c =
-    let loop = c .before .before .before .before .before .before .before .before .before .before .before .before .before .before .before .before .before .before .before .before
-    .before .before .before .before .before .before .before .before .before .loop in
-    let p = c .before .before .before .before .before .before .before .before .before .before .before .before .before .before .before .before .before .before .before .before
-    .before .before .before .before .before .before .before .before .before .before .before .before .before .before .before .before .before .before .before .before .before .before
-    .before .before .before .before .before .before .before .before .before .pre .1 .places .atMarks in let m = loop .inv .7
-    ∙ c .before .before .before .before .before .before .before .before .before .before .before .before .before .before .before .before .before .before .before .before .before
-    .before .before .before .before .before .before .before .before .before .before .before .before .before .mark-nodes .kept .1 .1 .0 in taken-less (omega arith)
-    (omega (arith, p, m)) (loop .inv .2 .found (omega arith))
-    (c .before .before .before .before .before .before .before .before .before .before .before .before .before .before .before .before .before .before .take .ensures .1)
+    let m = c .before .before .before .before .before .before .before .before .before .before .before .before .before .before .before .before .before .before .before .before .before .before .before .before .before .before .before .before .before .before .before .before .before .before .before .loop .inv .9 ∙ c .before .before .before .before .before .before .before .before .before .before .before .before .before .before .before .before .before .before .before .before .before .before .before .before .before .before .before .before .before .before .before .before .before .before .before .before .before .before .before .before .mark-nodes .kept .1 .1 .0 in
+    let p = c .before .before .before .before .before .before .before .before .before .before .before .before .before .before .before .before .before .before .before .before .before .before .before .before .before .before .before .before .before .before .before .before .before .before .before .before .before .before .before .before .before .before .before .before .before .before .before .before .before .before .before .before .before .before .pre .1 .places .atMarks in
+    taken-less (omega arith) (omega (arith, p, m)) (c .before .before .before .before .before .before .before .before .before .before .before .before .before .before .before .before .before .before .before .before .before .before .before .before .before .before .before .before .before .before .before .before .before .before .before .loop .inv .2 .found (omega arith)) (c .before .before .before .before .before .before .before .before .before .before .before .before .before .before .before .before .before .before .before .before .before .before .take .ensures .1)
 
 loop-again : tie.Need-loop-again Inv-loop μ-loop
 loop-again c =
-    let p = c .before .before .before .before .before .before .before .before .before .before .before .before .before .before .before .before .before .before .before .before
-    .before .before .before .before .before .before .before .before .before .before .before .before .before .before .before .before .before .before .before .before .before .before
-    .before .before .before .before .before .before .before .before .before .pre .1 .places .atMarks in
-    let m = c .before .before .before .before .before .before .before .before .before .before .before .before .before .before .before .before .before .before .before .before
-    .before .before .before .before .before .before .before .before .before .loop .inv .7 ∙
-    c .before .before .before .before .before .before .before .before .before .before .before .before .before .before .before .before .before .before .before .before .before
-    .before .before .before .before .before .before .before .before .before .before .before .before .before .mark-nodes .kept .1 .1 .0 in (
-      c .before .before .before .before .before .before .before .before .before .before .before .before .before .before .before .before .before .before .take .ensures .0,
-      choosing-next (omega arith) (omega (arith, p, m))
-          (c .before .before .before .before .before .before .before .before .before .before .before .before .before .before .before .before .before .before .before .before .before
-          .before .before .before .before .before .before .before .before .loop .inv .2 .found (omega arith))
-          (c .before .before .before .before .before .before .before .before .before .before .before .before .before .before .before .before .before .before .take .ensures .1)
-          (c .before .before .before .before .before .before .before .before .before .before .before .before .before .before .before .before .before .before .before .before .before
-          .before .before .before .before .before .before .before .before .before .before .before .before .before .before .before .before .before .before .before .before .before .before
-          .before .before .before .before .before .before .before .before .pre .1 .asking .few)
-          (c .before .before .before .before .before .before .before .before .before .before .before .before .before .before .before .before .before .before .before .before .before
-          .before .before .before .before .before .before .before .before .loop .inv .1),
+    let m = c .before .before .before .before .before .before .before .before .before .before .before .before .before .before .before .before .before .before .before .before .before .before .before .before .before .before .before .before .before .before .before .before .before .before .before .loop .inv .9 ∙ c .before .before .before .before .before .before .before .before .before .before .before .before .before .before .before .before .before .before .before .before .before .before .before .before .before .before .before .before .before .before .before .before .before .before .before .before .before .before .before .before .mark-nodes .kept .1 .1 .0 in
+    let p = c .before .before .before .before .before .before .before .before .before .before .before .before .before .before .before .before .before .before .before .before .before .before .before .before .before .before .before .before .before .before .before .before .before .before .before .before .before .before .before .before .before .before .before .before .before .before .before .before .before .before .before .before .before .before .pre .1 .places .atMarks in (
+      c .before .before .before .before .before .before .before .before .before .before .before .before .before .before .before .before .before .before .before .before .before .before .take .ensures .0,
+      choosing-next (omega arith) (omega (arith, p, m)) (c .before .before .before .before .before .before .before .before .before .before .before .before .before .before .before .before .before .before .before .before .before .before .before .before .before .before .before .before .before .before .before .before .before .before .before .loop .inv .2 .found (omega arith)) (c .before .before .before .before .before .before .before .before .before .before .before .before .before .before .before .before .before .before .before .before .before .before .take .ensures .1) (c .before .before .before .before .before .before .before .before .before .before .before .before .before .before .before .before .before .before .before .before .before .before .before .before .before .before .before .before .before .before .before .before .before .before .before .before .before .before .before .before .before .before .before .before .before .before .before .before .before .before .before .before .before .before .pre .1 .asking .few) (c .before .before .before .before .before .before .before .before .before .before .before .before .before .before .before .before .before .before .before .before .before .before .before .before .before .before .before .before .before .before .before .before .before .before .before .loop .inv .1),
       c .pending2 .ensures,
-      c .before .before .before .before .before .before .before .before .before .before .before .before .before .before .before .before .before
-          .before .take .kept .1 .1 .1 .1 .1 .1 .1 .0 ∙
-          c .before .before .before .before .before .before .before .before .before .before .before .before .before .before .before .before .before .before .before .before .before
-          .before .before .before .before .before .before .before .before .loop .inv .3,
-      c .before .before .before .before .before .before .before .before .before .before .before .before .before .before .before .before .before
-          .before .take .kept .1 .1 .1 .1 .1 .1 .1 .1 .0 ∙
-          c .before .before .before .before .before .before .before .before .before .before .before .before .before .before .before .before .before .before .before .before .before
-          .before .before .before .before .before .before .before .before .loop .inv .4,
-      c .before .before .before .before .before .before .before .before .before .before .before .before .before .before .before .before .before
-          .before .take .kept .1 .1 .1 .1 .1 .1 .1 .1 .1 .0 ∙
-          c .before .before .before .before .before .before .before .before .before .before .before .before .before .before .before .before .before .before .before .before .before
-          .before .before .before .before .before .before .before .before .loop .inv .5,
-      c .before .before .before .before .before .before .before .before .before .before .before .before .before .before .before .before .before
-          .before .take .kept .1 .1 .1 .1 .1 .1 .1 .1 .1 .1 .0 ∙
-          c .before .before .before .before .before .before .before .before .before .before .before .before .before .before .before .before .before .before .before .before .before
-          .before .before .before .before .before .before .before .before .loop .inv .6,
-      c .before .before .before .before .before .before .before .before .before .before .before .before .before .before .before .before .before
-          .before .take .kept .1 .1 .1 .1 .1 .1 .1 .1 .1 .1 .1 .1 .1 .1 .0 ∙
-          c .before .before .before .before .before .before .before .before .before .before .before .before .before .before .before .before .before .before .before .before .before
-          .before .before .before .before .before .before .before .before .loop .inv .7,
-      c .before .before .before .before .before .before .before .before .before .before .before .before .before .before .before .before .before
-          .before .take .kept .1 .1 .1 .1 .1 .1 .1 .1 .1 .1 .1 .1 .1 .1 .1 .0 ∙
-          c .before .before .before .before .before .before .before .before .before .before .before .before .before .before .before .before .before .before .before .before .before
-          .before .before .before .before .before .before .before .before .loop .inv .8,
-      c .before .before .before .before .before .before .before .before .before .before .before .before .before .before .before .before .before
-          .before .take .kept .1 .1 .1 .1 .1 .1 .1 .1 .1 .1 .1 .1 .1 .1 .1 .1 .0 ∙
-          c .before .before .before .before .before .before .before .before .before .before .before .before .before .before .before .before .before .before .before .before .before
-          .before .before .before .before .before .before .before .before .loop .inv .9,
-      c .before .before .before .before .before .before .before .before .before .before .before .before .before .before .before .before .before
-          .before .take .kept .1 .1 .1 .1 .1 .1 .1 .1 .1 .1 .1 .1 .1 .1 .1 .1 .1 .0 ∙
-          c .before .before .before .before .before .before .before .before .before .before .before .before .before .before .before .before .before .before .before .before .before
-          .before .before .before .before .before .before .before .before .loop .inv .10,
+      c .before .before .before .before .before .before .before .before .before .before .before .before .before .before .before .before .before .before .before .before .before .before .take .kept .1 .1 .0 ∙ c .before .before .before .before .before .before .before .before .before .before .before .before .before .before .before .before .before .before .before .before .before .before .before .before .before .before .before .before .before .before .before .before .before .before .before .loop .inv .3,
+      c .before .before .before .before .before .before .before .before .before .before .before .before .before .before .before .before .before .before .before .before .before .before .take .kept .1 .1 .1 .0 ∙ c .before .before .before .before .before .before .before .before .before .before .before .before .before .before .before .before .before .before .before .before .before .before .before .before .before .before .before .before .before .before .before .before .before .before .before .loop .inv .4,
+      c .before .before .before .before .before .before .before .before .before .before .before .before .before .before .before .before .before .before .before .before .before .before .take .kept .1 .1 .1 .1 .0 ∙ c .before .before .before .before .before .before .before .before .before .before .before .before .before .before .before .before .before .before .before .before .before .before .before .before .before .before .before .before .before .before .before .before .before .before .before .loop .inv .5,
+      c .before .before .before .before .before .before .before .before .before .before .before .before .before .before .before .before .before .before .before .before .before .before .take .kept .1 .1 .1 .1 .1 .0 ∙ c .before .before .before .before .before .before .before .before .before .before .before .before .before .before .before .before .before .before .before .before .before .before .before .before .before .before .before .before .before .before .before .before .before .before .before .loop .inv .6,
+      c .before .before .before .before .before .before .before .before .before .before .before .before .before .before .before .before .before .before .before .before .before .before .take .kept .1 .1 .1 .1 .1 .1 .0 ∙ c .before .before .before .before .before .before .before .before .before .before .before .before .before .before .before .before .before .before .before .before .before .before .before .before .before .before .before .before .before .before .before .before .before .before .before .loop .inv .7,
+      c .before .before .before .before .before .before .before .before .before .before .before .before .before .before .before .before .before .before .before .before .before .before .take .kept .1 .1 .1 .1 .1 .1 .1 .0 ∙ c .before .before .before .before .before .before .before .before .before .before .before .before .before .before .before .before .before .before .before .before .before .before .before .before .before .before .before .before .before .before .before .before .before .before .before .loop .inv .8,
+      c .before .before .before .before .before .before .before .before .before .before .before .before .before .before .before .before .before .before .before .before .before .before .take .kept .1 .1 .1 .1 .1 .1 .1 .1 .1 .1 .1 .0 ∙ c .before .before .before .before .before .before .before .before .before .before .before .before .before .before .before .before .before .before .before .before .before .before .before .before .before .before .before .before .before .before .before .before .before .before .before .loop .inv .9,
+      c .before .before .before .before .before .before .before .before .before .before .before .before .before .before .before .before .before .before .before .before .before .before .take .kept .1 .1 .1 .1 .1 .1 .1 .1 .1 .1 .1 .1 .0 ∙ c .before .before .before .before .before .before .before .before .before .before .before .before .before .before .before .before .before .before .before .before .before .before .before .before .before .before .before .before .before .before .before .before .before .before .before .loop .inv .10,
+      c .before .before .before .before .before .before .before .before .before .before .before .before .before .before .before .before .before .before .before .before .before .before .take .kept .1 .1 .1 .1 .1 .1 .1 .1 .1 .1 .1 .1 .1 .0 ∙ c .before .before .before .before .before .before .before .before .before .before .before .before .before .before .before .before .before .before .before .before .before .before .before .before .before .before .before .before .before .before .before .before .before .before .before .loop .inv .11,
+      c .before .before .before .before .before .before .before .before .before .before .before .before .before .before .before .before .before .before .before .before .before .before .take .kept .1 .1 .1 .1 .1 .1 .1 .1 .1 .1 .1 .1 .1 .1 .0 ∙ c .before .before .before .before .before .before .before .before .before .before .before .before .before .before .before .before .before .before .before .before .before .before .before .before .before .before .before .before .before .before .before .before .before .before .before .loop .inv .12,
     )
 
 same-length : tie.Need-same-length Inv-loop μ-loop
@@ -147,16 +83,22 @@ same-length-4 : tie.Need-same-length-4 Inv-loop μ-loop
 same-length-4 c = c .before .before .loop .inv .6
 
 same-length-5 : tie.Need-same-length-5 Inv-loop μ-loop
-same-length-5 c = c .before .before .loop .inv .7 ∙ c .before .before .before .before .before .before .before .mark-nodes .kept .1 .1 .0
+same-length-5 c = c .before .before .loop .inv .7
 
 same-length-6 : tie.Need-same-length-6 Inv-loop μ-loop
 same-length-6 c = c .before .before .loop .inv .8
 
 same-length-7 : tie.Need-same-length-7 Inv-loop μ-loop
-same-length-7 c = c .before .before .loop .inv .9
+same-length-7 c = c .before .before .loop .inv .9 ∙ c .before .before .before .before .before .before .before .mark-nodes .kept .1 .1 .0
 
 same-length-8 : tie.Need-same-length-8 Inv-loop μ-loop
 same-length-8 c = c .before .before .loop .inv .10
+
+same-length-9 : tie.Need-same-length-9 Inv-loop μ-loop
+same-length-9 c = c .before .before .loop .inv .11
+
+same-length-10 : tie.Need-same-length-10 Inv-loop μ-loop
+same-length-10 c = c .before .before .loop .inv .12
 
 returns : tie.Need-returns Inv-loop μ-loop
 returns c = (c .before .before .loop .inv .0, choosing-last (c .before .before .loop .inv .1) (λ u h. c .before .before .loop .inv .2 .before u (omega (arith, h))))
@@ -182,4 +124,6 @@ choose-spec =
     same-length-6
     same-length-7
     same-length-8
+    same-length-9
+    same-length-10
     returns)

@@ -11,6 +11,9 @@ use Rattle.cover_roots.specs.RootRoundsLaws.{cut-written}
 use borrow.Author.Needs.{needs}
 use Rattle.cover_roots.proofs.cut_of.Statement.{statement}
 use Rattle.cover_roots.proofs.cut_of.Tie as tie
+use Rattle.cover_roots.proofs.cut_of.Reads as reads
+use Rattle.cover_roots.proofs.cut_of.Lts as lts
+use Rattle.cut_question.proofs.chosen.Reads as chosen-reads
 
 add-v : tie.Need-add-v
 add-v c = search needs
@@ -52,16 +55,15 @@ part-chosen-end-2 : tie.Need-part-chosen-end-2
 part-chosen-end-2 c = search needs
 
 chosen-requires : tie.Need-chosen-requires
-chosen-requires c κs =
-    let start = c .before .before .before .before .before .before .before .before .before .before .before .before .before .before .before .before .before .before .before .before in (
-      start .pre .0,
-      (
-        asks-of (start .args .g) (start .pre .1 .0) (start .pre .1 .1),
-        takes-of (start .pre .1 .0)
-            (part-length (stride * start .args .g) (now (start .args .nodes)) (let l = start .pre .1 .1 in let m = start .pre .1 .2 in omega arith))
-            (part-length (stride * start .args .g) (now (start .args .backs)) (let l = start .pre .1 .1 in let m = start .pre .1 .3 in omega arith)),
-      ),
-    )
+chosen-requires c κs = (
+  c .before .before .before .before .before .before .before .before .before .before .before .before .before .before .before .before .before .before .before .pre .0,
+  (
+    asks-of (c .before .before .before .before .before .before .before .before .before .before .before .before .before .before .before .before .before .before .before .args .g) (c .before .before .before .before .before .before .before .before .before .before .before .before .before .before .before .before .before .before .before .pre .1 .0) (c .before .before .before .before .before .before .before .before .before .before .before .before .before .before .before .before .before .before .before .pre .1 .1),
+    takes-of (c .before .before .before .before .before .before .before .before .before .before .before .before .before .before .before .before .before .before .before .pre .1 .0)
+        (part-length (stride * c .before .before .before .before .before .before .before .before .before .before .before .before .before .before .before .before .before .before .before .args .g) (now (c .before .before .before .before .before .before .before .before .before .before .before .before .before .before .before .before .before .before .before .args .nodes)) (let l = c .before .before .before .before .before .before .before .before .before .before .before .before .before .before .before .before .before .before .before .pre .1 .1 in let m = c .before .before .before .before .before .before .before .before .before .before .before .before .before .before .before .before .before .before .before .pre .1 .2 in omega arith))
+        (part-length (stride * c .before .before .before .before .before .before .before .before .before .before .before .before .before .before .before .before .before .before .before .args .g) (now (c .before .before .before .before .before .before .before .before .before .before .before .before .before .before .before .before .before .before .before .args .backs)) (let l = c .before .before .before .before .before .before .before .before .before .before .before .before .before .before .before .before .before .before .before .pre .1 .1 in let m = c .before .before .before .before .before .before .before .before .before .before .before .before .before .before .before .before .before .before .before .pre .1 .3 in omega arith)),
+  ),
+)
 
 same-length : tie.Need-same-length
 same-length c = search needs
@@ -81,21 +83,23 @@ same-length-5 c = search needs
 same-length-6 : tie.Need-same-length-6
 same-length-6 c = search needs
 
+same-length-7 : tie.Need-same-length-7
+same-length-7 c = search needs
+
+same-length-8 : tie.Need-same-length-8
+same-length-8 c = search needs
+
 returns : tie.Need-returns
-returns c =
-    let chosen = c .before .before .before .before .before .before .before .before .before .before .before .before .chosen in
-    let start = c .before .before .before .before .before .before .before .before .before .before .before .before .before .before .before .before .before .before .before .before
-    .before .before .before .before .before .before .before .before .before .before .before .before .before in (
-      chosen .ensures .0,
-      cut-written (start .args .g) (start .pre .1 .0) (start .pre .1 .1)
-          (let l = start .pre .1 .1 in let m = start .pre .1 .2 in omega arith) (let l = start .pre .1 .1 in let m = start .pre .1 .3 in
-          omega arith) (chosen .kept .1 .1 .1 .1 .1 .1 .1 .1 .1 .1 .1 .0 ∙ part-length (stride * start .args .g) (now (start .args .nodes))
-          (let l = start .pre .1 .1 in let m = start .pre .1 .2 in omega arith))
-          (chosen .kept .1 .1 .1 .1 .1 .1 .1 .1 .1 .1 .1 .1 .0 ∙ part-length (stride * start .args .g) (now (start .args .backs))
-          (let l = start .pre .1 .1 in let m = start .pre .1 .3 in omega arith)) (chosen .ensures .1 .0) (chosen .ensures .1 .1)
-          (back (labelIn (now (start .args .labels)) (start .args .s .inputs + start .args .g))
-          (small-fits (labelIn (now (start .args .labels)) (start .args .s .inputs + start .args .g)) (start .pre .1 .0 .small (start .args .s .inputs + start .args .g)))),
-    )
+returns c = (
+  c .before .before .before .before .before .before .before .before .before .before .before .before .before .before .before .before .chosen .ensures .0,
+  cut-written (c .before .before .before .before .before .before .before .before .before .before .before .before .before .before .before .before .before .before .before .before .before .before .before .before .before .before .before .before .before .before .before .before .before .before .before .before .args .g) (c .before .before .before .before .before .before .before .before .before .before .before .before .before .before .before .before .before .before .before .before .before .before .before .before .before .before .before .before .before .before .before .before .before .before .before .before .pre .1 .0) (c .before .before .before .before .before .before .before .before .before .before .before .before .before .before .before .before .before .before .before .before .before .before .before .before .before .before .before .before .before .before .before .before .before .before .before .before .pre .1 .1)
+      (let l = c .before .before .before .before .before .before .before .before .before .before .before .before .before .before .before .before .before .before .before .before .before .before .before .before .before .before .before .before .before .before .before .before .before .before .before .before .pre .1 .1 in let m = c .before .before .before .before .before .before .before .before .before .before .before .before .before .before .before .before .before .before .before .before .before .before .before .before .before .before .before .before .before .before .before .before .before .before .before .before .pre .1 .2 in omega arith) (let l = c .before .before .before .before .before .before .before .before .before .before .before .before .before .before .before .before .before .before .before .before .before .before .before .before .before .before .before .before .before .before .before .before .before .before .before .before .pre .1 .1 in let m = c .before .before .before .before .before .before .before .before .before .before .before .before .before .before .before .before .before .before .before .before .before .before .before .before .before .before .before .before .before .before .before .before .before .before .before .before .pre .1 .3 in omega arith)
+      (c .before .before .before .before .before .before .before .before .before .before .before .before .before .before .before .before .chosen .kept .1 .1 .1 .1 .1 .1 .1 .1 .0 ∙ part-length (stride * c .before .before .before .before .before .before .before .before .before .before .before .before .before .before .before .before .before .before .before .before .before .before .before .before .before .before .before .before .before .before .before .before .before .before .before .before .args .g) (now (c .before .before .before .before .before .before .before .before .before .before .before .before .before .before .before .before .before .before .before .before .before .before .before .before .before .before .before .before .before .before .before .before .before .before .before .before .args .nodes)) (let l = c .before .before .before .before .before .before .before .before .before .before .before .before .before .before .before .before .before .before .before .before .before .before .before .before .before .before .before .before .before .before .before .before .before .before .before .before .pre .1 .1 in let m = c .before .before .before .before .before .before .before .before .before .before .before .before .before .before .before .before .before .before .before .before .before .before .before .before .before .before .before .before .before .before .before .before .before .before .before .before .pre .1 .2 in omega arith))
+      (c .before .before .before .before .before .before .before .before .before .before .before .before .before .before .before .before .chosen .kept .1 .1 .1 .1 .1 .1 .1 .1 .1 .0 ∙ part-length (stride * c .before .before .before .before .before .before .before .before .before .before .before .before .before .before .before .before .before .before .before .before .before .before .before .before .before .before .before .before .before .before .before .before .before .before .before .before .args .g) (now (c .before .before .before .before .before .before .before .before .before .before .before .before .before .before .before .before .before .before .before .before .before .before .before .before .before .before .before .before .before .before .before .before .before .before .before .before .args .backs)) (let l = c .before .before .before .before .before .before .before .before .before .before .before .before .before .before .before .before .before .before .before .before .before .before .before .before .before .before .before .before .before .before .before .before .before .before .before .before .pre .1 .1 in let m = c .before .before .before .before .before .before .before .before .before .before .before .before .before .before .before .before .before .before .before .before .before .before .before .before .before .before .before .before .before .before .before .before .before .before .before .before .pre .1 .3 in omega arith))
+      (c .before .before .before .before .before .before .before .before .before .before .before .before .before .before .before .before .chosen .ensures .1 .0) (c .before .before .before .before .before .before .before .before .before .before .before .before .before .before .before .before .chosen .ensures .1 .1)
+      (back (labelIn (now (c .before .before .before .before .before .before .before .before .before .before .before .before .before .before .before .before .before .before .before .before .before .before .before .before .before .before .before .before .before .before .before .before .before .before .before .before .args .labels)) (c .before .before .before .before .before .before .before .before .before .before .before .before .before .before .before .before .before .before .before .before .before .before .before .before .before .before .before .before .before .before .before .before .before .before .before .before .args .s .inputs + c .before .before .before .before .before .before .before .before .before .before .before .before .before .before .before .before .before .before .before .before .before .before .before .before .before .before .before .before .before .before .before .before .before .before .before .before .args .g))
+      (small-fits (labelIn (now (c .before .before .before .before .before .before .before .before .before .before .before .before .before .before .before .before .before .before .before .before .before .before .before .before .before .before .before .before .before .before .before .before .before .before .before .before .args .labels)) (c .before .before .before .before .before .before .before .before .before .before .before .before .before .before .before .before .before .before .before .before .before .before .before .before .before .before .before .before .before .before .before .before .before .before .before .before .args .s .inputs + c .before .before .before .before .before .before .before .before .before .before .before .before .before .before .before .before .before .before .before .before .before .before .before .before .before .before .before .before .before .before .before .before .before .before .before .before .args .g)) (c .before .before .before .before .before .before .before .before .before .before .before .before .before .before .before .before .before .before .before .before .before .before .before .before .before .before .before .before .before .before .before .before .before .before .before .before .pre .1 .0 .small (c .before .before .before .before .before .before .before .before .before .before .before .before .before .before .before .before .before .before .before .before .before .before .before .before .before .before .before .before .before .before .before .before .before .before .before .before .args .s .inputs + c .before .before .before .before .before .before .before .before .before .before .before .before .before .before .before .before .before .before .before .before .before .before .before .before .before .before .before .before .before .before .before .before .before .before .before .before .args .g)))),
+)
 
 pub cut-of-spec : {M : Type 1} → statement M
 cut-of-spec =
@@ -121,4 +125,6 @@ cut-of-spec =
     same-length-4
     same-length-5
     same-length-6
+    same-length-7
+    same-length-8
     returns)

@@ -3,23 +3,22 @@ use native.Mathlib.Omega.{arith}
 use borrow.Author.Needs.{needs}
 use Rattle.cover_roots.proofs.take.Statement.{statement}
 use Rattle.cover_roots.proofs.take.Tie as tie
+use Rattle.cover_roots.proofs.take.Reads as reads
+use Rattle.cover_roots.proofs.take.Lts as lts
+use Rattle.cover_roots.proofs.cut_of.Reads as cut-of-reads
+use Rattle.cover_roots.proofs.store.Reads as store-reads
 
 cut-of-requires : tie.Need-cut-of-requires
-cut-of-requires c κs =
-    let start = c .before .before .before .before .before .before .before .before .before .before .before .before .before .before .before .before .before .before .before .before in
-    (start .pre .0, (start .pre .1 .0, start .pre .1 .1, start .pre .1 .2 .atNodes, start .pre .1 .2 .atBacks))
+cut-of-requires c κs = (c .before .before .before .before .before .before .before .before .before .before .before .before .before .before .before .before .before .before .before .pre .0, (c .before .before .before .before .before .before .before .before .before .before .before .before .before .before .before .before .before .before .before .pre .1 .0, c .before .before .before .before .before .before .before .before .before .before .before .before .before .before .before .before .before .before .before .pre .1 .1, c .before .before .before .before .before .before .before .before .before .before .before .before .before .before .before .before .before .before .before .pre .1 .2 .atNodes, c .before .before .before .before .before .before .before .before .before .before .before .before .before .before .before .before .before .before .before .pre .1 .2 .atBacks))
 
 store-requires : tie.Need-store-requires
-store-requires c κs =
-    let start = c .before .before .before .before .before .before .before .before .before .before .before .before .before .before .before .before .before .before .before .before
-    .before .before .before .before .before .before .before .before .before .before .before .before .before .before .before .before in (
-      start .pre .1 .0 .few,
-      start .pre .1 .1,
-      start .pre .1 .2 .atMarks,
-      start .pre .1 .2 .atSizes,
-      let e = c .before .before .before .before .before .before .before .before .before .before .before .before .before .before
-          .before .cut-of .kept .1 .1 .1 .1 .1 .1 .1 .1 .1 .1 .1 .1 .1 .1 .0 in omega (arith, e, start .pre .1 .2 .atNodes),
-    )
+store-requires c κs = (
+  c .before .before .before .before .before .before .before .before .before .before .before .before .before .before .before .before .before .before .before .before .before .before .before .before .before .before .before .before .before .before .before .before .before .before .before .before .before .before .before .pre .1 .0 .few,
+  c .before .before .before .before .before .before .before .before .before .before .before .before .before .before .before .before .before .before .before .before .before .before .before .before .before .before .before .before .before .before .before .before .before .before .before .before .before .before .before .pre .1 .1,
+  c .before .before .before .before .before .before .before .before .before .before .before .before .before .before .before .before .before .before .before .before .before .before .before .before .before .before .before .before .before .before .before .before .before .before .before .before .before .before .before .pre .1 .2 .atMarks,
+  c .before .before .before .before .before .before .before .before .before .before .before .before .before .before .before .before .before .before .before .before .before .before .before .before .before .before .before .before .before .before .before .before .before .before .before .before .before .before .before .pre .1 .2 .atSizes,
+  let e = c .before .before .before .before .before .before .before .before .before .before .before .before .before .before .before .before .before .before .before .cut-of .kept .1 .1 .1 .1 .1 .1 .1 .1 .1 .1 .1 .0 in omega (arith, e, c .before .before .before .before .before .before .before .before .before .before .before .before .before .before .before .before .before .before .before .before .before .before .before .before .before .before .before .before .before .before .before .before .before .before .before .before .before .before .before .pre .1 .2 .atNodes),
+)
 
 same-length : tie.Need-same-length
 same-length c = search needs
@@ -45,10 +44,14 @@ same-length-7 c = search needs
 same-length-8 : tie.Need-same-length-8
 same-length-8 c = search needs
 
+same-length-9 : tie.Need-same-length-9
+same-length-9 c = search needs
+
+same-length-10 : tie.Need-same-length-10
+same-length-10 c = search needs
+
 returns : tie.Need-returns
-returns c =
-    let cut-of = c .before .before .before .before .before .before .before .before .before .before .before .before .before .before .before .before .before .before .before .before .cut-of in
-    (cut-of .ensures .0, record { count = cut-of .result; cut = cut-of .ensures .1; stored = c .before .before .before .before .store .ensures })
+returns c = (c .before .before .before .before .before .before .before .before .before .before .before .before .before .before .before .before .before .before .before .before .before .before .before .before .cut-of .ensures .0, record { count = c .before .before .before .before .before .before .before .before .before .before .before .before .before .before .before .before .before .before .before .before .before .before .before .before .cut-of .result; cut = c .before .before .before .before .before .before .before .before .before .before .before .before .before .before .before .before .before .before .before .before .before .before .before .before .cut-of .ensures .1; stored = c .before .before .before .before .store .ensures })
 
 pub take-spec : {M : Type 1} → statement M
 take-spec =
@@ -64,4 +67,6 @@ take-spec =
     same-length-6
     same-length-7
     same-length-8
+    same-length-9
+    same-length-10
     returns)

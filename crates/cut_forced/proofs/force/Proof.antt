@@ -1,14 +1,15 @@
--- `cut_forced::force` meets its contract: the root is marked and listed, and the rest grows from it.
-use mathlib.Core.Path.{subst, _∙_}
-use Prim.Native.Nat.{_+_, _*_}
+-- `cut_forced::force` meets its contract: the root is put into its slot and listed, and the rest grows from it.
+use mathlib.Core.Path.{subst}
+use mathlib.Core.List.{[]}
+use Prim.Native.Nat.{_+_}
 use native.Mathlib.Omega.{arith}
 use lib.IntN.{ℤ}
-use lib.ListN.{length-set}
 use mir.Syntax.{w64}
 use mir.Val.{toZ, ofZ}
 use Rattle.signed.specs.RangeLaws.{back}
-use Rattle.cut_forced.specs.Forcing.{wires, target, ForceTold}
-use Rattle.cut_forced.specs.GrowLaws.{root-inside, growing-start}
+use Rattle.cut_circuit.specs.Packed.{packedOf}
+use Rattle.cut_forced.specs.Forcing.{target, ForceTold}
+use Rattle.cut_forced.specs.GrowLaws.{root-fits, root-held, members-inside, growing-root}
 use borrow.Author.Needs.{needs}
 use Rattle.cut_forced.proofs.force.Statement.{statement}
 use Rattle.cut_forced.proofs.force.Tie as tie
@@ -17,27 +18,42 @@ add-x : tie.Need-add-x
 add-x c = search needs
 
 mul-x : tie.Need-mul-x
-mul-x c = omega (arith, root-inside (c .before .before .before .before .before .before .before .pre), c .before .before .before .before .before .before .before .good)
+mul-x c = omega (arith, root-fits (c .before .before .before .before .before .pre))
 
-slice-write-inside : tie.Need-slice-write-inside
-slice-write-inside c = root-inside (c .before .before .before .before .before .before .before .pre)
+hold-requires : tie.Need-hold-requires
+hold-requires c κs = root-held (c .before .before .before .before .before .before .pre)
 
-slice-write-members : tie.Need-slice-write-members
-slice-write-members c = search needs
+put-number-requires : tie.Need-put-number-requires
+put-number-requires c κs =
+    let start = c .before .before .before .before .before .before .before .before .before .before in
+    (members-inside (start .pre), root-fits (start .pre))
 
 grow-requires : tie.Need-grow-requires
-grow-requires c κs = record { ground = c .before .before .before .before .before .before .before .before .before .pre .ground; root = c .before .before .before .before .before .before .before .before .before .args .s .inputs + c .before .before .before .before .before .before .before .before .before .args .g; growing = growing-start (c .before .before .before .before .before .before .before .before .before .pre) (toZ w64 (ofZ w64 (c .before .before .before .before .before .before .before .before .before .args .h))) }
+grow-requires c κs =
+    let start = c .before .before .before .before .before .before .before .before .before .before .before .before .before .before .before in
+    record {
+      ground = start .pre .ground;
+      root = start .args .s .inputs + start .args .g;
+      growing = growing-root (start .pre) (toZ w64 (ofZ w64 (start .args .h))) (c .before .before .before .before .before .before .before .before .hold .ensures)
+          (c .before .before .before .before .put-number .ensures);
+    }
 
 same-length : tie.Need-same-length
-same-length c = c .before .before .before .before .grow .kept .1 .1 .1 .1 .0 ∙ length-set (c .before .before .before .before .before .before .before .before .before .before .before .before .before .before .args .inside .now) ((c .before .before .before .before .before .before .before .before .before .before .before .before .before .before .args .s .inputs + c .before .before .before .before .before .before .before .before .before .before .before .before .before .before .args .g) * c .before .before .before .before .before .before .before .before .before .before .before .before .before .before .args .s .width) 1
+same-length c = search needs
 
 same-length-2 : tie.Need-same-length-2
-same-length-2 c = c .before .before .before .before .grow .kept .1 .1 .1 .1 .1 .0 ∙ length-set (c .before .before .before .before .before .before .before .before .before .before .before .before .before .before .args .members .now) 0 ((c .before .before .before .before .before .before .before .before .before .before .before .before .before .before .args .s .inputs + c .before .before .before .before .before .before .before .before .before .before .before .before .before .before .args .g) * c .before .before .before .before .before .before .before .before .before .before .before .before .before .before .args .s .width)
+same-length-2 c = search needs
 
 returns : tie.Need-returns
 returns c =
-    subst (λ (z : ℤ). ForceTold (wires (c .before .before .before .before .before .before .before .before .before .before .before .before .before .before .args .s .inputs) (c .before .before .before .before .before .before .before .before .before .before .before .before .before .before .args .s .gates) (c .before .before .before .before .before .before .before .before .before .before .before .before .before .before .args .s .width) (c .before .before .before .before .before .before .before .before .before .before .before .before .before .before .args .s .border) (c .before .before .before .before .before .before .before .before .before .before .before .before .before .before .args .pins .now) (c .before .before .before .before .before .before .before .before .before .before .before .before .before .before .args .sources .now) (c .before .before .before .before .before .before .before .before .before .before .before .before .before .before .args .counts .now)) (target (c .before .before .before .before .before .before .before .before .before .before .before .before .before .before .args .labels .now) (c .before .before .before .before .before .before .before .before .before .before .before .before .before .before .args .phi) (c .before .before .before .before .before .before .before .before .before .before .before .before .before .before .args .s .inputs + c .before .before .before .before .before .before .before .before .before .before .before .before .before .before .args .g) z) (c .before .before .before .before .before .before .before .before .before .before .before .before .before .before .args .most) (c .before .before .before .before .grow .last .1 .1 .1 .1 .0) (c .before .before .before .before .grow .last .1 .1 .1 .1 .1 .0) (c .before .before .before .before .grow .result)) (back (c .before .before .before .before .before .before .before .before .before .before .before .before .before .before .args .h) (c .before .before .before .before .before .before .before .before .before .before .before .before .before .before .fits .h))
-    (c .before .before .before .before .grow .ensures (c .before .before .before .before .before .before .before .before .before .before .before .before .before .before .args .s .inputs + c .before .before .before .before .before .before .before .before .before .before .before .before .before .before .args .g) (growing-start (c .before .before .before .before .before .before .before .before .before .before .before .before .before .before .pre) (toZ w64 (ofZ w64 (c .before .before .before .before .before .before .before .before .before .before .before .before .before .before .args .h)))))
+    let grow = c .before .before .before .before .grow in
+    let start = c .before .before .before .before .before .before .before .before .before .before .before .before .before .before .before .before .before .before .before .before in
+    let v = start .args .s .inputs + start .args .g in
+    subst (λ (z : ℤ). ForceTold (packedOf (start .args .s) (start .args .net .now) []) (target (start .args .labels .now) (start .args .phi) v z) (start .args .k)
+    (grow .last .1 .1 .0) (grow .last .1 .1 .1 .0) (grow .result)) (back (start .args .h) (start .fits .h))
+    (grow .ensures v (growing-root (start .pre) (toZ w64 (ofZ w64 (start .args .h)))
+    (c .before .before .before .before .before .before .before .before .before .before .before .before .before .hold .ensures)
+    (c .before .before .before .before .before .before .before .before .before .put-number .ensures)))
 
 pub force-spec : {M : Type 1} → statement M
 force-spec =
@@ -45,8 +61,8 @@ force-spec =
     (tie.spec
     add-x
     mul-x
-    slice-write-inside
-    slice-write-members
+    hold-requires
+    put-number-requires
     grow-requires
     same-length
     same-length-2

@@ -1,57 +1,100 @@
 -- `cut_forced::grow` meets its contract. The loop's invariant: all pins of the first i members are settled.
 use mathlib.Core.Path.{_≡_, refl, sym, subst, _∙_}
-use Prim.Native.Nat.{ℕ, _-_, _≤_}
+use mathlib.Core.List.{[]}
+use Prim.Native.Nat.{ℕ, _-_, _*_, _≤_, _<_}
 use native.Mathlib.Omega.{arith}
 use lib.IntN.{ℤ}
 use lib.ListN.{length}
 use mir.Syntax.{w64}
-use mir.Val.{toZ}
+use mir.Val.{toZ, ofZ}
 use Rattle.signed.specs.RangeLaws.{back}
-use Rattle.cut_forced.specs.Forcing.{wires, target, Growing, Progress, GrowTold}
+use Rattle.cut_circuit.specs.Packed.{packedOf}
+use Rattle.cut_forced.specs.Slots.{marked}
+use Rattle.cut_forced.specs.Forcing.{target, Growing, Told, AllSettled, Progress, GrowTold}
+use Rattle.cut_forced.specs.ForcedPinLaws.{ground-fits}
 use Rattle.cut_forced.specs.GrowLaws.{progress-start, progress-step, progress-end, progress-lost}
 use Rattle.cut_forced.proofs.grow.Statement.{statement}
 use Rattle.cut_forced.proofs.grow.Tie as tie
 
 abbrev Inv-loop : tie.InvT-loop
-Inv-loop s pins sources counts inside₀ members₀ labels phi h most m₀ i₀ inside members m i =
-    (m ≤ most) × ((v : ℕ) → Growing (wires (s .inputs) (s .gates) (s .width) (s .border) pins sources counts) (target labels phi v (toZ w64 h)) most inside₀ members₀ 1
-    → Progress (wires (s .inputs) (s .gates) (s .width) (s .border) pins sources counts) (target labels phi v (toZ w64 h)) most inside members m i)
-    × (length inside ≡ length inside₀) × (length members ≡ length members₀)
+Inv-loop s net slots₀ members₀ labels phi h k most m₀ i₀ slots members m i =
+    (m ≤ k * s .gates) × ((v : ℕ) → Growing (packedOf s net []) (target labels phi v (toZ w64 h)) k slots₀ members₀ 1
+    → Progress (packedOf s net []) (target labels phi v (toZ w64 h)) k slots members m i)
+    × (length slots ≡ length slots₀) × (length members ≡ length members₀)
 
 abbrev μ-loop : tie.MeasureT-loop
-μ-loop s pins sources counts inside₀ members₀ labels phi h most m₀ i₀ inside members m i = most - i
+μ-loop s net slots₀ members₀ labels phi h k most m₀ i₀ slots members m i = k * s .gates - i
+
+mul-most : tie.Need-mul-most Inv-loop μ-loop
+mul-most c = omega (arith, ground-fits (c .before .before .before .before .pre .ground))
 
 loop-holds : tie.Need-loop-holds Inv-loop μ-loop
-loop-holds c = (c .before .before .before .before .before .pre .growing .few, λ v G. progress-start G, refl, refl)
+loop-holds c = (c .before .before .before .before .pre .growing .few, λ v G. progress-start G, refl, refl)
 
-mul-x : tie.Need-mul-x Inv-loop μ-loop
-mul-x c = omega (arith, c .loop-test .taken, c .before .loop .inv .0, c .before .before .before .before .before .before .before .pre .ground .limit)
-
-slice-read-x : tie.Need-slice-read-x Inv-loop μ-loop
-slice-read-x c = omega (arith, c .before .loop-test .taken, c .before .before .loop .inv .0, c .before .before .before .before .before .before .before .before .pre .ground .limit, c .before .before .before .before .before .before .before .before .pre .growing .space, c .before .before .loop .inv .3)
+number-at-requires : tie.Need-number-at-requires Inv-loop μ-loop
+number-at-requires c κs =
+    omega
+    (arith, c .before .loop-test .taken, c .before .before .loop .inv .0, c .before .before .before .before .before .before .before .pre .growing .space, c .before .before .loop .inv .3)
 
 force-pins-requires : tie.Need-force-pins-requires Inv-loop μ-loop
-force-pins-requires c κs = let w = c .before .before .before .before .loop .inv .1 (c .before .before .before .before .before .before .before .before .before .before .pre .root) (subst (λ (z : ℤ). Growing (wires (c .before .before .before .before .before .before .before .before .before .before .args .s .inputs) (c .before .before .before .before .before .before .before .before .before .before .args .s .gates) (c .before .before .before .before .before .before .before .before .before .before .args .s .width) (c .before .before .before .before .before .before .before .before .before .before .args .s .border) (c .before .before .before .before .before .before .before .before .before .before .args .pins .now) (c .before .before .before .before .before .before .before .before .before .before .args .sources .now) (c .before .before .before .before .before .before .before .before .before .before .args .counts .now)) (target (c .before .before .before .before .before .before .before .before .before .before .args .labels .now) (c .before .before .before .before .before .before .before .before .before .before .args .phi) (c .before .before .before .before .before .before .before .before .before .before .pre .root) z) (c .before .before .before .before .before .before .before .before .before .before .args .most) (c .before .before .before .before .before .before .before .before .before .before .args .inside .now) (c .before .before .before .before .before .before .before .before .before .before .args .members .now) 1) (sym (back (c .before .before .before .before .before .before .before .before .before .before .args .h) (c .before .before .before .before .before .before .before .before .before .before .fits .h))) (c .before .before .before .before .before .before .before .before .before .before .pre .growing)) in record { ground = c .before .before .before .before .before .before .before .before .before .before .pre .ground; root = c .before .before .before .before .before .before .before .before .before .before .pre .root; growing = w .growing; member = w .growing .listed (c .before .before .before .before .loop .i) (c .before .before .before .loop-test .taken) }
+force-pins-requires c κs =
+    let loop = c .before .before .before .before .before .loop in
+    let start = c .before .before .before .before .before .before .before .before .before .before in
+    let W = packedOf (start .args .s) (start .args .net .now) [] in
+    let w = loop .inv .1 (start .pre .root) (subst (λ (z : ℤ). Growing W (target (start .args .labels .now) (start .args .phi) (start .pre .root) z) (start .args .k)
+    (start .args .slots .now) (start .args .members .now) 1) (sym (back (start .args .h) (start .fits .h))) (start .pre .growing)) in
+    record {
+      ground = start .pre .ground;
+      root = start .pre .root;
+      growing = w .growing;
+      member = subst (λ (x : ℕ). 0 < marked W (loop .slots) x) (sym (c .before .before .number-at .ensures)) (w .growing .listed (loop .i)
+          (c .before .before .before .before .loop-test .taken));
+    }
 
 same-length : tie.Need-same-length Inv-loop μ-loop
-same-length c = c .before .before .before .before .before .force-pins .kept .1 .1 .1 .1 .0 ∙ c .before .before .before .before .before .before .before .before .before .before .loop .inv .2
+same-length c =
+    c .before .before .before .before .before .force-pins .kept .1 .1 .0 ∙ c .before .before .before .before .before .before .before .before .before .before .before .loop .inv .2
 
 same-length-2 : tie.Need-same-length-2 Inv-loop μ-loop
-same-length-2 c = c .before .before .before .before .before .force-pins .kept .1 .1 .1 .1 .1 .0 ∙ c .before .before .before .before .before .before .before .before .before .before .loop .inv .3
+same-length-2 c =
+    c .before .before .before .before .before .force-pins .kept .1 .1 .1 .0 ∙ c .before .before .before .before .before .before .before .before .before .before .before .loop .inv .3
 
 returns : tie.Need-returns Inv-loop μ-loop
 returns c =
-    subst (λ (z : ℤ). GrowTold (wires (c .before .before .before .before .before .before .before .before .before .before .before .before .before .before .before .before .args .s .inputs) (c .before .before .before .before .before .before .before .before .before .before .before .before .before .before .before .before .args .s .gates) (c .before .before .before .before .before .before .before .before .before .before .before .before .before .before .before .before .args .s .width) (c .before .before .before .before .before .before .before .before .before .before .before .before .before .before .before .before .args .s .border) (c .before .before .before .before .before .before .before .before .before .before .before .before .before .before .before .before .args .pins .now) (c .before .before .before .before .before .before .before .before .before .before .before .before .before .before .before .before .args .sources .now) (c .before .before .before .before .before .before .before .before .before .before .before .before .before .before .before .before .args .counts .now)) (c .before .before .before .before .before .before .before .before .before .before .before .before .before .before .before .before .args .labels .now) (c .before .before .before .before .before .before .before .before .before .before .before .before .before .before .before .before .args .phi) z (c .before .before .before .before .before .before .before .before .before .before .before .before .before .before .before .before .args .most) (c .before .before .before .before .before .before .before .before .before .before .before .before .before .before .before .before .args .inside .now) (c .before .before .before .before .before .before .before .before .before .before .before .before .before .before .before .before .args .members .now) (c .before .before .before .before .before .force-pins .last .1 .1 .1 .1 .0) (c .before .before .before .before .before .force-pins .last .1 .1 .1 .1 .1 .0) (c .before .before .before .before .before .force-pins .result)) (back (c .before .before .before .before .before .before .before .before .before .before .before .before .before .before .before .before .args .h) (c .before .before .before .before .before .before .before .before .before .before .before .before .before .before .before .before .fits .h))
-    (λ v G. let w = c .before .before .before .before .before .before .before .before .before .before .loop .inv .1 v G in progress-lost (c .if1 .taken) (c .before .before .before .before .before .force-pins .ensures v (w .growing)))
+    let force-pins = c .before .before .before .before .before .force-pins in
+    let start = c .before .before .before .before .before .before .before .before .before .before .before .before .before .before .before .before in
+    let W = packedOf (start .args .s) (start .args .net .now) [] in
+    subst (λ (z : ℤ). GrowTold W (start .args .labels .now) (start .args .phi) z (start .args .k) (start .args .slots .now) (start .args .members .now)
+    (force-pins .last .1 .1 .0) (force-pins .last .1 .1 .1 .0) (force-pins .result)) (back (start .args .h) (start .fits .h))
+    (λ v G. let w = c .before .before .before .before .before .before .before .before .before .before .before .loop .inv .1 v G in progress-lost (c .if1 .taken)
+    (force-pins .ensures v (w .growing)))
 
 add-i : tie.Need-add-i Inv-loop μ-loop
-add-i c = omega (arith, c .before .before .before .before .before .before .before .before .before .loop-test .taken, c .before .before .before .before .before .before .before .before .before .before .loop .inv .0, c .before .before .before .before .before .before .before .before .before .before .before .before .before .before .before .before .pre .ground .limit)
+add-i c =
+    omega
+    (arith, c .before .before .before .before .before .before .before .before .before .before .loop-test .taken, c .before .before .before .before .before .before .before .before .before .before .before .loop .inv .0, ground-fits (c .before .before .before .before .before .before .before .before .before .before .before .before .before .before .before .before .pre .ground))
 
 loop-less : tie.Need-loop-less Inv-loop μ-loop
-loop-less c = omega (arith, c .before .before .before .before .before .before .before .before .before .loop-test .taken, c .before .before .before .before .before .before .before .before .before .before .loop .inv .0)
+loop-less c =
+    omega
+    (arith, c .before .before .before .before .before .before .before .before .before .before .loop-test .taken, c .before .before .before .before .before .before .before .before .before .before .before .loop .inv .0)
 
 loop-again : tie.Need-loop-again Inv-loop μ-loop
-loop-again c = (omega (arith, c .if1 .left), (λ v G. let w = c .before .before .before .before .before .before .before .before .before .before .loop .inv .1 v G in progress-step w (c .before .before .before .before .before .before .before .before .before .loop-test .taken) (omega (arith, c .if1 .left)) (c .before .before .before .before .before .force-pins .ensures v (w .growing))), c .before .before .before .before .before .force-pins .kept .1 .1 .1 .1 .0 ∙ c .before .before .before .before .before .before .before .before .before .before .loop .inv .2, c .before .before .before .before .before .force-pins .kept .1 .1 .1 .1 .1 .0 ∙ c .before .before .before .before .before .before .before .before .before .before .loop .inv .3)
+loop-again c =
+    let force-pins = c .before .before .before .before .before .force-pins in
+    let loop = c .before .before .before .before .before .before .before .before .before .before .before .loop in
+    let start = c .before .before .before .before .before .before .before .before .before .before .before .before .before .before .before .before in
+    let W = packedOf (start .args .s) (start .args .net .now) [] in (
+      omega (arith, c .if1 .left),
+      (λ v G.
+          let w = loop .inv .1 v G in
+          let T = target (start .args .labels .now) (start .args .phi) v (toZ w64 (ofZ w64 (start .args .h))) in
+          progress-step w (c .before .before .before .before .before .before .before .before .before .before .loop-test .taken) (omega (arith, c .if1 .left)) (subst (λ
+          (x : ℕ). Told W T (start .args .k) (AllSettled W T x) (loop .slots) (loop .members) (loop .m) (force-pins .last .1 .1 .0) (force-pins .last .1 .1 .1 .0)
+          (force-pins .result)) (c .before .before .before .before .before .before .before .before .number-at .ensures) (force-pins .ensures v (w .growing)))),
+      force-pins .kept .1 .1 .0 ∙ loop .inv .2,
+      force-pins .kept .1 .1 .1 .0 ∙ loop .inv .3,
+    )
 
 same-length-3 : tie.Need-same-length-3 Inv-loop μ-loop
 same-length-3 c = c .before .loop .inv .2
@@ -61,7 +104,9 @@ same-length-4 c = c .before .loop .inv .3
 
 returns-2 : tie.Need-returns-2 Inv-loop μ-loop
 returns-2 c =
-    subst (λ (z : ℤ). GrowTold (wires (c .before .before .before .before .before .before .before .args .s .inputs) (c .before .before .before .before .before .before .before .args .s .gates) (c .before .before .before .before .before .before .before .args .s .width) (c .before .before .before .before .before .before .before .args .s .border) (c .before .before .before .before .before .before .before .args .pins .now) (c .before .before .before .before .before .before .before .args .sources .now) (c .before .before .before .before .before .before .before .args .counts .now)) (c .before .before .before .before .before .before .before .args .labels .now) (c .before .before .before .before .before .before .before .args .phi) z (c .before .before .before .before .before .before .before .args .most) (c .before .before .before .before .before .before .before .args .inside .now) (c .before .before .before .before .before .before .before .args .members .now) (c .before .loop .inside) (c .before .loop .members) (c .before .loop .m)) (back (c .before .before .before .before .before .before .before .args .h) (c .before .before .before .before .before .before .before .fits .h))
+    let start = c .before .before .before .before .before .before in
+    subst (λ (z : ℤ). GrowTold (packedOf (start .args .s) (start .args .net .now) []) (start .args .labels .now) (start .args .phi) z (start .args .k)
+    (start .args .slots .now) (start .args .members .now) (c .before .loop .slots) (c .before .loop .members) (c .before .loop .m)) (back (start .args .h) (start .fits .h))
     (λ v G. progress-end (c .before .loop .inv .1 v G) (c .loop-test .left))
 
 pub grow-spec : {M : Type 1} → statement M
@@ -70,9 +115,9 @@ grow-spec =
     (tie.spec
     Inv-loop
     μ-loop
+    mul-most
     loop-holds
-    mul-x
-    slice-read-x
+    number-at-requires
     force-pins-requires
     same-length
     same-length-2

@@ -30,7 +30,13 @@ mul-no-higher : tie.Need-mul-no-higher
 mul-no-higher c = omega (arith, low-shift (c .before .pre))
 
 no-higher-requires : tie.Need-no-higher-requires
-no-higher-requires c κs = rw (back (labelIn (c .before .args .labels .now) (c .before .args .y / c .before .args .width)) (small-fits (labelIn (c .before .args .labels .now) (c .before .args .y / c .before .args .width)) (c .before .pre .small (c .before .args .y / c .before .args .width)))) (c .before .pre .small (c .before .args .y / c .before .args .width), low-shift (c .before .pre))
+no-higher-requires c κs =
+    rw (back (labelIn (c .before .args .labels .now) (c .before .args .y / c .before .args .width)) (small-fits (labelIn (c .before .args .labels .now)
+    (c .before .args .y / c .before .args .width)) (c .before .pre .small (c .before .args .y / c .before .args .width)))) (
+      c .before .pre .small
+          (c .before .args .y / c .before .args .width),
+      low-shift (c .before .pre),
+    )
 
 returns : tie.Need-returns
 returns c =
@@ -40,8 +46,10 @@ returns c =
     let φ = c .before .before .args .phi in
     let h = c .before .before .args .h in
     let b = back (labelIn ls u) (small-fits (labelIn ls u) (c .before .before .pre .small u)) in
-    let e = subst (λ (z : ℤ). (c .no-higher .result ≡ true → (labelIn ls u -ℤ pos (φ * d)) <ℤ z) × (c .no-higher .result ≡ false → z ≤ℤ (labelIn ls u -ℤ pos (φ * d)))) (back h (c .before .before .fits .h))
-    (subst (λ (z : ℤ). (c .no-higher .result ≡ true → (z -ℤ pos (φ * d)) <ℤ toZ w64 (ofZ w64 h)) × (c .no-higher .result ≡ false → toZ w64 (ofZ w64 h) ≤ℤ (z -ℤ pos (φ * d)))) b (c .no-higher .ensures)) in
+    let e = subst (λ (z : ℤ). (c .no-higher .result ≡ true → (labelIn ls u -ℤ pos (φ * d)) <ℤ z) × (c .no-higher .result ≡ false → z ≤ℤ (labelIn ls u -ℤ pos (φ * d))))
+    (back h (c .before .before .fits .h))
+    (subst (λ (z : ℤ). (c .no-higher .result ≡ true → (z -ℤ pos (φ * d)) <ℤ toZ w64 (ofZ w64 h)) × (c .no-higher .result ≡ false → toZ w64 (ofZ w64 h) ≤ℤ (z -ℤ pos
+    (φ * d)))) b (c .no-higher .ensures)) in
     (λ t. low-yes φ ls h u d (e .0 t), λ t. low-no φ ls h u d (e .1 t))
 
 pub low-spec : {M : Type 1} → statement M

@@ -1,6 +1,15 @@
 -- `job_mark::mark_read` meets its contract: a refusal of the net, or the answer for the record.
 use denote.Ref.{now}
+use mathlib.Core.Path.{sym, ap, _∙_}
+use mathlib.Core.List.{List}
+use Prim.Native.Nat.{ℕ, _≤_}
 use native.Mathlib.Omega.{arith}
+use lib.ListN.{length, getD, take, length-replicate}
+use lib.Seq.{length-take-le}
+use Rattle.limits.specs.Limits.{mostTable}
+use Rattle.sequences.specs.Zeros.{zeros}
+use Rattle.job_plan.specs.Ready.{cleared-part}
+use Rattle.job_plan.specs.Engines.{length-behind}
 use Rattle.job_settle.specs.SettlingLaws.{settled-small}
 use Rattle.job_judge.specs.MarkOutcomeLaws.{net-refused, least-judging}
 use borrow.Author.Needs.{needs}
@@ -22,16 +31,45 @@ returns c =
     net-refused (a .rules) (now (a .cover)) (c .before .before .before .before .least-of .ensures .settled)
     (c .before .if1 .taken) (c .narrow .ensures)
 
+clear-first-requires : tie.Need-clear-first-requires
+clear-first-requires c κs = let s = c .before .before .before .before .before .before .before .before .pre .1 .space in omega (arith, s, c .before .before .before .before .least-of .kept .1 .1 .0)
+
+slice-relend-prefix-judge : tie.Need-slice-relend-prefix-judge
+slice-relend-prefix-judge c =
+    let s = c .before .before .before .before .before .before .before .before .before .before .before .pre .1 .space in
+    let cleared = c .before .before .clear-first in
+    let h : mostTable ≤ length (cleared .last .0) = omega (arith, s, cleared .kept .0, c .before .before .before .before .before .before .before .least-of .kept .1 .1 .0) in
+    h
+
+slice-aggregate-judge : tie.Need-slice-aggregate-judge
+slice-aggregate-judge c =
+    let s = c .before .before .before .before .before .before .before .before .before .before .before .before .pre .1 .space in
+    let cleared = c .before .before .before .clear-first in
+    let h : mostTable ≤ length (cleared .last .0) = omega (arith, s, cleared .kept .0, c .before .before .before .before .before .before .before .before .least-of .kept .1 .1 .0) in
+    sym (length-take-le mostTable (cleared .last .0) h)
+
 judge-requires : tie.Need-judge-requires
 judge-requires c κs =
-    let start = c .before .before .before .before .before .before .before in
-    (start .pre .0, least-judging (start .pre .1 .settling) (c .before .before .before .least-of .ensures) (omega (arith, c .if1 .left)))
+    let start = c .before .before .before .before .before .before .before .before .before .before .before .before in
+    let least = c .before .before .before .before .before .before .before .before .least-of in
+    let cleared = c .before .before .before .clear-first in
+    let e = ap (take mostTable) (cleared .ensures) ∙ cleared-part mostTable (least .last .1 .1 .0) in (
+      start .pre .0,
+      (
+        least-judging (start .pre .1 .settling) (least .ensures) (omega (arith, c .before .before .before .before .before .if1 .left)),
+        (omega (arith, ap length e, length-replicate {A = ℕ} mostTable 0), λ q. ap (λ (x : List ℕ). getD x q 0) e ∙ zeros mostTable q),
+      ),
+    )
 
 same-length-2 : tie.Need-same-length-2
-same-length-2 c = search needs
+same-length-2 c =
+    let s = c .before .before .before .before .before .before .before .before .before .before .before .before .before .before .before .pre .1 .space in
+    let cleared = c .before .before .before .before .before .before .clear-first in
+    let h : mostTable ≤ length (cleared .last .0) = omega (arith, s, cleared .kept .0, c .before .before .before .before .before .before .before .before .before .before .before .least-of .kept .1 .1 .0) in
+    length-behind (c .before .before .judge .last .1 .1 .1 .1 .1 .0) (cleared .last .0) mostTable h (c .before .before .judge .kept .1 .1 .1 .1 .1 .0) ∙ cleared .kept .0 ∙ c .before .before .before .before .before .before .before .before .before .before .before .least-of .kept .1 .1 .0
 
 returns-2 : tie.Need-returns-2
-returns-2 c = search needs
+returns-2 c = c .before .before .judge .ensures .0
 
 pub mark-read-spec : {M : Type 1} → statement M
 mark-read-spec =
@@ -41,6 +79,9 @@ mark-read-spec =
     narrow-requires
     same-length
     returns
+    clear-first-requires
+    slice-relend-prefix-judge
+    slice-aggregate-judge
     judge-requires
     same-length-2
     returns-2)

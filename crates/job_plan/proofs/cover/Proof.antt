@@ -1,6 +1,13 @@
 -- `job_plan::cover` meets its contract: a period, its roots, their tables.
-use mathlib.Core.Path.{refl, _∙_}
-use Rattle.job_plan.specs.Engines.{engine-rest, engine-chooses, engine-tabulates}
+use mathlib.Core.Path.{sym, _∙_}
+use mathlib.Core.List.{List, _++_}
+use Prim.Native.Nat.{ℕ, _+_, _*_, _≤_}
+use native.Mathlib.Omega.{arith}
+use lib.ListN.{length, drop}
+use lib.Seq.{length-take-le}
+use Rattle.cut_circuit.specs.Packed.{sourcesAt, countsAt}
+use Rattle.cone_luts.specs.Luts.{Tabulates, Tabulated}
+use Rattle.job_plan.specs.Engines.{engine-rest, engine-chooses, engine-tabulates, rest-part, clear-behind, length-behind, two-parts, two-wholes}
 use Rattle.job_plan.specs.Covering.{told-none, told-cover}
 use borrow.Author.Needs.{needs}
 use Rattle.job_plan.proofs.cover.Statement.{statement}
@@ -11,136 +18,223 @@ use Rattle.cone_luts.proofs.tabulate.Reads as tabulate-reads
 use Rattle.cover_roots.proofs.choose.Reads as choose-reads
 use Rattle.job_plan.proofs.find_period.Reads as find-period-reads
 
--- src/lib.rt:192:9
+add-end : tie.Need-add-end
+add-end c = search needs
+
+mul-end : tie.Need-mul-end
+mul-end c = search needs
+
 slice-aggregate-find-period : tie.Need-slice-aggregate-find-period
 slice-aggregate-find-period c = search needs
 
--- src/lib.rt:194:9
-slice-aggregate-find-period-2 : tie.Need-slice-aggregate-find-period-2
-slice-aggregate-find-period-2 c = search needs
+slice-relend-prefix-find-period : tie.Need-slice-relend-prefix-find-period
+slice-relend-prefix-find-period c = search needs
 
--- src/lib.rt:195:9
+slice-aggregate-find-period-2 : tie.Need-slice-aggregate-find-period-2
+slice-aggregate-find-period-2 c =
+    let e = c .before .before .before .before .before .before .before .before .before .before .before .before .before .before .before .before .pre .0 in
+    let a = c .before .before .before .before .before .before .before .before .before .before .before .before .before .before .before .before .args in
+    let h : (a .s .inputs + a .s .gates) * a .s .width ≤ length (a .table .now) = omega (arith, e .size, e .fits) in
+    sym (length-take-le ((a .s .inputs + a .s .gates) * a .s .width) (a .table .now) h)
+
 slice-aggregate-find-period-3 : tie.Need-slice-aggregate-find-period-3
 slice-aggregate-find-period-3 c = search needs
 
--- src/lib.rt:184:9
-find-period-requires : tie.Need-find-period-requires
-find-period-requires c κs =
-    let start = c .before .before .before .before .before .before .before .before .before .before .before .before .before .before .before .before .before .before .before .before .before .before in
-    (engine-rest (start .pre .0), start .pre .0 .period)
+slice-aggregate-find-period-4 : tie.Need-slice-aggregate-find-period-4
+slice-aggregate-find-period-4 c = search needs
 
--- src/lib.rt:206:9
+slice-aggregate-find-period-5 : tie.Need-slice-aggregate-find-period-5
+slice-aggregate-find-period-5 c = search needs
+
+slice-aggregate-find-period-6 : tie.Need-slice-aggregate-find-period-6
+slice-aggregate-find-period-6 c = search needs
+
+find-period-requires : tie.Need-find-period-requires
+find-period-requires c κs = (engine-rest (c .before .before .before .before .before .before .before .before .before .before .before .before .before .before .before .before .before .before .before .before .before .pre .0), c .before .before .before .before .before .before .before .before .before .before .before .before .before .before .before .before .before .before .before .before .before .pre .0 .period)
+
 same-length : tie.Need-same-length
 same-length c = search needs
 
--- src/lib.rt:206:9
 same-length-2 : tie.Need-same-length-2
 same-length-2 c = search needs
 
--- src/lib.rt:206:9
 returns : tie.Need-returns
-returns c = told-none (c .before .before .before .before .before .before .before .find-period .ensures .1) (c .if1 .taken)
+returns c = told-none (c .before .before .before .before .before .before .before .before .before .find-period .ensures .1) (c .if1 .taken)
 
--- src/lib.rt:216:9
 slice-aggregate-choose : tie.Need-slice-aggregate-choose
 slice-aggregate-choose c = search needs
 
--- src/lib.rt:218:9
-slice-aggregate-choose-2 : tie.Need-slice-aggregate-choose-2
-slice-aggregate-choose-2 c = search needs
+slice-relend-prefix-choose : tie.Need-slice-relend-prefix-choose
+slice-relend-prefix-choose c =
+    let e = c .before .before .before .before .before .before .before .before .before .before .before .before .before .before .before .before .before .before .before .before .before .before .before .before .before .before .before .before .before .before .before .before .pre .0 in
+    let a = c .before .before .before .before .before .before .before .before .before .before .before .before .before .before .before .before .before .before .before .before .before .before .before .before .before .before .before .before .before .before .before .before .args in
+    let t = a .table .now in
+    let n = (a .s .inputs + a .s .gates) * a .s .width in
+    let h : n ≤ length t = omega (arith, e .size, e .fits) in
+    let x = c .before .before .before .before .before .before .before .before .before .before .find-period .last .1 .1 .1 .0 in
+    let l = length-behind x t n h (c .before .before .before .before .before .before .before .before .before .before .find-period .kept .1 .1 .1 .0) in
+    let k : n ≤ length (x ++ drop n t) = omega arith in
+    k
 
--- src/lib.rt:219:9
+slice-aggregate-choose-2 : tie.Need-slice-aggregate-choose-2
+slice-aggregate-choose-2 c =
+    let e = c .before .before .before .before .before .before .before .before .before .before .before .before .before .before .before .before .before .before .before .before .before .before .before .before .before .before .before .before .before .before .before .before .before .pre .0 in
+    let a = c .before .before .before .before .before .before .before .before .before .before .before .before .before .before .before .before .before .before .before .before .before .before .before .before .before .before .before .before .before .before .before .before .before .args in
+    let t = a .table .now in
+    let n = (a .s .inputs + a .s .gates) * a .s .width in
+    let h : n ≤ length t = omega (arith, e .size, e .fits) in
+    let x = c .before .before .before .before .before .before .before .before .before .before .before .find-period .last .1 .1 .1 .0 in
+    let l = length-behind x t n h (c .before .before .before .before .before .before .before .before .before .before .before .find-period .kept .1 .1 .1 .0) in
+    let k : n ≤ length (x ++ drop n t) = omega arith in
+    sym (length-take-le n (x ++ drop n t) k)
+
 slice-aggregate-choose-3 : tie.Need-slice-aggregate-choose-3
 slice-aggregate-choose-3 c = search needs
 
--- src/lib.rt:208:5
-choose-requires : tie.Need-choose-requires
-choose-requires c κs =
-    let find-period = c .before .before .before .before .before .before .before .before .before .before .before .before .before .before .before .before .find-period in
-    let start = c .before .before .before .before .before .before .before .before .before .before .before .before .before .before .before .before .before .before .before .before
-    .before .before .before .before .before .before .before .before .before .before .before .before .before .before .before .before .before .before .before in
-    (find-period .ensures .0, engine-chooses (start .pre .0) (start .pre .1) (find-period .ensures .1))
+slice-aggregate-choose-4 : tie.Need-slice-aggregate-choose-4
+slice-aggregate-choose-4 c = search needs
 
--- src/lib.rt:230:5
+slice-aggregate-choose-5 : tie.Need-slice-aggregate-choose-5
+slice-aggregate-choose-5 c = search needs
+
+slice-aggregate-choose-6 : tie.Need-slice-aggregate-choose-6
+slice-aggregate-choose-6 c = search needs
+
+choose-requires : tie.Need-choose-requires
+choose-requires c κs = (rest-part _ (c .before .before .before .before .before .before .before .before .before .before .before .before .before .before .before .before .before .before .before .before .find-period .ensures .0), engine-chooses (c .before .before .before .before .before .before .before .before .before .before .before .before .before .before .before .before .before .before .before .before .before .before .before .before .before .before .before .before .before .before .before .before .before .before .before .before .before .before .before .before .before .before .pre .0) (c .before .before .before .before .before .before .before .before .before .before .before .before .before .before .before .before .before .before .before .before .before .before .before .before .before .before .before .before .before .before .before .before .before .before .before .before .before .before .before .before .before .before .pre .1) (c .before .before .before .before .before .before .before .before .before .before .before .before .before .before .before .before .before .before .before .before .find-period .ensures .1))
+
+mul-a : tie.Need-mul-a
+mul-a c = omega (arith, c .before .before .before .before .before .before .before .before .before .before .before .before .before .before .before .before .before .before .before .before .before .before .before .before .before .before .before .before .before .before .before .before .before .before .before .before .before .before .before .before .before .before .before .before .before .before .before .before .before .before .before .before .before .before .before .before .before .before .before .pre .0 .wires .gates)
+
+add-b : tie.Need-add-b
+add-b c = search needs
+
+mul-b : tie.Need-mul-b
+mul-b c = omega (arith, c .before .before .before .before .before .before .before .before .before .before .before .before .before .before .before .before .before .before .before .before .before .before .before .before .before .before .before .before .before .before .before .before .before .before .before .before .before .before .before .before .before .before .before .before .before .before .before .before .before .before .before .before .before .before .before .before .before .before .before .before .pre .0 .wires .gates)
+
+mul-tabulate : tie.Need-mul-tabulate
+mul-tabulate c = omega (arith, c .before .before .before .before .before .before .before .before .before .before .before .before .before .before .before .before .before .before .before .before .before .before .before .before .before .before .before .before .before .before .before .before .before .before .before .before .before .before .before .before .before .before .before .before .before .before .before .before .before .before .before .before .before .before .before .before .before .before .before .before .pre .0 .wires .gates)
+
+sub-tabulate : tie.Need-sub-tabulate
+sub-tabulate c = omega (arith, c .before .before .before .before .before .before .before .before .before .before .before .before .before .before .before .before .before .before .before .before .before .before .before .before .before .before .before .before .before .before .before .before .before .before .before .before .before .before .before .before .before .before .before .before .before .before .before .before .before .before .before .before .before .before .before .before .before .before .before .before .pre .0 .parts)
+
+part-tabulate-start : tie.Need-part-tabulate-start
+part-tabulate-start c = omega (arith, c .before .before .before .before .before .before .before .before .before .before .before .before .before .before .before .before .before .before .before .before .before .before .before .before .before .before .before .before .before .before .before .before .before .before .before .before .before .before .before .before .before .before .before .before .before .before .before .before .before .before .before .before .before .before .before .before .before .before .before .before .pre .0 .parts)
+
+part-tabulate-end : tie.Need-part-tabulate-end
+part-tabulate-end c = search needs
+
+mul-tabulate-2 : tie.Need-mul-tabulate-2
+mul-tabulate-2 c = omega (arith, c .before .before .before .before .before .before .before .before .before .before .before .before .before .before .before .before .before .before .before .before .before .before .before .before .before .before .before .before .before .before .before .before .before .before .before .before .before .before .before .before .before .before .before .before .before .before .before .before .before .before .before .before .before .before .before .before .before .before .before .before .before .pre .0 .wires .gates)
+
+sub-tabulate-2 : tie.Need-sub-tabulate-2
+sub-tabulate-2 c = omega (arith, c .before .before .before .before .before .before .before .before .before .before .before .before .before .before .before .before .before .before .before .before .before .before .before .before .before .before .before .before .before .before .before .before .before .before .before .before .before .before .before .before .before .before .before .before .before .before .before .before .before .before .before .before .before .before .before .before .before .before .before .before .before .pre .0 .parts)
+
+part-tabulate-start-2 : tie.Need-part-tabulate-start-2
+part-tabulate-start-2 c = omega (arith, c .before .before .before .before .before .before .before .before .before .before .before .before .before .before .before .before .before .before .before .before .before .before .before .before .before .before .before .before .before .before .before .before .before .before .before .before .before .before .before .before .before .before .before .before .before .before .before .before .before .before .before .before .before .before .before .before .before .before .before .before .before .pre .0 .parts)
+
+part-tabulate-end-2 : tie.Need-part-tabulate-end-2
+part-tabulate-end-2 c = search needs
+
 tabulate-requires : tie.Need-tabulate-requires
 tabulate-requires c κs =
-    let choose = c .before .before .before .before .before .before .before .before .before .before .before .before .before .before .before .before .before .before .choose in
-    let start = c .before .before .before .before .before .before .before .before .before .before .before .before .before .before .before .before .before .before .before .before
-    .before .before .before .before .before .before .before .before .before .before .before .before .before .before .before .before .before .before .before .before .before .before
-    .before .before .before .before .before .before .before .before .before .before .before .before .before .before .before .before in
-    let k = choose .kept .1 .1 .1 .1 .1 .1 .1 .1 .1 .1 .1 .1 .1 .1 .1 .1 in (
-      engine-tabulates (start .pre .0) (start .pre .1) (k .0) (k .1 .0) (k .1 .1 .0) (k .1 .1 .1 .0)
-          (c .before .before .before .before .before .before .before .before .before .before .before .before .before .before .before .before .before .before .before .before .before
-          .before .before .before .before .before .before .before .before .before .before .before .before .before .before .find-period .ensures .1)
-          (c .before .before .before .before .before .before .before .before .before .before .before .before .before .before .before .before .before .before .before .before .before
-          .before .before .before .before .before .before .before .if1 .left) (choose .ensures .1),
-      start .pre .1 .atLuts,
+    let e = c .before .before .before .before .before .before .before .before .before .before .before .before .before .before .before .before .before .before .before .before .before .before .before .before .before .before .before .before .before .before .before .before .before .before .before .before .before .before .before .before .before .before .before .before .before .before .before .before .before .before .before .before .before .before .before .before .before .before .before .before .before .before .before .before .before .before .before .before .pre .0 in
+    let a = c .before .before .before .before .before .before .before .before .before .before .before .before .before .before .before .before .before .before .before .before .before .before .before .before .before .before .before .before .before .before .before .before .before .before .before .before .before .before .before .before .before .before .before .before .before .before .before .before .before .before .before .before .before .before .before .before .before .before .before .before .before .before .before .before .before .before .before .before .args in
+    let t = a .table .now in
+    let n = (a .s .inputs + a .s .gates) * a .s .width in
+    let h : n ≤ length t = omega (arith, e .size, e .fits) in
+    let x = c .before .before .before .before .before .before .before .before .before .before .before .before .before .before .before .before .before .before .before .before .before .before .before .before .before .before .before .before .before .before .before .before .before .before .before .before .before .before .before .before .before .before .before .before .before .before .find-period .last .1 .1 .1 .0 in
+    let l = length-behind x t n h (c .before .before .before .before .before .before .before .before .before .before .before .before .before .before .before .before .before .before .before .before .before .before .before .before .before .before .before .before .before .before .before .before .before .before .before .before .before .before .before .before .before .before .before .before .before .before .find-period .kept .1 .1 .1 .0) in
+    let k : n ≤ length (x ++ drop n t) = omega arith in
+    let y = c .before .before .before .before .before .before .before .before .before .before .before .before .before .before .before .before .before .before .before .before .before .before .before .before .before .choose .last .1 .1 .1 .0 in
+    let m = length-behind y (x ++ drop n t) n k (c .before .before .before .before .before .before .before .before .before .before .before .before .before .before .before .before .before .before .before .before .before .before .before .before .before .choose .kept .1 .1 .1 .0) in
+    let kept = c .before .before .before .before .before .before .before .before .before .before .before .before .before .before .before .before .before .before .before .before .before .before .before .before .before .choose .kept .1 .1 .1 .1 .1 .1 .1 .1 .1 .1 .1 .1 .1 in
+    let last = c .before .before .before .before .before .before .before .before .before .before .before .before .before .before .before .before .before .before .before .before .before .before .before .before .before .choose .last .1 .1 .1 .1 .1 .1 .1 .1 .1 .1 .1 .1 .1 in (
+      (
+        two-parts (λ (so co : List ℕ). Tabulates (a .s .inputs) (a .s .gates) (a .net .now) so co (a .tables .now) (last .0) (last .1 .0) (last .1 .1 .0) (last .1 .1 .1 .0))
+            (a .net .now) (sourcesAt (a .s .gates)) (countsAt (a .s .gates))
+            (engine-tabulates e (c .before .before .before .before .before .before .before .before .before .before .before .before .before .before .before .before .before .before .before .before .before .before .before .before .before .before .before .before .before .before .before .before .before .before .before .before .before .before .before .before .before .before .before .before .before .before .before .before .before .before .before .before .before .before .before .before .before .before .before .before .before .before .before .before .before .before .before .before .pre .1) (kept .0) (kept .1 .0) (kept .1 .1 .0) (kept .1 .1 .1 .0) (c .before .before .before .before .before .before .before .before .before .before .before .before .before .before .before .before .before .before .before .before .before .before .before .before .before .before .before .before .before .before .before .before .before .before .before .before .before .before .before .before .before .before .before .before .before .before .find-period .ensures .1) (c .before .before .before .before .before .before .before .before .before .before .before .before .before .before .before .before .before .before .before .before .before .before .before .before .before .before .before .before .before .before .before .before .before .before .before .before .before .if1 .left) (c .before .before .before .before .before .before .before .before .before .before .before .before .before .before .before .before .before .before .before .before .before .before .before .before .before .choose .ensures .1)),
+        c .before .before .before .before .before .before .before .before .before .before .before .before .before .before .before .before .before .before .before .before .before .before .before .before .before .before .before .before .before .before .before .before .before .before .before .before .before .before .before .before .before .before .before .before .before .before .before .before .before .before .before .before .before .before .before .before .before .before .before .before .before .before .before .before .before .before .before .before .pre .1 .atLuts,
+      ),
+      (omega (arith, m, l, e .size), clear-behind y (x ++ drop n t) n (c .before .before .before .before .before .before .before .before .before .before .before .before .before .before .before .before .before .before .before .before .before .before .before .before .before .choose .ensures .0 .cleared .zero) (clear-behind x t n (c .before .before .before .before .before .before .before .before .before .before .before .before .before .before .before .before .before .before .before .before .before .before .before .before .before .before .before .before .before .before .before .before .before .before .before .before .before .before .before .before .before .before .before .before .before .before .find-period .ensures .0 .cleared .zero) (e .clear))),
     )
 
--- src/lib.rt:153:1
 same-length-3 : tie.Need-same-length-3
 same-length-3 c =
-    c .before .before .before .before .before .before .before .before .before .before .before .before .before .before .before .before .before .before .before .before
-    .before .choose .kept .1 .1 .1 .1 .1 .1 .1 .1 .0 ∙
-    c .before .before .before .before .before .before .before .before .before .before .before .before .before .before .before .before .before .before .before .before .before
-    .before .before .before .before .before .before .before .before .before .before .before .before .before .before .before .before
-    .before .find-period .kept .1 .1 .1 .1 .1 .1 .1 .1 .0
+    let e = c .before .before .before .before .before .before .before .before .before .before .before .before .before .before .before .before .before .before .before .before .before .before .before .before .before .before .before .before .before .before .before .before .before .before .before .before .before .before .before .before .before .before .before .before .before .before .before .before .before .before .before .before .before .before .before .before .before .before .before .before .before .before .before .before .before .before .before .before .before .before .before .before .before .pre .0 in
+    let a = c .before .before .before .before .before .before .before .before .before .before .before .before .before .before .before .before .before .before .before .before .before .before .before .before .before .before .before .before .before .before .before .before .before .before .before .before .before .before .before .before .before .before .before .before .before .before .before .before .before .before .before .before .before .before .before .before .before .before .before .before .before .before .before .before .before .before .before .before .before .before .before .before .before .args in
+    let t = a .table .now in
+    let n = (a .s .inputs + a .s .gates) * a .s .width in
+    let h : n ≤ length t = omega (arith, e .size, e .fits) in
+    let x = c .before .before .before .before .before .before .before .before .before .before .before .before .before .before .before .before .before .before .before .before .before .before .before .before .before .before .before .before .before .before .before .before .before .before .before .before .before .before .before .before .before .before .before .before .before .before .before .before .before .before .before .find-period .last .1 .1 .1 .0 in
+    let l = length-behind x t n h (c .before .before .before .before .before .before .before .before .before .before .before .before .before .before .before .before .before .before .before .before .before .before .before .before .before .before .before .before .before .before .before .before .before .before .before .before .before .before .before .before .before .before .before .before .before .before .before .before .before .before .before .find-period .kept .1 .1 .1 .0) in
+    let k : n ≤ length (x ++ drop n t) = omega arith in
+    let y = c .before .before .before .before .before .before .before .before .before .before .before .before .before .before .before .before .before .before .before .before .before .before .before .before .before .before .before .before .before .before .choose .last .1 .1 .1 .0 in
+    let m = length-behind y (x ++ drop n t) n k (c .before .before .before .before .before .before .before .before .before .before .before .before .before .before .before .before .before .before .before .before .before .before .before .before .before .before .before .before .before .before .choose .kept .1 .1 .1 .0) in
+    c .before .before .before .before .tabulate .kept .1 .1 .1 .1 .1 .1 .1 .1 .1 .1 .1 .0 ∙ m ∙ l
 
--- src/lib.rt:153:1
 same-length-4 : tie.Need-same-length-4
-same-length-4 c =
-    c .before .before .before .before .before .before .before .before .before .before .before .before .before .before .before .before .before .before .before .before .before
-    .before .before .before .before .before .before .before .before .before .before .before .before .before .before .before .before
-    .before .find-period .kept .1 .1 .1 .1 .1 .1 .1 .1 .1 .1 .1 .0
+same-length-4 c = c .before .before .before .before .before .before .before .before .before .before .before .before .before .before .before .before .before .before .before .before .before .before .before .before .before .before .before .before .before .before .before .before .before .before .before .before .before .before .before .before .before .before .before .before .before .before .before .before .before .before .before .find-period .kept .1 .1 .1 .1 .1 .1 .1 .1 .0
 
--- src/lib.rt:153:1
 same-length-5 : tie.Need-same-length-5
-same-length-5 c = search needs
+same-length-5 c = c .before .before .before .before .before .before .before .before .before .before .before .before .before .before .before .before .before .before .before .before .before .before .before .before .before .before .before .before .before .before .choose .kept .1 .1 .1 .1 .1 .1 .1 .1 .1 .1 .1 .1 .1 .0
 
--- src/lib.rt:153:1
 same-length-6 : tie.Need-same-length-6
 same-length-6 c = search needs
 
--- src/lib.rt:153:1
 same-length-7 : tie.Need-same-length-7
 same-length-7 c = search needs
 
--- src/lib.rt:153:1
 same-length-8 : tie.Need-same-length-8
 same-length-8 c = search needs
 
--- src/lib.rt:153:1
 same-length-9 : tie.Need-same-length-9
 same-length-9 c = search needs
 
--- src/lib.rt:153:1
 returns-2 : tie.Need-returns-2
 returns-2 c =
-    told-cover (c .before .before .before .before .before .before .before .before .before .before .before .before .before .before .before .before .before .before .before .before
-    .before .before .before .before .before .before .before .before .before .before .before .before .before .before .before .before .before .before .before .before .before .before
-    .before .before .before .before .before .before .before .before .before .before .before .before .before .before .before .before .before .before .before .pre .0 .few)
-    (c .before .before .before .before .before .before .before .before .before .before .before .before .before .before .before .before .before .before .before .before .before
-    .before .before .before .before .before .before .before .before .before .before .before .before .before .before .before .before .before .find-period .ensures .1)
-    (c .before .before .before .before .before .before .before .before .before .before .before .before .before .before .before .before .before .before .before .before .before
-    .before .before .before .before .before .before .before .before .before .before .if1 .left)
-    (c .before .before .before .before .before .before .before .before .before .before .before .before .before .before .before .before .before .before .before .before
-    .before .choose .ensures .1) (c .before .before .tabulate .ensures)
+    let a = c .before .before .before .before .before .before .before .before .before .before .before .before .before .before .before .before .before .before .before .before .before .before .before .before .before .before .before .before .before .before .before .before .before .before .before .before .before .before .before .before .before .before .before .before .before .before .before .before .before .before .before .before .before .before .before .before .before .before .before .before .before .before .before .before .before .before .before .before .before .before .before .before .before .args in
+    let last = c .before .before .before .before .before .before .before .before .before .before .before .before .before .before .before .before .before .before .before .before .before .before .before .before .before .before .before .before .before .before .choose .last .1 .1 .1 .1 .1 .1 .1 .1 .1 .1 .1 .1 .1 in
+    told-cover (c .before .before .before .before .before .before .before .before .before .before .before .before .before .before .before .before .before .before .before .before .before .before .before .before .before .before .before .before .before .before .before .before .before .before .before .before .before .before .before .before .before .before .before .before .before .before .before .before .before .before .before .before .before .before .before .before .before .before .before .before .before .before .before .before .before .before .before .before .before .before .before .before .before .pre .0 .few) (c .before .before .before .before .before .before .before .before .before .before .before .before .before .before .before .before .before .before .before .before .before .before .before .before .before .before .before .before .before .before .before .before .before .before .before .before .before .before .before .before .before .before .before .before .before .before .before .before .before .before .before .find-period .ensures .1) (c .before .before .before .before .before .before .before .before .before .before .before .before .before .before .before .before .before .before .before .before .before .before .before .before .before .before .before .before .before .before .before .before .before .before .before .before .before .before .before .before .before .before .if1 .left) (c .before .before .before .before .before .before .before .before .before .before .before .before .before .before .before .before .before .before .before .before .before .before .before .before .before .before .before .before .before .before .choose .ensures .1)
+    (two-wholes (λ (so co : List ℕ). Tabulated (a .s .inputs) (a .s .gates) (a .net .now) so co (a .tables .now) (last .0) (last .1 .0) (last .1 .1 .0) (last .1 .1 .1 .0) (c .before .before .before .before .tabulate .last .1 .1 .1 .1 .1 .1 .1 .1 .1 .1 .0) (a .s .gates))
+    (a .net .now) (sourcesAt (a .s .gates)) (countsAt (a .s .gates)) (c .before .before .before .before .tabulate .ensures .0))
 
 pub cover-spec : {M : Type 1} → statement M
 cover-spec =
     tie.close
     (tie.spec
+    add-end
+    mul-end
     slice-aggregate-find-period
+    slice-relend-prefix-find-period
     slice-aggregate-find-period-2
     slice-aggregate-find-period-3
+    slice-aggregate-find-period-4
+    slice-aggregate-find-period-5
+    slice-aggregate-find-period-6
     find-period-requires
     same-length
     same-length-2
     returns
     slice-aggregate-choose
+    slice-relend-prefix-choose
     slice-aggregate-choose-2
     slice-aggregate-choose-3
+    slice-aggregate-choose-4
+    slice-aggregate-choose-5
+    slice-aggregate-choose-6
     choose-requires
+    mul-a
+    add-b
+    mul-b
+    mul-tabulate
+    sub-tabulate
+    part-tabulate-start
+    part-tabulate-end
+    mul-tabulate-2
+    sub-tabulate-2
+    part-tabulate-start-2
+    part-tabulate-end-2
     tabulate-requires
     same-length-3
     same-length-4

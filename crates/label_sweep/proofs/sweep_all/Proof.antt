@@ -1,109 +1,112 @@
-use Rattle.label_sweep.specs.Sweeping.{settling-first, settling-next, quiet-none, next-stop, swept-falls, fallen}
-use Rattle.label_visit.specs.ReadyLaws.{ready-fine, ready-after}
-use Rattle.label_visit.specs.LabelVisits.{wiring, left}
-use Rattle.label_sweep.specs.Sweeps.{QuietFrom, Settling}
-use Rattle.cut_question.specs.Question.{AtRest}
-use Rattle.cut_circuit.specs.Circuit.{circuit}
-use Prim.Native.Nat.{_+_, _%_, _≤_}
+-- `label_sweep::sweep_all` meets its contract. The loop's invariant: the sweeps so far, and where the next may end.
 use borrow.Author.Needs.{needs}
-use lib.ListN.{length}
-use denote.Ref.{now}
-use native.Mathlib.Omega.{arith}
 use mathlib.Core.Path.{_≡_, refl, _∙_}
+use Prim.Native.Nat.{_+_, _%_, _≤_}
+use native.Mathlib.Omega.{arith}
+use denote.Ref.{now}
+use lib.ListN.{length}
+use Rattle.cut_circuit.specs.Packed.{packedOf}
+use Rattle.cut_question.specs.Separating.{AtRest}
+use Rattle.label_visit.specs.LabelVisits.{wiring, left}
+use Rattle.label_visit.specs.ReadyLaws.{ready-fine, ready-after}
+use Rattle.label_sweep.specs.Sweeps.{QuietFrom, Settling}
+use Rattle.label_sweep.specs.Sweeping.{settling-first, settling-next, quiet-none, next-stop, swept-falls, fallen}
 use Rattle.label_sweep.proofs.sweep_all.Statement.{statement}
 use Rattle.label_sweep.proofs.sweep_all.Tie as tie
-use Rattle.label_sweep.proofs.sweep_all.Reads as reads
-use Rattle.label_sweep.proofs.sweep_all.Lts as lts
-use Rattle.label_sweep.proofs.outcome.Reads as outcome-reads
-use Rattle.label_sweep.proofs.sweep.Reads as sweep-reads
 
 abbrev Inv-loop : tie.InvT-loop
-Inv-loop s pins first sources counts heads nexts inside₀ table₀ list₀ members₀ labels₀ tops order phi k stop₀ r₀ inside table list members labels stop r =
-    AtRest (circuit (s .inputs) (s .gates) (s .width) (s .border) pins first sources counts heads nexts inside) table list members
-    × Settling (wiring (s .inputs) (s .gates) (s .border) pins sources counts) k phi tops labels₀ labels r
-    × (r ≡ 1 → (stop ≤ s .gates) × QuietFrom (wiring (s .inputs) (s .gates) (s .border) pins sources counts) k phi tops order labels stop)
-    × (length inside ≡ length inside₀) × (length table ≡ length table₀) × (length list ≡ length list₀) × (length members ≡ length members₀) × (length labels ≡ length labels₀)
+Inv-loop s net slots₀ table₀ list₀ stack₀ counts₀ members₀ labels₀ tops order phi k stop₀ r₀ slots table list stack counts members labels stop r =
+    AtRest (packedOf s net slots) table list stack counts members × Settling (wiring s net) k phi tops labels₀ labels r
+    × (r ≡ 1 → (stop ≤ s .gates) × QuietFrom (wiring s net) k phi tops order labels stop)
+    × (length slots ≡ length slots₀) × (length table ≡ length table₀) × (length list ≡ length list₀) × (length stack ≡ length stack₀) × (length counts ≡ length counts₀) ×
+    (length members ≡ length members₀) × (length labels ≡ length labels₀)
 
 abbrev μ-loop : tie.MeasureT-loop
-μ-loop s pins first sources counts heads nexts inside₀ table₀ list₀ members₀ labels₀ tops order phi k stop₀ r₀ inside table list members labels stop r =
-    left (wiring (s .inputs) (s .gates) (s .border) pins sources counts) phi tops labels (s .gates) + r % 2
+μ-loop s net slots₀ table₀ list₀ stack₀ counts₀ members₀ labels₀ tops order phi k stop₀ r₀ slots table list stack counts members labels stop r = left (wiring s net) phi tops labels
+    (s .gates) + r % 2
 
--- src/lib.rt:349:5
 loop-holds : tie.Need-loop-holds Inv-loop μ-loop
 loop-holds c =
-    let start = c .before .before .before .before .before .before .before .before .before .before .before .before in (
+    let start = c .before .before .before .before .before .before .before .before .before in (
       start .pre .0,
       settling-first (ready-fine (start .pre .1 .0)),
       (λ e. (
         omega arith,
-        quiet-none (wiring (start .args .s .inputs) (start .args .s .gates) (start .args .s .border) (now (start .args .pins)) (now (start .args .sources))
-            (now (start .args .counts))) (start .args .k) (start .args .phi) (now (start .args .tops)) (now (start .args .order)) (now (start .args .labels)),
+        quiet-none (wiring (start .args .s) (now (start .args .net))) (start .args .k) (start .args .phi) (now (start .args .tops)) (now (start .args .order)) (now (start .args .labels)),
       )),
       refl,
       refl,
       refl,
       refl,
       refl,
+      refl,
+      refl,
     )
 
--- src/lib.rt:350:9
 sweep-requires : tie.Need-sweep-requires Inv-loop μ-loop
 sweep-requires c κs =
-    let loop = c .before .before .before .before .before .before .loop in
-    let start = c .before .before .before .before .before .before .before .before .before .before .before .before .before .before .before .before .before .before .before in
-    let q = loop .inv .2 (c .before .before .before .before .before .loop-test .taken) in (loop .inv .0, ((ready-after (start .pre .1 .0) (loop .inv .1 .fine), start .pre .1 .1, start .pre .1 .2), q))
+    let loop = c .before .before .before .before .before .before .before .before .loop in
+    let start = c .before .before .before .before .before .before .before .before .before .before .before .before .before .before .before .before .before .before in (
+      loop .inv .0,
+      (
+        (ready-after (start .pre .1 .0) (loop .inv .1 .fine), start .pre .1 .1, start .pre .1 .2),
+        loop .inv .2 (c .before .before .before .before .before .before
+            .before .loop-test .taken),
+      ),
+    )
 
--- src/lib.rt:369:9
 outcome-requires : tie.Need-outcome-requires Inv-loop μ-loop
 outcome-requires c κs = search needs
 
--- src/lib.rt:349:5
 loop-less : tie.Need-loop-less Inv-loop μ-loop
 loop-less c =
-    let sweep = c .before .before .before .before .before .before .before .before .before .before .sweep in
-    fallen (c .outcome .result) (c .outcome .ensures .most)
-    (c .before .before .before .before .before .before .before .before .before .before .before .before .before .before .before .before .before .loop .r)
-    (c .before .before .before .before .before .before .before .before .before .before .before .before .before .before .before .before .loop-test .taken) (sweep .ensures .1 .less)
-    (swept-falls (sweep .ensures .1) (c .outcome .ensures))
+    let sweep = c .before .before .before .before .before .before .before .before .before .before .before .before .before .before .sweep in
+    let outcome = c .outcome in
+    fallen (outcome .result) (outcome .ensures .most) (c .before .before .before .before .before .before .before .before .before .before .before .before .before .before .before
+    .before .before .before .before .before .before .before .before .loop .r) (c .before .before .before .before .before .before .before .before .before .before .before
+    .before .before .before .before .before .before .before .before .before .before .before .loop-test .taken) (sweep .ensures .1 .less) (swept-falls (sweep .ensures .1)
+    (outcome .ensures))
 
--- src/lib.rt:349:5
 loop-again : tie.Need-loop-again Inv-loop μ-loop
 loop-again c =
-    let sweep = c .before .before .before .before .before .before .before .before .before .before .sweep in
-    let loop = c .before .before .before .before .before .before .before .before .before .before .before .before .before .before .before .before .before .loop in (
+    let sweep = c .before .before .before .before .before .before .before .before .before .before .before .before .before .before .sweep in
+    let outcome = c .outcome in
+    let loop = c .before .before .before .before .before .before .before .before .before .before .before .before .before .before .before .before .before .before .before .before
+    .before .before .before .loop in (
       sweep .ensures .0,
-      settling-next (c .before .before .before .before .before .before .before .before .before .before .before .before .before .before .before .before .before
-          .before .before .before .before .before .before .before .before .before .before .before .before .before .pre .1 .1) (loop .inv .1) (sweep .ensures .1) (c .outcome .ensures),
-      next-stop (sweep .ensures .1) (c .outcome .ensures),
-      sweep .kept .1 .1 .1 .1 .1 .1 .1 .0 ∙ loop .inv .3,
-      sweep .kept .1 .1 .1 .1 .1 .1 .1 .1 .0 ∙ loop .inv .4,
-      sweep .kept .1 .1 .1 .1 .1 .1 .1 .1 .1 .0 ∙ loop .inv .5,
-      sweep .kept .1 .1 .1 .1 .1 .1 .1 .1 .1 .1 .0 ∙ loop .inv .6,
-      sweep .kept .1 .1 .1 .1 .1 .1 .1 .1 .1 .1 .1 .0 ∙
-          loop .inv .7,
+      settling-next (c .before .before .before .before .before .before .before .before .before .before .before .before .before .before .before .before .before .before .before
+          .before .before .before .before .before .before .before .before .before .before .before .before .before .before .pre .1 .1) (loop .inv .1) (sweep .ensures .1) (outcome .ensures),
+      next-stop (sweep .ensures .1) (outcome .ensures),
+      sweep .kept .1 .1 .0 ∙ loop .inv .3,
+      sweep .kept .1 .1 .1 .0 ∙ loop .inv .4,
+      sweep .kept .1 .1 .1 .1 .0 ∙ loop .inv .5,
+      sweep .kept .1 .1 .1 .1 .1 .0 ∙ loop .inv .6,
+      sweep .kept .1 .1 .1 .1 .1 .1 .0 ∙ loop .inv .7,
+      sweep .kept .1 .1 .1 .1 .1 .1 .1 .0 ∙ loop .inv .8,
+      sweep .kept .1 .1 .1 .1 .1 .1 .1 .1 .0 ∙ loop .inv .9,
     )
 
--- src/lib.rt:324:1
 same-length : tie.Need-same-length Inv-loop μ-loop
 same-length c = c .before .loop .inv .3
 
--- src/lib.rt:324:1
 same-length-2 : tie.Need-same-length-2 Inv-loop μ-loop
 same-length-2 c = c .before .loop .inv .4
 
--- src/lib.rt:324:1
 same-length-3 : tie.Need-same-length-3 Inv-loop μ-loop
 same-length-3 c = c .before .loop .inv .5
 
--- src/lib.rt:324:1
 same-length-4 : tie.Need-same-length-4 Inv-loop μ-loop
 same-length-4 c = c .before .loop .inv .6
 
--- src/lib.rt:324:1
 same-length-5 : tie.Need-same-length-5 Inv-loop μ-loop
 same-length-5 c = c .before .loop .inv .7
 
--- src/lib.rt:324:1
+same-length-6 : tie.Need-same-length-6 Inv-loop μ-loop
+same-length-6 c = c .before .loop .inv .8
+
+same-length-7 : tie.Need-same-length-7 Inv-loop μ-loop
+same-length-7 c = c .before .loop .inv .9
+
 returns : tie.Need-returns Inv-loop μ-loop
 returns c = (c .before .loop .inv .0, record { settling = c .before .loop .inv .1; ends = c .loop-test .left })
 
@@ -123,4 +126,6 @@ sweep-all-spec =
     same-length-3
     same-length-4
     same-length-5
+    same-length-6
+    same-length-7
     returns)

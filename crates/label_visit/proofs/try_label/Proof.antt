@@ -2,7 +2,6 @@
 use mathlib.Core.Path.{sym, subst}
 use Prim.Native.Nat.{_+_}
 use native.Mathlib.Omega.{arith}
-use borrow.Author.Needs.{needs}
 use denote.Ref.{now}
 use mir.Val.{toZ, ofZ}
 use mir.Syntax.{w64}
@@ -14,6 +13,7 @@ use Rattle.signed.specs.RangeLaws.{back}
 use Rattle.label_visit.specs.ReadyLaws.{pinmax-at, decides-wiring, asks-of, raised-ready, raised-changed, ready-fine, small-next}
 use Rattle.label_visit.specs.LabelVisitLaws.{visit-cut, visit-lift, visit-over, visit-past}
 use Rattle.label_visit.specs.LabelVisits.{wiring}
+use borrow.Author.Needs.{needs}
 use Rattle.label_visit.proofs.try_label.Statement.{statement}
 use Rattle.label_visit.proofs.try_label.Tie as tie
 
@@ -28,22 +28,22 @@ shared-slice-read-top c = search needs
 
 mul-top-2 : tie.Need-mul-top-2
 mul-top-2 c =
-    let start = c .before .before .before .before .before .before .before .before .before .before .before .before .before in
+    let start = c .before .before .before .before .before .before .before .before .before .before in
     record { fits = let q = start .pre .1 .0 .2 .top (start .args .g) (start .pre .1 .0 .1) in omega arith }
 
 add-below : tie.Need-add-below
 add-below c =
-    let start = c .before .before .before .before .before .before .before .before .before .before .before .before .before in
+    let start = c .before .before .before .before .before .before .before .before .before .before in
     record { fits = let q = start .pre .1 .0 .2 .top (start .args .g) (start .pre .1 .0 .1) in omega arith }
 
 below-requires : tie.Need-below-requires
 below-requires c κs =
-    let start = c .before .before .before .before .before .before .before .before .before .before .before .before .before in
+    let start = c .before .before .before .before .before .before .before .before .before .before in
     ((subst Small (sym (back (start .args .p) (start .fits .p))) (start .pre .1 .1 .2)), (let q = start .pre .1 .0 .2 .top (start .args .g) (start .pre .1 .0 .1) in omega arith))
 
 raise-requires : tie.Need-raise-requires
 raise-requires c κs =
-    let start = c .before .before .before .before .before .before .before .before .before .before .before .before .before .before .before .before in (
+    let start = c .before .before .before .before .before .before .before .before .before .before .before .before .before in (
       let e = start .pre .1 .0 .0 .size in let h = start .pre .1 .0 .1 in omega arith,
       start .pre .1 .0 .0 .small (start .args .s .inputs + start .args .g),
       (subst (λ (x : ℤ). labelIn (now (start .args .labels)) (start .args .s .inputs + start .args .g) ≤ℤ x) (sym (back (start .args .p) (start .fits .p))) (start .pre .1 .1 .1)),
@@ -52,10 +52,11 @@ raise-requires c κs =
 question-requires : tie.Need-question-requires
 question-requires c κs =
     let start = c .before .before .before .before .before .before .before .before .before .before .before .before .before .before .before .before .before .before .before .before
-    .before .before .before in (
+    .before .before in (
       start .pre .0,
       asks-of (raised-ready (start .args .g) (start .pre .1 .0 .0) (start .pre .1 .0 .1)
-          (subst Small (sym (back (start .args .p) (start .fits .p))) (start .pre .1 .1 .2)) (c .before .before .before .before .before .before .raise .ensures)) (start .pre .1 .0 .1),
+          (subst Small (sym (back (start .args .p) (start .fits .p))) (start .pre .1 .1 .2)) (c .before .before .before .before .before .before .before .before .raise .ensures))
+          (start .pre .1 .0 .1),
     )
 
 same-length : tie.Need-same-length
@@ -73,44 +74,46 @@ same-length-4 c = search needs
 same-length-5 : tie.Need-same-length-5
 same-length-5 c = search needs
 
-returns : tie.Need-returns
-returns c =
-    let question = c .before .before .before .before .before .before .before .before .before .question in
-    let raise = c .before .before .before .before .before .before .before .before .before .before .before .before .before .before .before .before .raise in
-    let start = c .before .before .before .before .before .before .before .before .before .before .before .before .before .before .before .before .before .before .before .before
-    .before .before .before .before .before .before .before .before .before .before .before .before .before in (
-      question .ensures .0,
-      visit-cut (wiring (start .args .s .inputs) (start .args .s .gates) (start .args .s .border) (now (start .args .pins)) (now (start .args .sources))
-          (now (start .args .counts))) (start .args .k) (start .args .phi) (now (start .args .tops)) (now (start .args .labels)) (start .args .g) (toZ w64 (ofZ w64 (start .args .p)))
-          (ready-fine (start .pre .1 .0 .0)) (start .pre .1 .0 .1) (pinmax-at (sym (back (start .args .p) (start .fits .p))) (start .pre .1 .1 .0))
-          (subst (λ (x : ℤ). labelIn (now (start .args .labels)) (start .args .s .inputs + start .args .g) ≤ℤ x) (sym (back (start .args .p) (start .fits .p))) (start .pre .1 .1 .1))
-          (subst Small (sym (back (start .args .p) (start .fits .p))) (start .pre .1 .1 .2)) _ (raise .result) (raise .ensures) (question .result) (decides-wiring (question .ensures .1))
-          (omega arith) (let t = c .before .before .before .before .before .before .before .before .before .before .before .before .before .before .before .before .before .before
-          .before .below .ensures .0 (c .before .before .before .before .before .before .before .before .before .before .before .before .before .before .before .before .before
-          .before .if1 .taken) in omega (arith, ints, t)),
-    )
-
-below-requires-2 : tie.Need-below-requires-2
-below-requires-2 c κs =
-    let start = c .before .before .before .before .before .before .before .before .before .before .before .before .before .before .before .before .before .before .before .before
-    .before .before .before .before .before .before .before .before .before .before .before .before .before in
-    ((subst Small (sym (back (start .args .p) (start .fits .p))) (start .pre .1 .1 .2)), (let q = start .pre .1 .0 .2 .top (start .args .g) (start .pre .1 .0 .1) in omega arith))
-
-lift-requires : tie.Need-lift-requires
-lift-requires c κs =
-    let start = c .before .before .before .before .before .before .before .before .before .before .before .before .before .before .before .before .before .before .before .before
-    .before .before .before .before .before .before .before .before .before .before .before .before .before .before .before .before in (
-      let e = (raised-changed (let e′ = start .pre .1 .0 .0 .size in let h′ = start .pre .1 .0 .1 in omega arith)
-          (c .before .before .before .before .before .before .before .before .before .before .before .before .before .before .before .before .before .before
-          .before .raise .ensures)) .size in let e′ = start .pre .1 .0 .0 .size in let h′ = start .pre .1 .0 .1 in omega arith,
-      (subst Small (sym (back (start .args .p) (start .fits .p))) (start .pre .1 .1 .2)),
-    )
-
 same-length-6 : tie.Need-same-length-6
 same-length-6 c = search needs
 
 same-length-7 : tie.Need-same-length-7
 same-length-7 c = search needs
+
+returns : tie.Need-returns
+returns c =
+    let question = c .before .before .before .before .before .before .before .before .before .before .before .before .before .question in
+    let raise = c .before .before .before .before .before .before .before .before .before .before .before .before .before .before .before .before .before .before .before .before
+    .before .before .raise in
+    let start = c .before .before .before .before .before .before .before .before .before .before .before .before .before .before .before .before .before .before .before .before
+    .before .before .before .before .before .before .before .before .before .before .before .before .before .before .before .before in
+    let e = sym (back (start .args .p) (start .fits .p)) in (
+      question .ensures .0,
+      visit-cut (wiring (start .args .s) (now (start .args .net))) (start .args .k) (start .args .phi) (now (start .args .tops)) (now (start .args .labels)) (start .args .g)
+          (toZ w64 (ofZ w64 (start .args .p)))
+          (ready-fine (start .pre .1 .0 .0)) (start .pre .1 .0 .1) (pinmax-at e (start .pre .1 .1 .0))
+          (subst (λ (x : ℤ). labelIn (now (start .args .labels)) (start .args .s .inputs + start .args .g) ≤ℤ x) e (start .pre .1 .1 .1))
+          (subst Small e (start .pre .1 .1 .2)) _ (raise .result) (raise .ensures) (question .result) (decides-wiring (question .ensures .1))
+          (omega arith) (let t = c .before .before .before .before .before .before .before .before .before .before .before .before .before .before .before .before .before .before
+          .before .before .before .before .before .before .before .below .ensures .0 (c .before .before .before .before .before .before .before .before .before .before
+          .before .before .before .before .before .before .before .before .before .before .before .before .before .before .if1 .taken) in omega (arith, ints, t)),
+    )
+
+below-requires-2 : tie.Need-below-requires-2
+below-requires-2 c κs =
+    let start = c .before .before .before .before .before .before .before .before .before .before .before .before .before .before .before .before .before .before .before .before
+    .before .before .before .before .before .before .before .before .before .before .before .before .before .before .before .before in
+    ((subst Small (sym (back (start .args .p) (start .fits .p))) (start .pre .1 .1 .2)), (let q = start .pre .1 .0 .2 .top (start .args .g) (start .pre .1 .0 .1) in omega arith))
+
+lift-requires : tie.Need-lift-requires
+lift-requires c κs =
+    let start = c .before .before .before .before .before .before .before .before .before .before .before .before .before .before .before .before .before .before .before .before
+    .before .before .before .before .before .before .before .before .before .before .before .before .before .before .before .before .before .before .before in (
+      let e = (raised-changed (let e′ = start .pre .1 .0 .0 .size in let h′ = start .pre .1 .0 .1 in omega arith)
+          (c .before .before .before .before .before .before .before .before .before .before .before .before .before .before .before .before .before .before .before .before
+          .before .before .before .before .before .raise .ensures)) .size in let e′ = start .pre .1 .0 .0 .size in let h′ = start .pre .1 .0 .1 in omega arith,
+      (subst Small (sym (back (start .args .p) (start .fits .p))) (start .pre .1 .1 .2)),
+    )
 
 same-length-8 : tie.Need-same-length-8
 same-length-8 c = search needs
@@ -120,84 +123,6 @@ same-length-9 c = search needs
 
 same-length-10 : tie.Need-same-length-10
 same-length-10 c = search needs
-
-returns-2 : tie.Need-returns-2
-returns-2 c = (
-  c .before .before .before .before .before .before .before .before .before .before .before .before .before .before .question .ensures .0,
-  visit-lift
-      (wiring (c .before .before .before .before .before .before .before .before .before .before .before .before .before .before .before .before .before .before .before .before
-      .before .before .before .before .before .before .before .before .before .before .before .before .before .before .before .before .before .before .args .s .inputs)
-      (c .before .before .before .before .before .before .before .before .before .before .before .before .before .before .before .before .before .before .before .before .before
-      .before .before .before .before .before .before .before .before .before .before .before .before .before .before .before .before .before .args .s .gates)
-      (c .before .before .before .before .before .before .before .before .before .before .before .before .before .before .before .before .before .before .before .before .before
-      .before .before .before .before .before .before .before .before .before .before .before .before .before .before .before .before .before .args .s .border)
-      (now (c .before .before .before .before .before .before .before .before .before .before .before .before .before .before .before .before .before .before .before .before .before
-      .before .before .before .before .before .before .before .before .before .before .before .before .before .before .before .before .before .args .pins))
-      (now (c .before .before .before .before .before .before .before .before .before .before .before .before .before .before .before .before .before .before .before .before .before
-      .before .before .before .before .before .before .before .before .before .before .before .before .before .before .before .before .before .args .sources))
-      (now (c .before .before .before .before .before .before .before .before .before .before .before .before .before .before .before .before .before .before .before .before .before
-      .before .before .before .before .before .before .before .before .before .before .before .before .before .before .before .before .before .args .counts)))
-      (c .before .before .before .before .before .before .before .before .before .before .before .before .before .before .before .before .before .before .before .before .before
-      .before .before .before .before .before .before .before .before .before .before .before .before .before .before .before .before .before .args .k)
-      (c .before .before .before .before .before .before .before .before .before .before .before .before .before .before .before .before .before .before .before .before .before
-      .before .before .before .before .before .before .before .before .before .before .before .before .before .before .before .before .before .args .phi)
-      (now (c .before .before .before .before .before .before .before .before .before .before .before .before .before .before .before .before .before .before .before .before .before
-      .before .before .before .before .before .before .before .before .before .before .before .before .before .before .before .before .before .args .tops))
-      (now (c .before .before .before .before .before .before .before .before .before .before .before .before .before .before .before .before .before .before .before .before .before
-      .before .before .before .before .before .before .before .before .before .before .before .before .before .before .before .before .before .args .labels))
-      (c .before .before .before .before .before .before .before .before .before .before .before .before .before .before .before .before .before .before .before .before .before
-      .before .before .before .before .before .before .before .before .before .before .before .before .before .before .before .before .before .args .g)
-      (toZ w64 (ofZ w64 (c .before .before .before .before .before .before .before .before .before .before .before .before .before .before .before .before .before .before .before
-      .before .before .before .before .before .before .before .before .before .before .before .before .before .before .before .before .before .before .before .args .p)))
-      (ready-fine (c .before .before .before .before .before .before .before .before .before .before .before .before .before .before .before .before .before .before .before .before
-      .before .before .before .before .before .before .before .before .before .before .before .before .before .before .before .before .before .before .pre .1 .0 .0))
-      (c .before .before .before .before .before .before .before .before .before .before .before .before .before .before .before .before .before .before .before .before .before
-      .before .before .before .before .before .before .before .before .before .before .before .before .before .before .before .before .before .pre .1 .0 .1)
-      (pinmax-at (sym (back (c .before .before .before .before .before .before .before .before .before .before .before .before .before .before .before .before .before .before .before
-      .before .before .before .before .before .before .before .before .before .before .before .before .before .before .before .before .before .before .before .args .p)
-      (c .before .before .before .before .before .before .before .before .before .before .before .before .before .before .before .before .before .before .before .before .before
-      .before .before .before .before .before .before .before .before .before .before .before .before .before .before .before .before .before .fits .p)))
-      (c .before .before .before .before .before .before .before .before .before .before .before .before .before .before .before .before .before .before .before .before .before
-      .before .before .before .before .before .before .before .before .before .before .before .before .before .before .before .before .before .pre .1 .1 .0))
-      (subst (λ (x : ℤ). labelIn (now (c .before .before .before .before .before .before .before .before .before .before .before .before .before .before .before .before .before
-      .before .before .before .before .before .before .before .before .before .before .before .before .before .before .before .before .before .before .before .before
-      .before .args .labels)) (c .before .before .before .before .before .before .before .before .before .before .before .before .before .before .before .before .before .before
-      .before .before .before .before .before .before .before .before .before .before .before .before .before .before .before .before .before .before .before .before .args .s .inputs
-      + c .before .before .before .before .before .before .before .before .before .before .before .before .before .before .before .before .before .before .before .before .before
-      .before .before .before .before .before .before .before .before .before .before .before .before .before .before .before .before .before .args .g) ≤ℤ x)
-      (sym (back (c .before .before .before .before .before .before .before .before .before .before .before .before .before .before .before .before .before .before .before .before
-      .before .before .before .before .before .before .before .before .before .before .before .before .before .before .before .before .before .before .args .p)
-      (c .before .before .before .before .before .before .before .before .before .before .before .before .before .before .before .before .before .before .before .before .before
-      .before .before .before .before .before .before .before .before .before .before .before .before .before .before .before .before .before .fits .p)))
-      (c .before .before .before .before .before .before .before .before .before .before .before .before .before .before .before .before .before .before .before .before .before
-      .before .before .before .before .before .before .before .before .before .before .before .before .before .before .before .before .before .pre .1 .1 .1))
-      (subst Small (sym (back (c .before .before .before .before .before .before .before .before .before .before .before .before .before .before .before .before .before .before
-      .before .before .before .before .before .before .before .before .before .before .before .before .before .before .before .before .before .before .before .before .args .p)
-      (c .before .before .before .before .before .before .before .before .before .before .before .before .before .before .before .before .before .before .before .before .before
-      .before .before .before .before .before .before .before .before .before .before .before .before .before .before .before .before .before .fits .p)))
-      (c .before .before .before .before .before .before .before .before .before .before .before .before .before .before .before .before .before .before .before .before .before
-      .before .before .before .before .before .before .before .before .before .before .before .before .before .before .before .before .before .pre .1 .1 .2)) _
-      (c .before .before .before .before .before .before .before .before .before .before .before .before .before .before .before .before .before .before .before .before
-      .before .raise .result) (c .before .before .before .before .before .before .before .before .before .before .before .before .before .before .before .before .before .before
-      .before .before .before .raise .ensures) (c .before .before .before .before .before .before .before .before .before .before .before .before .before .before .question .result)
-      (decides-wiring (c .before .before .before .before .before .before .before .before .before .before .before .before .before .before .question .ensures .1)) (omega arith)
-      (c .before .before .before .before .below2 .ensures .0 (c .before .before .before .if3 .taken))
-      (small-next (toZ w64 (ofZ w64 (c .before .before .before .before .before .before .before .before .before .before .before .before .before .before .before .before .before .before
-      .before .before .before .before .before .before .before .before .before .before .before .before .before .before .before .before .before .before .before .before .args .p))) _
-      (subst Small (sym (back (c .before .before .before .before .before .before .before .before .before .before .before .before .before .before .before .before .before .before
-      .before .before .before .before .before .before .before .before .before .before .before .before .before .before .before .before .before .before .before .before .args .p)
-      (c .before .before .before .before .before .before .before .before .before .before .before .before .before .before .before .before .before .before .before .before .before
-      .before .before .before .before .before .before .before .before .before .before .before .before .before .before .before .before .before .fits .p)))
-      (c .before .before .before .before .before .before .before .before .before .before .before .before .before .before .before .before .before .before .before .before .before
-      .before .before .before .before .before .before .before .before .before .before .before .before .before .before .before .before .before .pre .1 .1 .2))
-      (let q = c .before .before .before .before .before .before .before .before .before .before .before .before .before .before .before .before .before .before .before .before
-      .before .before .before .before .before .before .before .before .before .before .before .before .before .before .before .before .before .before .pre .1 .0 .2 .top
-      (c .before .before .before .before .before .before .before .before .before .before .before .before .before .before .before .before .before .before .before .before .before
-      .before .before .before .before .before .before .before .before .before .before .before .before .before .before .before .before .before .args .g)
-      (c .before .before .before .before .before .before .before .before .before .before .before .before .before .before .before .before .before .before .before .before .before
-      .before .before .before .before .before .before .before .before .before .before .before .before .before .before .before .before .before .pre .1 .0 .1) in omega arith)
-      (c .before .before .before .before .below2 .ensures .0 (c .before .before .before .if3 .taken))) _ (c .before .lift .ensures),
-)
 
 same-length-11 : tie.Need-same-length-11
 same-length-11 c = search needs
@@ -211,34 +136,75 @@ same-length-13 c = search needs
 same-length-14 : tie.Need-same-length-14
 same-length-14 c = search needs
 
+returns-2 : tie.Need-returns-2
+returns-2 c =
+    let question = c .before .before .before .before .before .before .before .before .before .before .before .before .before .before .before .before .before .before .question in
+    let raise = c .before .before .before .before .before .before .before .before .before .before .before .before .before .before .before .before .before .before .before .before
+    .before .before .before .before .before .before .before .raise in
+    let start = c .before .before .before .before .before .before .before .before .before .before .before .before .before .before .before .before .before .before .before .before
+    .before .before .before .before .before .before .before .before .before .before .before .before .before .before .before .before .before .before .before .before .before in
+    let e = sym (back (start .args .p) (start .fits .p)) in
+    let s = subst Small e (start .pre .1 .1 .2) in
+    let u = c .before .before .before .before .below2 .ensures .0 (c .before .before .before .if3 .taken) in (
+      question .ensures .0,
+      visit-lift (wiring (start .args .s) (now (start .args .net))) (start .args .k) (start .args .phi) (now (start .args .tops)) (now (start .args .labels)) (start .args .g)
+          (toZ w64 (ofZ w64 (start .args .p)))
+          (ready-fine (start .pre .1 .0 .0)) (start .pre .1 .0 .1) (pinmax-at e (start .pre .1 .1 .0))
+          (subst (λ (x : ℤ). labelIn (now (start .args .labels)) (start .args .s .inputs + start .args .g) ≤ℤ x) e (start .pre .1 .1 .1))
+          s _ (raise .result) (raise .ensures) (question .result) (decides-wiring (question .ensures .1)) (omega arith) u
+          (small-next (toZ w64 (ofZ w64 (start .args .p))) _ s (let q = start .pre .1 .0 .2 .top (start .args .g) (start .pre .1 .0 .1) in omega arith) u) _ (c .before .lift .ensures),
+    )
+
 same-length-15 : tie.Need-same-length-15
 same-length-15 c = search needs
 
+same-length-16 : tie.Need-same-length-16
+same-length-16 c = search needs
+
+same-length-17 : tie.Need-same-length-17
+same-length-17 c = search needs
+
+same-length-18 : tie.Need-same-length-18
+same-length-18 c = search needs
+
+same-length-19 : tie.Need-same-length-19
+same-length-19 c = search needs
+
+same-length-20 : tie.Need-same-length-20
+same-length-20 c = search needs
+
+same-length-21 : tie.Need-same-length-21
+same-length-21 c = search needs
+
 returns-3 : tie.Need-returns-3
 returns-3 c =
-    let question = c .before .before .before .before .before .before .before .before .before .before .before .question in
-    let raise = c .before .before .before .before .before .before .before .before .before .before .before .before .before .before .before .before .before .before .raise in
+    let question = c .before .before .before .before .before .before .before .before .before .before .before .before .before .before .before .question in
+    let raise = c .before .before .before .before .before .before .before .before .before .before .before .before .before .before .before .before .before .before .before .before
+    .before .before .before .before .raise in
     let start = c .before .before .before .before .before .before .before .before .before .before .before .before .before .before .before .before .before .before .before .before
-    .before .before .before .before .before .before .before .before .before .before .before .before .before .before .before in (
+    .before .before .before .before .before .before .before .before .before .before .before .before .before .before .before .before .before .before in
+    let e = sym (back (start .args .p) (start .fits .p)) in (
       question .ensures .0,
-      visit-over (wiring (start .args .s .inputs) (start .args .s .gates) (start .args .s .border) (now (start .args .pins)) (now (start .args .sources))
-          (now (start .args .counts))) (start .args .k) (start .args .phi) (now (start .args .tops)) (now (start .args .labels)) (start .args .g) (toZ w64 (ofZ w64 (start .args .p)))
-          (ready-fine (start .pre .1 .0 .0)) (start .pre .1 .0 .1) (pinmax-at (sym (back (start .args .p) (start .fits .p))) (start .pre .1 .1 .0))
-          (subst (λ (x : ℤ). labelIn (now (start .args .labels)) (start .args .s .inputs + start .args .g) ≤ℤ x) (sym (back (start .args .p) (start .fits .p))) (start .pre .1 .1 .1))
-          (subst Small (sym (back (start .args .p) (start .fits .p))) (start .pre .1 .1 .2)) _ (raise .result) (raise .ensures) (question .result) (decides-wiring (question .ensures .1))
-          (omega arith) (let t = c .before .before .before .before .before .before .before .before .before .before .before .before .before .before .before .before .before .before .before
-          .before .before .below .ensures .0 (c .before .before .before .before .before .before .before .before .before .before .before .before .before .before .before .before .before
-          .before .before .before .if1 .taken) in omega (arith, ints, t)) (c .before .below2 .ensures .1 (c .if3 .left)),
+      visit-over (wiring (start .args .s) (now (start .args .net))) (start .args .k) (start .args .phi) (now (start .args .tops)) (now (start .args .labels)) (start .args .g)
+          (toZ w64 (ofZ w64 (start .args .p)))
+          (ready-fine (start .pre .1 .0 .0)) (start .pre .1 .0 .1) (pinmax-at e (start .pre .1 .1 .0))
+          (subst (λ (x : ℤ). labelIn (now (start .args .labels)) (start .args .s .inputs + start .args .g) ≤ℤ x) e (start .pre .1 .1 .1))
+          (subst Small e (start .pre .1 .1 .2)) _ (raise .result) (raise .ensures) (question .result) (decides-wiring (question .ensures .1))
+          (omega arith) (let t = c .before .before .before .before .before .before .before .before .before .before .before .before .before .before .before .before .before .before
+          .before .before .before .before .before .before .before .before .before .below .ensures .0 (c .before .before .before .before .before .before .before .before
+          .before .before .before .before .before .before .before .before .before .before .before .before .before .before .before .before .before .before .if1 .taken) in omega
+          (arith, ints, t)) (c .before .below2 .ensures .1 (c .if3 .left)),
     )
 
 returns-4 : tie.Need-returns-4
 returns-4 c =
-    let start = c .before .before .before .before .before .before .before .before .before .before .before .before .before .before .before in (
+    let start = c .before .before .before .before .before .before .before .before .before .before .before .before in
+    let e = sym (back (start .args .p) (start .fits .p)) in (
       start .pre .0,
-      visit-past (wiring (start .args .s .inputs) (start .args .s .gates) (start .args .s .border) (now (start .args .pins)) (now (start .args .sources))
-          (now (start .args .counts))) (start .args .k) (start .args .phi) (now (start .args .tops)) (now (start .args .labels)) (start .args .g) (toZ w64 (ofZ w64 (start .args .p)))
-          (ready-fine (start .pre .1 .0 .0)) (start .pre .1 .0 .1) (pinmax-at (sym (back (start .args .p) (start .fits .p))) (start .pre .1 .1 .0))
-          (subst (λ (x : ℤ). labelIn (now (start .args .labels)) (start .args .s .inputs + start .args .g) ≤ℤ x) (sym (back (start .args .p) (start .fits .p))) (start .pre .1 .1 .1))
+      visit-past (wiring (start .args .s) (now (start .args .net))) (start .args .k) (start .args .phi) (now (start .args .tops)) (now (start .args .labels)) (start .args .g)
+          (toZ w64 (ofZ w64 (start .args .p)))
+          (ready-fine (start .pre .1 .0 .0)) (start .pre .1 .0 .1) (pinmax-at e (start .pre .1 .1 .0))
+          (subst (λ (x : ℤ). labelIn (now (start .args .labels)) (start .args .s .inputs + start .args .g) ≤ℤ x) e (start .pre .1 .1 .1))
           (let t = c .before .below .ensures .1 (c .if1 .left) in omega (arith, ints, t)),
     )
 
@@ -259,19 +225,25 @@ try-label-spec =
     same-length-3
     same-length-4
     same-length-5
+    same-length-6
+    same-length-7
     returns
     below-requires-2
     lift-requires
-    same-length-6
-    same-length-7
     same-length-8
     same-length-9
     same-length-10
-    returns-2
     same-length-11
     same-length-12
     same-length-13
     same-length-14
+    returns-2
     same-length-15
+    same-length-16
+    same-length-17
+    same-length-18
+    same-length-19
+    same-length-20
+    same-length-21
     returns-3
     returns-4)

@@ -1,5 +1,6 @@
 //! Times of the library's mark on records whose LUTs have six leaves and large cones, in
-//! microseconds: the least and the middle one of many calls.
+//! microseconds: the least and the middle one of many calls. Each record has 32 LUTs; the
+//! copies of the smallest and of the largest cone are shown, and those of all together.
 //!
 //! `bench_leaves [calls]`. It times the library that it is linked with; two libraries are
 //! compared by running one program with each. Build with the profile `timing`.
@@ -18,8 +19,8 @@ fn main() {
     let calls = calls.unwrap_or(300);
     println!("mark of a ring of 32 gates, each LUT with the same six leaves, {calls} calls");
     println!(
-        "{:28} {:>7} {:>10} {:>10}",
-        "leaves", "copies", "least", "middle"
+        "{:28} {:>10} {:>7} {:>10} {:>10}",
+        "leaves", "cones", "copies", "least", "middle"
     );
     for (name, (net, leaves)) in [
         ("below the cone's nodes", ring_from_input(32)),
@@ -33,9 +34,23 @@ fn main() {
 fn time(name: &str, net: &Net, leaves: &[NodeCopy], calls: usize) {
     let mut cover = ring_cover(net, leaves);
     let size = |root| cone_of(net, root, leaves).map_or(0, |cone| cone.len());
-    let copies = net.gate_nodes().map(size).sum();
+    let sizes: Vec<usize> = net.gate_nodes().map(size).collect();
+    let cones = format!(
+        "{}..{}",
+        sizes.iter().filter(|size| **size > 0).min().unwrap_or(&0),
+        sizes.iter().max().unwrap_or(&0)
+    );
+    let copies = sizes.iter().sum();
     let bytes = encode(net);
-    row(name, copies, &bytes, &write_record(&cover), Ok(0), calls);
+    row(
+        name,
+        &cones,
+        copies,
+        &bytes,
+        &write_record(&cover),
+        Ok(0),
+        calls,
+    );
     let lut = &mut cover.luts[0];
     lut.leaves[0] = NodeCopy {
         node: lut.root,
@@ -43,11 +58,12 @@ fn time(name: &str, net: &Net, leaves: &[NodeCopy], calls: usize) {
     };
     lut.leaves.sort_unstable();
     let record = write_record(&cover);
-    row("  wrong root", 0, &bytes, &record, Err(14), calls);
+    row("  wrong root", "", 0, &bytes, &record, Err(14), calls);
 }
 
 fn row(
     name: &str,
+    cones: &str,
     copies: usize,
     net: &[u8],
     record: &[u8],
@@ -64,5 +80,5 @@ fn row(
     }
     times.sort_by(f64::total_cmp);
     let (least, middle) = (times[0], times[times.len() / 2]);
-    println!("{name:28} {copies:7} {least:10.1} {middle:10.1}");
+    println!("{name:28} {cones:>10} {copies:7} {least:10.1} {middle:10.1}");
 }
