@@ -85,7 +85,7 @@ module _ {C : Circuit} {k φ : ℕ} {tops : List ℕ} where
   pub bounds-more : (ls : List ℤ) (g q : ℕ) (p : ℤ) → g < C .gates → C .inputs + g < length ls → PinMax C ls φ g p → Decides C ls φ k g p q → k < q → Bounds C k φ tops ls
       → Bounds C k φ tops (set ls (C .inputs + g) (p +ℤ pos 1))
   bounds-more ls g q p l r m a few b =
-      bounds-set ls g (p +ℤ pos 1) l r b (λ N S. reaches-more S g l m (b N S) (a .none N (S .holds) (S .ranked) (S .loopless) (S .border) few))
+      bounds-set ls g (p +ℤ pos 1) l r b (λ N S. reaches-more S g l m (b N S) (a .none N (S .holds) (S .ranked) (S .loopless) plain p (bordered-plain φ p (S .border)) few))
 
   -- **past its ceiling a gate refutes**
   pub past-top : (ls : List ℤ) (g : ℕ) → g < C .gates → Bounds C k φ tops ls → pos (φ * getD tops g 0) <ℤ labelIn ls (C .inputs + g) → Refuted C k φ tops
