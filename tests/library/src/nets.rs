@@ -215,6 +215,19 @@ pub fn ring(ring: Ring) -> Net {
 }
 
 /// The names of the slow families.
+/// The nets of real designs in `real-nets.txt`, as records.
+pub fn real() -> Vec<Vec<u8>> {
+    let lines = include_str!("../real-nets.txt").lines();
+    let digits = lines.filter_map(|line| Some(line.split_once(' ')?.0).filter(|word| *word != "#"));
+    let byte = |pair: &[u8]| {
+        let pair = std::str::from_utf8(pair).expect("ASCII");
+        u8::from_str_radix(pair, 16).expect("two hexadecimal digits")
+    };
+    digits
+        .map(|word| word.as_bytes().chunks(2).map(byte).collect())
+        .collect()
+}
+
 pub const FAMILIES: [&str; 4] = ["ring", "far output", "registers", "tangle"];
 
 /// A net of a family with so many gates and at most so many pins a gate.
