@@ -16,10 +16,11 @@ use Rattle.net_model.specs.Wired.{Wired}
 use Rattle.net_model.specs.Copies.{Copy, copy, Feeds, IsLeaves, Rising}
 use Rattle.net_model.specs.Tables.{bit, apply, feeding, same, atLeaf, valueIn, tableOf}
 use Rattle.cone_theory.specs.Basics.{member?}
-use Rattle.cone_values.specs.Words.{bit-half, pack-same, pack-bits}
+use Rattle.cone_values.specs.Words.{bit-half}
 use Rattle.cone_values.specs.Values.{same-true, same-refl, atLeaf-out}
 use Rattle.cone_values.specs.RunLaws.{map-map}
-use Rattle.cone_words.specs.LeafWords.{LeafWord, valuesAt, Composed}
+use Rattle.cone_words.specs.LeafWords.{LeafWord, valuesAt}
+use Rattle.cone_words.specs.WholeWordLaws.{few-choices, pack-word}
 use Rattle.sequences.specs.Tests.{First}
 use Rattle.cone_copies.specs.CopyLists.{copiesIn, sourceAt, SmallWires, Bounded, SourcesFirst}
 use Rattle.cone_copies.specs.CopyListLaws.{length-copiesIn, getD-copiesIn, in-copiesIn, found-in, missing, each-set, member}
@@ -66,17 +67,6 @@ module _ (ln lb : List ℕ) (n : ℕ) (nodes backs : List ℕ) (len : ℕ) (word
   pub carries-none : (j p w : ℕ) → First (λ i. copyAt ln lb i ≡ y) n j → n ≤ j → First (λ i. copyAt nodes backs i ≡ y) len p → len ≤ p
       → Carries (copiesIn ln lb n) (copiesIn nodes backs len) words y w
   carries-none j p w f h g k = record { leaf = λ m. absurd (missing ln lb n j y f h m); other = λ m i. absurd (missing nodes backs len p y g k i) }
-
--- ---- the number of choices
-
-pub choices-low : (n : ℕ) → n ≤ mostPins → 2 ^ n ≤ 64
-choices-low n h = pow-le-pow-right {n = 2} (omega arith) h
-
-pub choices : (n : ℕ) → n ≤ mostPins → 1 * 2 ^ n % 2 ^ 64 ≡ 2 ^ n
-choices n h = let a = choices-low n h in omega arith
-
-pub composed-choices : {table m r : ℕ} {fed : List ℕ} (n : ℕ) → n ≤ mostPins → Composed table fed m (1 * 2 ^ n % 2 ^ 64) r → Composed table fed m (2 ^ n) r
-composed-choices {table} {m} {r} {fed} n h c = subst (λ (k : ℕ). Composed table fed m k r) (choices n h) c
 
 -- ---- values
 
@@ -146,13 +136,13 @@ fed-before {N} {L} nodes backs len p leaves first h y f = go (member? y (copiesI
         inl (in-equal (sym (q .2) ∙ getD-copiesIn nodes backs len (q .0) (copy 0 0) (omega (arith, q .1))) (in-copiesIn nodes backs p (q .0) (q .1)))
     go (no m) = inr (leaves .complete y (record { outside = m; member = copyAt nodes backs p; isMember = in-copiesIn nodes backs len p h; feeds = f }))
 
--- the root's word is the table
-table-right : (N : Net) (v : ℕ) (L C : List Copy) (words : List ℕ) (p : ℕ) → p < length C → getD C p (copy 0 0) ≡ copy v 0 → getD words p 0 < 2 ^ (2 ^ length L) → Right N L C words (2 ^ length L)
-    → getD words p 0 ≡ tableOf N v C L
+-- the lowest bits of the root's word are the table
+table-right : (N : Net) (v : ℕ) (L C : List Copy) (words : List ℕ) (p : ℕ) → p < length C → getD C p (copy 0 0) ≡ copy v 0 → length L ≤ mostPins → Right N L C words 64
+    → getD words p 0 % 2 ^ (2 ^ length L) ≡ tableOf N v C L
 unfolding tableOf
-table-right N v L C words p h e small right =
-    sym (pack-bits (2 ^ length L) (getD words p 0) small)
-    ∙ pack-same (bit (getD words p 0)) (λ i. valueIn N L i (length C) (copy v 0)) (2 ^ length L) (λ i k. right p h i k (length C) h ∙ ap (valueIn N L i (length C)) e)
+table-right N v L C words p h e few right =
+    pack-word (λ i. valueIn N L i (length C) (copy v 0)) (2 ^ length L) (getD words p 0)
+    (λ i k. right p h i (omega (arith, k, few-choices (length L) few)) (length C) h ∙ ap (valueIn N L i (length C)) e)
 
 -- ---- for every net with this wiring and these tables
 
@@ -199,12 +189,12 @@ module _ {I G : ℕ} {ps sources counts tables : List ℕ} {L : List Copy} where
 
 -- the last word is the table, where the root is last
 pub table-last : {I G : ℕ} {ps sources counts tables : List ℕ} (ln lb : List ℕ) (n : ℕ) (nodes backs : List ℕ) (len : ℕ) (words : List ℕ) (v : ℕ) → 1 ≤ len
-    → WordsSettled I G ps sources counts tables (copiesIn ln lb n) nodes backs len words (2 ^ n) len → copyAt nodes backs (len - 1) ≡ copy v 0
-    → TableOver I G ps sources counts tables (copiesIn ln lb n) (copiesIn nodes backs len) v (getD words (len - 1) 0)
-table-last ln lb n nodes backs len words v some s e N w tabled cone leaves first =
-    table-right N v (copiesIn ln lb n) (copiesIn nodes backs len) words (len - 1) (omega (arith, length-copiesIn nodes backs len)) (getD-copiesIn nodes backs len (len - 1) (copy 0 0) last ∙ e)
-    (subst (λ (x : ℕ). getD words (len - 1) 0 < 2 ^ (2 ^ x)) (sym many) (s .small (len - 1) last))
-    (subst (λ (x : ℕ). Right N (copiesIn ln lb n) (copiesIn nodes backs len) words (2 ^ x)) (sym many) (s .right N w tabled leaves first))
+    → n ≤ mostPins → WordsSettled I G ps sources counts tables (copiesIn ln lb n) nodes backs len words 64 len → copyAt nodes backs (len - 1) ≡ copy v 0
+    → TableOver I G ps sources counts tables (copiesIn ln lb n) (copiesIn nodes backs len) v (getD words (len - 1) 0 % 2 ^ (2 ^ n))
+table-last ln lb n nodes backs len words v some few s e N w tabled cone leaves first =
+    ap (λ (x : ℕ). getD words (len - 1) 0 % 2 ^ (2 ^ x)) (sym many)
+    ∙ table-right N v (copiesIn ln lb n) (copiesIn nodes backs len) words (len - 1) (omega (arith, length-copiesIn nodes backs len)) (getD-copiesIn nodes backs len (len - 1) (copy 0 0) last ∙ e)
+    (omega (arith, many, few)) (s .right N w tabled leaves first)
   where
     last : len - 1 < len
     last = omega arith

@@ -7,7 +7,7 @@ use limits::COPIES;
 use limits::PINS;
 use limits::REACH;
 ghost use mathlib.Core.Path.{_≡_};
-ghost use Prim.Native.Nat.{ℕ, _-_, _*_, _^_, _≤_, _<_};
+ghost use Prim.Native.Nat.{ℕ, _-_, _*_, _≤_, _<_};
 ghost use lib.ListN.{length, getD};
 ghost use Rattle.limits.specs.Limits.{mostPins, mostNodes, mostTable};
 ghost use Rattle.net_model.specs.Arrays.{copyAt};
@@ -100,7 +100,7 @@ fn copy_word(
     p: usize,
 ) -> u64
     requires { ⌜ Given inputs gates (now pins) (now sources) (now counts) (now tables) (now «leaf_nodes») (now «leaf_backs») n (now «cone_nodes») (now «cone_backs») len (now marks) × (len ≤ length (now words)) × (p < len) ⌝ }
-    ensures { λ r. ⌜ WordAt inputs (now (pins .entry)) (now (sources .entry)) (now (counts .entry)) (now (tables .entry)) (copiesIn (now («leaf_nodes» .entry)) (now («leaf_backs» .entry)) n) (now («cone_nodes» .entry)) (now («cone_backs» .entry)) p (now (words .entry)) (2 ^ n) r ⌝ }
+    ensures { λ r. ⌜ WordAt inputs (now (pins .entry)) (now (sources .entry)) (now (counts .entry)) (now (tables .entry)) (copiesIn (now («leaf_nodes» .entry)) (now («leaf_backs» .entry)) n) (now («cone_nodes» .entry)) (now («cone_backs» .entry)) p (now (words .entry)) 64 r ⌝ }
 {
     let g = cone_nodes[p] - inputs;
     let m = pins[g];
@@ -119,7 +119,7 @@ fn copy_word(
         m,
         cone_backs[p],
     );
-    cone_words::compose(tables[g], fed, m, 1 << n)
+    cone_words::compose(tables[g], fed, m)
 }
 
 // The words of the listed copies, one after the other.
@@ -139,7 +139,7 @@ fn fill_words(
     marks: &[u8],
 ) -> [u64; COPIES]
     requires { ⌜ Given inputs gates (now pins) (now sources) (now counts) (now tables) (now «leaf_nodes») (now «leaf_backs») n (now «cone_nodes») (now «cone_backs») len (now marks) ⌝ }
-    ensures { λ r. ⌜ (length r ≡ members) × WordsSettled inputs gates (now (pins .entry)) (now (sources .entry)) (now (counts .entry)) (now (tables .entry)) (copiesIn (now («leaf_nodes» .entry)) (now («leaf_backs» .entry)) n) (now («cone_nodes» .entry)) (now («cone_backs» .entry)) len r (2 ^ n) len ⌝ }
+    ensures { λ r. ⌜ (length r ≡ members) × WordsSettled inputs gates (now (pins .entry)) (now (sources .entry)) (now (counts .entry)) (now (tables .entry)) (copiesIn (now («leaf_nodes» .entry)) (now («leaf_backs» .entry)) n) (now («cone_nodes» .entry)) (now («cone_backs» .entry)) len r 64 len ⌝ }
 {
     let mut words = [0u64; COPIES];
     let mut p = 0;
@@ -202,5 +202,6 @@ pub fn table(
         len,
         marks,
     );
-    words[len - 1]
+    let word = words[len - 1];
+    cone_words::low(word, n)
 }

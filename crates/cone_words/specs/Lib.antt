@@ -1,2 +1,4 @@
 pub mod LeafWords
 pub mod LeafWordLaws
+pub mod WholeWords
+pub mod WholeWordLaws

@@ -34,7 +34,7 @@ fn turned(table: u8, n: usize) -> u64
     ensures { λ r. ⌜ r ≡ turn (turningAt n) table ⌝ }
 {
     let words = [word_at(n, 0), word_at(n, 1), word_at(n, 2), 0, 0, 0];
-    let w = compose(table as u64, words, 3, 8);
+    let w = compose(table as u64, words, 3) % 256;
     if n % 2 == 1 { 255 - w } else { w }
 }
 

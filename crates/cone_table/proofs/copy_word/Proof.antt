@@ -3,7 +3,6 @@ use borrow.Author.Needs.{needs}
 use denote.Ref.{now}
 use native.Mathlib.Omega.{arith}
 use Rattle.cone_copies.specs.CopyListLaws.{place, member}
-use Rattle.cone_table.specs.ConeWordsLaws.{choices, choices-low, composed-choices}
 use Rattle.cone_table.proofs.copy_word.Statement.{statement}
 use Rattle.cone_table.proofs.copy_word.Tie as tie
 
@@ -95,9 +94,6 @@ shared-slice-read-compose c =
     let s = start .pre .0 .tables in
     omega arith
 
-shl-compose : tie.Need-shl-compose
-shl-compose c = search needs
-
 compose-requires : tie.Need-compose-requires
 compose-requires c κs =
     let start = c .before .before .before .before .before .before .before .before .before .before .before .before .before .before .before in
@@ -106,13 +102,13 @@ compose-requires c κs =
     let m = member (now (start .args .cone-nodes)) (now (start .args .cone-backs)) (start .args .len) (start .args .p) (start .pre .0 .bounded) (start .pre .2) in
     let g = m .gate in
     let d = w .gates in
-    (w .wires .pins _ g, let n = start .args .n in omega (arith, choices n (start .pre .0 .few), choices-low n (start .pre .0 .few)))
+    w .wires .pins _ g
 
 returns : tie.Need-returns
 returns c =
     let start = c .before .before .before .before .before .before .before .before .before .before .before .before .before .before .before .before in
     let e = c .before .before .gather .ensures in
-    record { fed = c .before .before .gather .result; size = e .0; each = e .1; word = composed-choices (start .args .n) (start .pre .0 .few) (c .compose .ensures) }
+    record { fed = c .before .before .gather .result; size = e .0; each = e .1; word = c .compose .ensures }
 
 pub copy-word-spec : {M : Type 1} → statement M
 copy-word-spec =
@@ -128,6 +124,5 @@ copy-word-spec =
     gather-requires
     mul-compose
     shared-slice-read-compose
-    shl-compose
     compose-requires
     returns)

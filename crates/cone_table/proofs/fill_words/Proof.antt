@@ -7,13 +7,13 @@ use native.Mathlib.Omega.{arith}
 use lib.ListN.{length, length-set}
 use Rattle.cone_copies.specs.CopyLists.{copiesIn, members}
 use Rattle.cone_table.specs.ConeWords.{WordsSettled}
-use Rattle.cone_table.specs.ConeWordsLaws.{choices-low, settled-none, settled-next, settled-all}
+use Rattle.cone_table.specs.ConeWordsLaws.{settled-none, settled-next, settled-all}
 use Rattle.cone_table.proofs.fill_words.Statement.{statement}
 use Rattle.cone_table.proofs.fill_words.Tie as tie
 
 abbrev Inv-loop : tie.InvT-loop
 Inv-loop inputs gates pins sources counts tables leaf-nodes leaf-backs n cone-nodes cone-backs len marks words₀ p₀ words p =
-    (p ≤ len) × (length words ≡ members) × WordsSettled inputs gates pins sources counts tables (copiesIn leaf-nodes leaf-backs n) cone-nodes cone-backs len words (2 ^ n) p
+    (p ≤ len) × (length words ≡ members) × WordsSettled inputs gates pins sources counts tables (copiesIn leaf-nodes leaf-backs n) cone-nodes cone-backs len words 64 p
 
 abbrev μ-loop : tie.MeasureT-loop
 μ-loop inputs gates pins sources counts tables leaf-nodes leaf-backs n cone-nodes cone-backs len marks words₀ p₀ words p = len - p
@@ -21,7 +21,7 @@ abbrev μ-loop : tie.MeasureT-loop
 loop-holds : tie.Need-loop-holds Inv-loop μ-loop
 loop-holds c =
     let a = c .before .before .before .before .before .before .before .before .before .args in
-    (omega arith, refl, settled-none (now (a .cone-nodes)) (now (a .cone-backs)) (a .len) _ (2 ^ a .n))
+    (omega arith, refl, settled-none (now (a .cone-nodes)) (now (a .cone-backs)) (a .len) _ 64)
 
 slice-aggregate-copy-word : tie.Need-slice-aggregate-copy-word Inv-loop μ-loop
 slice-aggregate-copy-word c = search needs
@@ -61,8 +61,8 @@ loop-again c =
     let e = loop .inv .1 in (
       omega arith,
       length-set (loop .words) (loop .p) (c .copy-word .result) ∙ e,
-      settled-next (now (a .cone-nodes)) (now (a .cone-backs)) (a .len) (loop .words) (2 ^ a .n) (loop .p)
-          (c .copy-word .result) (choices-low (a .n) (s .pre .few)) (s .pre .bounded) (omega arith) (omega arith) (c .copy-word .ensures) (loop .inv .2),
+      settled-next (now (a .cone-nodes)) (now (a .cone-backs)) (a .len) (loop .words) 64 (loop .p)
+          (c .copy-word .result) (omega arith) (s .pre .bounded) (omega arith) (omega arith) (c .copy-word .ensures) (loop .inv .2),
     )
 
 returns : tie.Need-returns Inv-loop μ-loop

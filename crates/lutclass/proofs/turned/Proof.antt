@@ -3,6 +3,7 @@ use Prim.Native.Nat.{_/_, _%_, _^_}
 use native.Mathlib.Omega.{arith}
 use borrow.Author.Needs.{needs}
 use borrow.Author.Tests.{eq-eqb, ne-eqb}
+use Rattle.cone_words.specs.WholeWordLaws.{composed-low}
 use Rattle.lutclass.specs.FeedingLaws.{made-inverted, made-as-is}
 use Rattle.lutclass.proofs.turned.Statement.{statement}
 use Rattle.lutclass.proofs.turned.Tie as tie
@@ -36,16 +37,16 @@ returns : tie.Need-returns
 returns c =
     let start = c .before .before .before .before .before in
     let words = c .before .before in
-    let made = rw (words .before .before .word-at .ensures, words .before .word-at2 .ensures, words .word-at3 .ensures) at (c .before .compose .ensures) in
-    made-inverted (start .args .table) (start .args .n) (c .before .compose .result) (start .pre) made (eq-eqb (start .args .n / 2 ^ 0 % 2) 1 (omega (arith, c .if1 .taken)))
+    let made = rw (words .before .before .word-at .ensures, words .before .word-at2 .ensures, words .word-at3 .ensures) at (composed-low 8 (omega arith) (c .before .compose .ensures)) in
+    made-inverted (start .args .table) (start .args .n) (c .before .compose .result % 256) (start .pre) made (eq-eqb (start .args .n / 2 ^ 0 % 2) 1 (omega (arith, c .if1 .taken)))
 
 -- src/lib.rt:32:1
 returns-2 : tie.Need-returns-2
 returns-2 c =
     let start = c .before .before .before .before .before in
     let words = c .before .before in
-    let made = rw (words .before .before .word-at .ensures, words .before .word-at2 .ensures, words .word-at3 .ensures) at (c .before .compose .ensures) in
-    made-as-is (start .args .table) (start .args .n) (c .before .compose .result) (start .pre) made (ne-eqb (start .args .n / 2 ^ 0 % 2) 1 (λ e. c .if1 .left (omega arith)))
+    let made = rw (words .before .before .word-at .ensures, words .before .word-at2 .ensures, words .word-at3 .ensures) at (composed-low 8 (omega arith) (c .before .compose .ensures)) in
+    made-as-is (start .args .table) (start .args .n) (c .before .compose .result % 256) (start .pre) made (ne-eqb (start .args .n / 2 ^ 0 % 2) 1 (λ e. c .if1 .left (omega arith)))
 
 pub turned-spec : {M : Type 1} → statement M
 turned-spec =
