@@ -1,4 +1,4 @@
-// The label sweep: labels raised from below, gate by gate, until nothing can change or a label would pass its ceiling.
+// The label sweep: labels raised from below, sweep after sweep, until nothing can change or a label would pass its ceiling.
 use cut_circuit::Extent;
 use label_climb::next_width;
 use label_climb::round;
@@ -16,7 +16,7 @@ ghost use Rattle.cut_circuit.specs.Packed.{packedOf};
 ghost use Rattle.cut_question.specs.Separating.{AtRest};
 ghost use Rattle.label_visit.specs.LabelVisits.{wiring, Ready, Ceilings};
 ghost use Rattle.label_pins.specs.PinHeights.{heightAt, PinFits};
-ghost use Rattle.label_sweep.specs.Sweeps.{Ordered, IfRose, QuietFrom, SweepTold, Outcome, SettleTold, Filled, OutFits, Sized, Labelled};
+ghost use Rattle.label_sweep.specs.Sweeps.{Ordered, Outcome, SettleTold, Filled, OutFits, Sized, Labelled};
 ghost use Rattle.label_sweep.specs.Starting.{Started, OutsMet};
 
 // What a sweep's result says: 0 where nothing can change, 1 where a label rose, 2 where one would pass its ceiling.
@@ -32,7 +32,7 @@ fn outcome(gates: usize, r: usize) -> usize
     }
 }
 
-// Sweeps until nothing can change, or a label would pass its ceiling.
+// Sweeps, with trials where labels keep rising, until nothing can change or a label would pass its ceiling.
 fn sweep_all(
     s: Extent,
     net: &[usize],
@@ -54,9 +54,10 @@ fn sweep_all(
     ensures { λ r. ⌜ SettleTold (wiring s (now (net .entry))) k phi (now (tops .entry)) (now (labels .entry)) (now (labels .exit)) r ⌝ }
 {
     let mut stop = s.gates;
+    let mut w = 1;
     let mut r = 1;
     while r == 1 {
-        stop = sweep(
+        stop = round(
             s,
             net,
             slots,
@@ -71,8 +72,10 @@ fn sweep_all(
             phi,
             k,
             stop,
+            w,
         );
         r = outcome(s.gates, stop);
+        w = next_width(w);
     }
     r
 }

@@ -19,13 +19,13 @@ loop-holds c = (omega arith, c .pre .0 .ends, all-none)
 
 fell-short-requires : tie.Need-fell-short-requires Inv-loop μ-loop
 fell-short-requires c κs = (
-      let r = c .before .before .pre .0 .space in omega arith,
-      let r = c .before .before .pre .0 .room in omega arith,
-      let r = c .before .before .pre .1 .room in omega arith,
-      c .before .before .pre .0 .small (c .before .loop .i) (omega arith),
-      c .before .before .pre .1 .small (c .before .loop .i) (omega arith),
-      c .before .before .pre .2,
-    )
+  let r = c .before .before .pre .0 .space in omega arith,
+  let r = c .before .before .pre .0 .room in omega arith,
+  let r = c .before .before .pre .1 .room in omega arith,
+  c .before .before .pre .0 .small (c .before .loop .i) (omega arith),
+  c .before .before .pre .1 .small (c .before .loop .i) (omega arith),
+  c .before .before .pre .2,
+)
 
 returns : tie.Need-returns Inv-loop μ-loop
 returns c = (λ e. absurd (false≢true e))

@@ -28,8 +28,11 @@ returns : tie.Need-returns
 returns c = let z = c .before .before .args .label in
     let n = c .before .before .args .d in
     let p = c .before .before .pre in
-    let e : toZ w64 (ofZ w64 (toZ w64 (ofZ w64 z) +ℤ toZ w64 (ofZ w64 (c .before .whole .result)))) ≡ (z +ℤ pos n) = rw (c .before .whole .ensures) (rw (back z (small-fits z (p .0)), back (pos n)
-    (fits-of (pos n) room (omega arith) (p .1))) (back (z +ℤ pos n) (fits-of (z +ℤ pos n) (room + room) (omega arith) (plus-mag z n room room (p .0 .size) (p .1))))) in
+    let e : toZ w64 (ofZ w64 (toZ w64 (ofZ w64 z) +ℤ toZ w64 (ofZ w64 (c .before .whole .result)))) ≡ (z +ℤ pos n) = rw (c .before .whole .ensures) (rw (
+      back z (small-fits z (p .0)),
+      back (pos n)
+          (fits-of (pos n) room (omega arith) (p .1)),
+    ) (back (z +ℤ pos n) (fits-of (z +ℤ pos n) (room + room) (omega arith) (plus-mag z n room room (p .0 .size) (p .1))))) in
     subst (Nudge z n) (sym e) (nudge-up z n (p .0) (subst (λ (x : ℤ). x <ℤ pos room) e (ltZ-true _ _ (c .if1 .taken))))
 
 returns-2 : tie.Need-returns-2

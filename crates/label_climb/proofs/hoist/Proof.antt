@@ -21,11 +21,11 @@ loop-holds c = (omega arith, c .pre .0 .ends, hoisted-none (now (c .args .old)) 
 
 nudge-requires : tie.Need-nudge-requires Inv-loop μ-loop
 nudge-requires c κs = (
-      let e = c .before .before .loop .inv .2 .size in let r = c .before .before .before .pre .0 .room in omega arith,
-      let r = c .before .before .before .pre .0 .space in omega arith,
-      subst Small (sym (c .before .before .loop .inv .2 .behind (c .before .before .loop .i) (omega arith))) (c .before .before .before .pre .0 .small (c .before .before .loop .i) (omega arith)),
-      c .before .before .before .pre .1,
-    )
+  let e = c .before .before .loop .inv .2 .size in let r = c .before .before .before .pre .0 .room in omega arith,
+  let r = c .before .before .before .pre .0 .space in omega arith,
+  subst Small (sym (c .before .before .loop .inv .2 .behind (c .before .before .loop .i) (omega arith))) (c .before .before .before .pre .0 .small (c .before .before .loop .i) (omega arith)),
+  c .before .before .before .pre .1,
+)
 
 add-i : tie.Need-add-i Inv-loop μ-loop
 add-i c = search needs
