@@ -19,8 +19,10 @@ use Rattle.net_model.specs.Checks.{Sound}
 use Rattle.net_model.specs.Copies.{copy, Any, Chosen}
 use Rattle.net_model.specs.Arrays.{stride, copiesFrom}
 use Rattle.cone_theory.specs.Ranks.{Ranked}
+use Rattle.cone_theory.specs.Reach.{reachOf}
 use Rattle.cut_theory.specs.Choice.{chosen-leaves}
-use Rattle.label_theory.specs.Labels.{Low, LowCut, Least}
+use Rattle.label_theory.specs.Labels.{Low, LowCut, Least, plain}
+use Rattle.label_theory.specs.Modes.{bordered-plain}
 use Rattle.label_theory.specs.Lower.{input-or-gate}
 use Rattle.label_theory.specs.Pins.{pin-lemma, pin-input}
 use Rattle.label_theory.specs.Forced.{Falling, separation-cut}
@@ -50,10 +52,10 @@ least-falling {N} {k} {φ} {lab} s l v g p i = go (input-or-gate N (p .src) (s .
         omega (arith, ints, +-parts (lab v) (pos (φ * p .count)), sub-parts (lab (p .src)) (pos (φ * p .count)))
 
 -- a separation with fewest leaves and smallest cone has the leaves of the chosen cut
-separated-leaves : {N : Net} {v φ k r border : ℕ} {lab : ℕ → ℤ} {h : ℤ} (w : Separated N v φ lab h border k r) → Ranked N → Falling N φ lab
+separated-leaves : {N : Net} {v φ k r border : ℕ} {lab : ℕ → ℤ} {h : ℤ} (w : Separated N v φ lab h border k r) → Ranked N → k * reachOf N ≤ border → Falling N φ lab
     → {K : LowCut N k φ lab v h} → Chosen N k v (Low φ lab h) Any K → w .parted .leaves ≡ K .leaves
 unfolding told-cut separation-cut
-separated-leaves w R falling c = chosen-leaves (told-chosen w falling R) c
+separated-leaves {φ = φ} {h = h} w R near falling c = chosen-leaves (told-chosen w falling plain (bordered-plain φ h near) R) c
 
 -- ---- what is asked of `chosen`, and what it tells
 
@@ -89,16 +91,16 @@ module _ (C : Circuit) {ls : List ℤ} {φ k : ℕ} (g : ℕ) (gate : g < C .gat
       where
         go : Dec (r ≤ k) → r ≤ k
         go (yes l) = l
-        go (no n) = absurd (a .none (c .net) (holds-of C (c .holds)) (c .ranked) (c .loopless) (c .border) (omega arith) key-cut)
+        go (no n) = absurd (a .none (c .net) (holds-of C (c .holds)) (c .ranked) (c .loopless) plain h (bordered-plain φ h (c .border)) (omega arith) key-cut)
 
     -- **and its leaves are the key's.**
     pub told-leaves : {nodes backs : List ℕ} → Written C ls φ k g h nodes backs r → copiesFrom nodes backs 0 r ≡ c .key .leaves (C .inputs + g)
     told-leaves {nodes} {backs} w =
         let v = C .inputs + g in
-        let x = w .leaves (c .net) (holds-of C (c .holds)) (c .ranked) (c .loopless) (c .border) told-few in
+        let x = w .leaves (c .net) (holds-of C (c .holds)) (c .ranked) (c .loopless) told-few in
         let y = subst (λ (z : ℤ). (s : Separated (c .net) v φ (labelIn ls) z (C .border) k r) × (s .parted .leaves ≡ copiesFrom nodes backs 0 r)) e x in
         let z = subst (λ (lab : ℕ → ℤ). (s : Separated (c .net) v φ lab (lab v) (C .border) k r) × (s .parted .leaves ≡ copiesFrom nodes backs 0 r)) (sym label-is) y in
-        sym (z .1) ∙ separated-leaves (z .0) (c .ranked) (least-falling (c .sound) (c .key .least)) (c .key .chosen v isGate) ∙ sym (c .key .isLeaves v isGate)
+        sym (z .1) ∙ separated-leaves (z .0) (c .ranked) (c .border) (least-falling (c .sound) (c .key .least)) (c .key .chosen v isGate) ∙ sym (c .key .isLeaves v isGate)
 
 -- ---- a part of an array
 

@@ -1,5 +1,6 @@
 // The chosen roots of a cover and the chosen cut of each: from the outputs back, one root after another.
 use cut_circuit::Extent;
+use cut_forced::Query;
 use cut_question::chosen;
 use limits::PINS;
 ghost use mathlib.Core.Path.{_≡_};
@@ -89,6 +90,12 @@ fn cut_of(
 {
     let v = s.inputs + g;
     let h = labels[v];
+    let q = Query {
+        phi: phi,
+        k: k,
+        gate: g,
+        height: h,
+    };
     let at = PINS * g;
     let end = at + PINS;
     chosen(
@@ -103,10 +110,7 @@ fn cut_of(
         &mut nodes[at..end],
         &mut backs[at..end],
         labels,
-        phi,
-        k,
-        g,
-        h,
+        q,
     )
 }
 

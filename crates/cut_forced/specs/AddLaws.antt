@@ -71,10 +71,10 @@ module _ {W : Circuit} {T : Target} {k : ℕ} {slots members : List ℕ} {m : �
   module _ (y : ℕ) (f : ForcedAt W T y) where
     -- a forced copy of an input or beyond the border
     pub ends-refuted : 0 < endingAt (W .inputs) (W .width) (W .border) y → Refuted W T k
-    ends-refuted h N H R b K =
+    ends-refuted h N H R M b near K =
         let i = forced-inside K (f N H) in
         let g = K .isCone .gates (decode W y) i .low in
-        omega (arith, h, g, H .inputs, b, cut-reach R K (decode W y) i)
+        omega (arith, h, g, H .inputs, near .within (decode W y) (K .inside (decode W y) i) (omega (arith, cut-reach R K (decode W y) i)))
 
   module _ (y : ℕ) (inner : Inner W y) (fresh : marked W slots y ≡ 0) where
     abbrev g : ℕ
@@ -91,7 +91,7 @@ module _ {W : Circuit} {T : Target} {k : ℕ} {slots members : List ℕ} {m : �
 
     -- **a forced copy of a gate that has k already**
     pub full-refuted : ForcedAt W T y → k ≤ n → Refuted W T k
-    full-refuted f h N H R b K =
+    full-refuted f h N H R M b near K =
         omega (arith, h, length-map (upTo n) back, length-upTo n, cut-few R K (y / W .width) (y % W .width ∷ map back (upTo n)) (distinct-cons other apart) inside)
       where
         back : ℕ → ℕ

@@ -9,10 +9,11 @@ use lib.IntN.{ℤ}
 use lib.ListN.{length, getD, set}
 use Rattle.limits.specs.Limits.{mostK}
 use Rattle.net_model.specs.Net.{Net}
-use Rattle.net_model.specs.Copies.{Copy, copy}
+use Rattle.net_model.specs.Copies.{Copy, copy, Cut}
 use Rattle.cone_theory.specs.Ranks.{Ranked}
 use Rattle.cone_theory.specs.Reach.{reachOf}
-use Rattle.label_theory.specs.Labels.{Low, LowCut}
+use Rattle.label_theory.specs.Labels.{Low, Mode, Inside}
+use Rattle.label_theory.specs.Modes.{Bordered}
 use Rattle.label_theory.specs.Forced.{Forced}
 use Rattle.signed.specs.Range.{Small, room, labelIn}
 use Rattle.cut_circuit.specs.Circuit.{Circuit, Layout, total, circuit, place, endingAt, feedingAt, forcedAt}
@@ -51,9 +52,10 @@ LowOf T c = Low (T .phi) (labelIn (T .labels)) (T .height) c
 abbrev pub ForcedAt : Circuit → Target → ℕ → Type 0
 ForcedAt W T x = (N : Net) → Holds W N → Forced N (T .root) (LowOf T) (decode W x)
 
--- no cut of at most k leaves is low enough
+-- no cut of at most k leaves is low enough, where the border is, up to the reach, what a mode asks of members
 abbrev pub Refuted : Circuit → Target → ℕ → Type 0
-Refuted W T k = (N : Net) → Holds W N → Ranked N → k * reachOf N ≤ W .border → ¬ LowCut N k (T .phi) (labelIn (T .labels)) (T .root) (T .height)
+Refuted W T k =
+    (N : Net) → Holds W N → Ranked N → (M : Mode) (b : ℤ) → Bordered (Inside M (T .phi) b) (k * reachOf N) (W .border) → ¬ Cut N k (T .root) (LowOf T) (Inside M (T .phi) b)
 
 -- What does not change: the arrays laid out, labels for all nodes, room for k copies of a gate, and numbers that do not overflow.
 pub record Ground (W : Circuit) (ls : List ℤ) (φ k : ℕ) : Type 0 where

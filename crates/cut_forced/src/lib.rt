@@ -20,6 +20,14 @@ ghost use Rattle.cut_forced.specs.Slots.{holding, Unmarked};
 ghost use Rattle.cut_forced.specs.Outside.{OneMore, OutsideAsked, PinsOutside, FewAsked, FewTold};
 ghost use Rattle.cut_forced.specs.Forcing.{pinsAt, feeder, target, HoldAsked, Added, AddAsked, LowAsked, PinAsked, PinTold, MemberAsked, MemberTold, GrowAsked, GrowTold, ForceAsked, ForceTold, Listed};
 
+// A question: has the gate a k-cut of at most this height, for period phi?
+pub struct Query {
+    pub phi: usize,
+    pub k: usize,
+    pub gate: usize,
+    pub height: i64,
+}
+
 // Whether the copy y is low enough for a leaf.
 fn low(width: usize, labels: &[i64], phi: usize, h: i64, y: usize) -> bool
     requires { ⌜ LowAsked width (now labels) phi y ⌝ }
@@ -73,21 +81,19 @@ fn force_pin(
     slots: &mut [u32],
     members: &mut [u32],
     labels: &[i64],
-    phi: usize,
-    h: i64,
-    k: usize,
+    q: Query,
     m: usize,
     x: usize,
     j: usize,
 ) -> usize
-    requires { ⌜ PinAsked (packedOf s (now net) []) (now labels) phi k (now slots) (now members) m x j ⌝ }
-    ensures { λ r. ⌜ PinTold (s .inputs) (s .gates) (s .width) (s .border) (now (labels .entry)) phi h k (now (slots .entry)) (now (members .entry)) m (feeder (packedOf s (now (net .entry)) []) x j) (now (slots .exit)) (now (members .exit)) r ⌝ }
+    requires { ⌜ PinAsked (packedOf s (now net) []) (now labels) (q .phi) (q .k) (now slots) (now members) m x j ⌝ }
+    ensures { λ r. ⌜ PinTold (s .inputs) (s .gates) (s .width) (s .border) (now (labels .entry)) (q .phi) (q .height) (q .k) (now (slots .entry)) (now (members .entry)) m (feeder (packedOf s (now (net .entry)) []) x j) (now (slots .exit)) (now (members .exit)) r ⌝ }
 {
     let y = source(s, net, x, j);
-    if low(s.width, labels, phi, h, y) {
+    if low(s.width, labels, q.phi, q.height, y) {
         return m;
     }
-    add(s, slots, members, k, m, y)
+    add(s, slots, members, q.k, m, y)
 }
 
 // Looks at all pins of the member x.
@@ -97,21 +103,19 @@ fn force_pins(
     slots: &mut [u32],
     members: &mut [u32],
     labels: &[i64],
-    phi: usize,
-    h: i64,
-    k: usize,
+    q: Query,
     m: usize,
     x: usize,
 ) -> usize
-    requires { ⌜ MemberAsked (packedOf s (now net) []) (now labels) phi h k (now slots) (now members) m x ⌝ }
-    ensures { λ r. ⌜ MemberTold (packedOf s (now (net .entry)) []) (now (labels .entry)) phi h k (now (slots .entry)) (now (members .entry)) m x (now (slots .exit)) (now (members .exit)) r ⌝ }
+    requires { ⌜ MemberAsked (packedOf s (now net) []) (now labels) (q .phi) (q .height) (q .k) (now slots) (now members) m x ⌝ }
+    ensures { λ r. ⌜ MemberTold (packedOf s (now (net .entry)) []) (now (labels .entry)) (q .phi) (q .height) (q .k) (now (slots .entry)) (now (members .entry)) m x (now (slots .exit)) (now (members .exit)) r ⌝ }
 {
-    let most = k * s.gates;
+    let most = q.k * s.gates;
     let n = pins_of(s, net, x);
     let mut c = m;
     let mut j = 0;
     while j < n {
-        let r = force_pin(s, net, slots, members, labels, phi, h, k, c, x, j);
+        let r = force_pin(s, net, slots, members, labels, q, c, x, j);
         if most < r {
             return r;
         }
@@ -128,19 +132,17 @@ fn grow(
     slots: &mut [u32],
     members: &mut [u32],
     labels: &[i64],
-    phi: usize,
-    h: i64,
-    k: usize,
+    q: Query,
 ) -> usize
-    requires { ⌜ GrowAsked (packedOf s (now net) []) (now labels) phi h k (now slots) (now members) ⌝ }
-    ensures { λ r. ⌜ GrowTold (packedOf s (now (net .entry)) []) (now (labels .entry)) phi h k (now (slots .entry)) (now (members .entry)) (now (slots .exit)) (now (members .exit)) r ⌝ }
+    requires { ⌜ GrowAsked (packedOf s (now net) []) (now labels) (q .phi) (q .height) (q .k) (now slots) (now members) ⌝ }
+    ensures { λ r. ⌜ GrowTold (packedOf s (now (net .entry)) []) (now (labels .entry)) (q .phi) (q .height) (q .k) (now (slots .entry)) (now (members .entry)) (now (slots .exit)) (now (members .exit)) r ⌝ }
 {
-    let most = k * s.gates;
+    let most = q.k * s.gates;
     let mut m = 1;
     let mut i = 0;
     while i < m {
         let x = number_at(members, i);
-        let r = force_pins(s, net, slots, members, labels, phi, h, k, m, x);
+        let r = force_pins(s, net, slots, members, labels, q, m, x);
         if most < r {
             return r;
         }
@@ -157,18 +159,16 @@ pub fn force(
     slots: &mut [u32],
     members: &mut [u32],
     labels: &[i64],
-    phi: usize,
-    h: i64,
-    k: usize,
-    g: usize,
+    q: Query,
 ) -> usize
-    requires { ⌜ ForceAsked (packedOf s (now net) []) (now labels) phi k g (now slots) (now members) ⌝ }
-    ensures { λ r. ⌜ ForceTold (packedOf s (now (net .entry)) []) (target (now (labels .entry)) phi (s .inputs + g) h) k (now (slots .exit)) (now (members .exit)) r ⌝ }
+    requires { ⌜ ForceAsked (packedOf s (now net) []) (now labels) (q .phi) (q .k) (q .gate) (now slots) (now members) ⌝ }
+    ensures { λ r. ⌜ ForceTold (packedOf s (now (net .entry)) []) (target (now (labels .entry)) (q .phi) (s .inputs + q .gate) (q .height)) (q .k) (now (slots .exit)) (now (members .exit)) r ⌝ }
 {
+    let g = q.gate;
     let x = (s.inputs + g) * s.width;
     hold(s.gates, slots, g, 0, 0);
     put_number(members, 0, x);
-    grow(s, net, slots, members, labels, phi, h, k)
+    grow(s, net, slots, members, labels, q)
 }
 
 // Takes the forced copies of the members' gates away.

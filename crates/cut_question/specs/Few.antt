@@ -87,8 +87,8 @@ module _ {C : Circuit} {ls : List ℤ} {φ k g : ℕ} {h : ℤ} {members₀ : Li
     -- **A forced set that reads at most k copies outside it is a k-cut.**
     pub decides-few : Decides C ls φ k g h k
     decides-few = record {
-      none = λ N H R loopless b p. absurd (omega (arith, p));
-      some = λ N H R loopless b p.
+      none = λ N H R loopless M b near p. absurd (omega (arith, p));
+      some = λ N H R loopless p.
           let L = leavesOf N (copiesOf G) in
           record {
             set = copiesOf G;

@@ -2,20 +2,19 @@
 use mathlib.Core.Path.{_≡_, refl, sym, subst, _∙_}
 use mathlib.Core.List.{List, []}
 use Prim.Native.Nat.{ℕ, _+_, _*_, _≤_, _<_}
-use native.Mathlib.Nat.{le-refl}
 use native.Mathlib.Omega.{arith}
 use lib.IntN.{ℤ}
 use lib.ListN.{length, take}
 use Rattle.sequences.specs.Member.{in-equal}
 use Rattle.net_model.specs.Net.{Net}
 use Rattle.net_model.specs.Checks.{Loopless}
-use Rattle.net_model.specs.Copies.{Copy, IsLeaves}
+use Rattle.net_model.specs.Copies.{Copy, IsLeaves, Cut}
 use Rattle.net_model.specs.Arrays.{copiesFrom}
 use Rattle.cone_theory.specs.Ranks.{Ranked}
 use Rattle.cone_theory.specs.Reach.{reachOf}
 use Rattle.cone_theory.specs.Basics.{leavesOf}
-use Rattle.label_theory.specs.Labels.{LowCut}
-use Rattle.label_theory.specs.Modes.{bordered-plain}
+use Rattle.label_theory.specs.Labels.{Low, Mode, Inside}
+use Rattle.label_theory.specs.Modes.{Bordered}
 use Rattle.label_theory.specs.Forced.{ForcedSet, Separation, no-cut}
 use Rattle.signed.specs.Range.{labelIn}
 use Rattle.cut_circuit.specs.Circuit.{Circuit, Layout, total}
@@ -85,19 +84,19 @@ module _ {C : Circuit} {ls : List ℤ} {φ k g : ℕ} {h : ℤ} {members₀ : Li
   slotted-layout : Layout (filled C slots)
   slotted-layout = layout-slotted (a .layout) (G .slotted)
 
-  module _ (N : Net) (H : Holds C N) (R : Ranked N) (loopless : Loopless N) (border : k * reachOf N ≤ C .border) where
+  module _ (N : Net) (H : Holds C N) (R : Ranked N) (loopless : Loopless N) where
     set-of : ForcedSet N (C .inputs + g) (LowOf T) (copiesOf G)
     set-of = forced-set (ground-of a q) G closed (holds-filled [] H)
 
-    separates : {D : List Copy} → Separation N (C .inputs + g) (copiesOf G) (k * reachOf N) D → Separates (filled C slots) N D
+    separates : {D : List Copy} → Separation N (C .inputs + g) (copiesOf G) (C .border) D → Separates (filled C slots) N D
     separates s = record {
       gates = s .isCone .gates;
-      border = λ c i. omega (arith, s .near c i, border);
+      border = s .near;
       forced = λ x p. s .contains (decode C x) (in-copies (ground-of a q) G closed (holds-filled [] H) x p);
     }
 
-    none-of : k < r → ¬ LowCut N k φ (labelIn ls) (C .inputs + g) h
-    none-of p = no-cut R (k * reachOf N) (bordered-plain φ h (le-refl (k * reachOf N))) set-of (λ D L s w. none-few slotted-layout (holds-filled slots H) R loopless room o p (separates s) w)
+    none-of : (M : Mode) (b : ℤ) → Bordered (Inside M φ b) (k * reachOf N) (C .border) → k < r → ¬ Cut N k (C .inputs + g) (Low φ (labelIn ls) h) (Inside M φ b)
+    none-of M b near p = no-cut R (C .border) near set-of (λ D L s w. none-few slotted-layout (holds-filled slots H) R loopless room o p (separates s) w)
 
     module _ (few : r ≤ k) where
       leads-of : ForcedLeads (filled C slots) N (C .inputs + g) (copiesOf G)
@@ -139,15 +138,15 @@ module _ {C : Circuit} {ls : List ℤ} {φ k g : ℕ} {h : ℤ} {members₀ : Li
   pub decides-found : Decides C ls φ k g h r
   decides-found = record {
     none = none-of;
-    some = λ N H R loopless b p. separated-by N H R loopless b p (leavesOf N (coneOf (filled C slots) t) .1) .0 .parted;
+    some = λ N H R loopless p. separated-by N H R loopless p (leavesOf N (coneOf (filled C slots) t) .1) .0 .parted;
   }
 
   -- **What the leaves written are.**
   pub written-found : {nodes backs : List ℕ} → LeavesTold (C .width) k r t nodes backs → Written C ls φ k g h nodes backs r
   written-found {nodes} {backs} f = record {
-    leaves = λ N H R loopless b p.
+    leaves = λ N H R loopless p.
         let w = f p in
         let e = collected-count slotted-layout (holds-filled slots H) R loopless room o p (w .1) in
-        separated-by N H R loopless b p
+        separated-by N H R loopless p
         (subst (λ (n : ℕ). IsLeaves N (coneOf (filled C slots) t) (copiesFrom nodes backs 0 n)) e (collected-leaves slotted-layout (holds-filled slots H) R loopless room o p (w .1)));
   }

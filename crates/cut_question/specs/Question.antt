@@ -8,11 +8,12 @@ use Rattle.limits.specs.Limits.{mostK}
 use Rattle.sequences.specs.Member.{Within}
 use Rattle.net_model.specs.Net.{Net}
 use Rattle.net_model.specs.Checks.{Loopless}
-use Rattle.net_model.specs.Copies.{Copy, IsLeaves}
+use Rattle.net_model.specs.Copies.{Copy, IsLeaves, Cut}
 use Rattle.net_model.specs.Arrays.{copiesFrom}
 use Rattle.cone_theory.specs.Ranks.{Ranked}
 use Rattle.cone_theory.specs.Reach.{reachOf}
-use Rattle.label_theory.specs.Labels.{Low, LowCut}
+use Rattle.label_theory.specs.Labels.{Low, Mode, Inside}
+use Rattle.label_theory.specs.Modes.{Bordered}
 use Rattle.label_theory.specs.Forced.{ForcedSet, Separation}
 use Rattle.signed.specs.Range.{Small, room, labelIn}
 use Rattle.cut_circuit.specs.Circuit.{Circuit, Layout, total}
@@ -47,17 +48,20 @@ pub record Parted (N : Net) (v φ : ℕ) (lab : ℕ → ℤ) (h : ℤ) (border k
   pub isLeaves : IsLeaves N cone leaves
   pub few : length leaves ≤ k
 
--- One with r leaves; none has fewer, and its cone lies inside that of each with as few.
+-- One with r leaves; none inside the border has fewer, and its cone lies inside that of each with as few.
 pub record Separated (N : Net) (v φ : ℕ) (lab : ℕ → ℤ) (h : ℤ) (border k r : ℕ) : Type 0 where
   pub parted : Parted N v φ lab h border k
   pub count : length (parted .leaves) ≡ r
-  pub fewest : (D L : List Copy) → Separation N v (parted .set) (k * reachOf N) D → IsLeaves N D L → r ≤ length L
-  pub smallest : (D L : List Copy) → Separation N v (parted .set) (k * reachOf N) D → IsLeaves N D L → length L ≡ r → Within (parted .cone) D
+  pub fewest : (D L : List Copy) → Separation N v (parted .set) border D → IsLeaves N D L → r ≤ length L
+  pub smallest : (D L : List Copy) → Separation N v (parted .set) border D → IsLeaves N D L → length L ≡ r → Within (parted .cone) D
 
--- What an answer r means, for any net with this wiring whose cuts the border leaves room for: above k, gate g has no k-cut so low; else there is a separation.
+-- What an answer r means, for any net with this wiring. Above k, gate g has no k-cut so low whose members stand inside the border; they need not be asked to where the border is
+-- k·M or more (`bordered-plain`). Else there is a separation.
 pub record Decides (C : Circuit) (ls : List ℤ) (φ k g : ℕ) (h : ℤ) (r : ℕ) : Type 0 where
-  pub none : (N : Net) → Holds C N → Ranked N → Loopless N → k * reachOf N ≤ C .border → k < r → ¬ LowCut N k φ (labelIn ls) (C .inputs + g) h
-  pub some : (N : Net) → Holds C N → Ranked N → Loopless N → k * reachOf N ≤ C .border → r ≤ k → Parted N (C .inputs + g) φ (labelIn ls) h (C .border) k
+  pub none :
+      (N : Net) → Holds C N → Ranked N → Loopless N → (M : Mode) (b : ℤ) → Bordered (Inside M φ b) (k * reachOf N) (C .border) → k < r
+      → ¬ Cut N k (C .inputs + g) (Low φ (labelIn ls) h) (Inside M φ b)
+  pub some : (N : Net) → Holds C N → Ranked N → Loopless N → r ≤ k → Parted N (C .inputs + g) φ (labelIn ls) h (C .border) k
 
 -- Two arrays with room for k leaves, and a net that has this wiring, without loops and with ranks.
 pub record Takes (C : Circuit) (k : ℕ) (nodes backs : List ℕ) : Type 0 where
@@ -71,5 +75,5 @@ pub record Takes (C : Circuit) (k : ℕ) (nodes backs : List ℕ) : Type 0 where
 -- The leaves written to the first r places of two arrays, by node and d, where r is at most k: those of a separation with fewest leaves and smallest cone.
 pub record Written (C : Circuit) (ls : List ℤ) (φ k g : ℕ) (h : ℤ) (nodes backs : List ℕ) (r : ℕ) : Type 0 where
   pub leaves :
-      (N : Net) → Holds C N → Ranked N → Loopless N → k * reachOf N ≤ C .border → r ≤ k
+      (N : Net) → Holds C N → Ranked N → Loopless N → r ≤ k
       → (w : Separated N (C .inputs + g) φ (labelIn ls) h (C .border) k r) × (w .parted .leaves ≡ copiesFrom nodes backs 0 r)

@@ -79,9 +79,9 @@ resting-again {C} {slots = slots} a p z f = record {
 -- ---- every cut is refuted
 pub decides-none : {C : Circuit} {ls : List ℤ} {φ k g : ℕ} {h : ℤ} → Refuted (wiresOf C) (target ls φ (C .inputs + g) h) k → Decides C ls φ k g h (k + 1)
 decides-none {k} f = record {
-  none = λ N H R loopless b p. f N (holds-filled _ H) R b;
-  some = λ N H R loopless b p. absurd (omega (arith, p));
+  none = λ N H R loopless M b near p. f N (holds-filled _ H) R M b near;
+  some = λ N H R loopless p. absurd (omega (arith, p));
 }
 
 pub written-none : {C : Circuit} {ls : List ℤ} {φ k g : ℕ} {h : ℤ} {nodes backs : List ℕ} → Written C ls φ k g h nodes backs (k + 1)
-written-none = record { leaves = λ N H R loopless b p. absurd (omega (arith, p)) }
+written-none = record { leaves = λ N H R loopless p. absurd (omega (arith, p)) }

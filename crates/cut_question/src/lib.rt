@@ -1,5 +1,6 @@
 // The cut question: the forced set of a gate and a threshold, and its nearest minimum cut.
 use cut_circuit::Extent;
+use cut_forced::Query;
 use cut_forced::few_outside;
 use cut_forced::force;
 use cut_forced::unforce;
@@ -85,18 +86,16 @@ pub fn question(
     counts: &mut [u32],
     members: &mut [u32],
     labels: &[i64],
-    phi: usize,
-    k: usize,
-    g: usize,
-    h: i64,
+    q: Query,
 ) -> usize
     requires { ⌜ AtRest (packedOf s (now net) (now slots)) (now table) (now list) (now stack) (now counts) (now members) ⌝ }
-    requires { ⌜ Asks (packedOf s (now net) (now slots)) (now labels) phi k g ⌝ }
+    requires { ⌜ Asks (packedOf s (now net) (now slots)) (now labels) (q .phi) (q .k) (q .gate) ⌝ }
     ensures rest { λ _. ⌜ AtRest (packedOf s (now (net .entry)) (now (slots .exit))) (now (table .exit)) (now (list .exit)) (now (stack .exit)) (now (counts .exit)) (now (members .exit)) ⌝ }
-    ensures answer { λ r. ⌜ Decides (packedOf s (now (net .entry)) (now (slots .entry))) (now (labels .entry)) phi k g h r ⌝ }
+    ensures answer { λ r. ⌜ Decides (packedOf s (now (net .entry)) (now (slots .entry))) (now (labels .entry)) (q .phi) (q .k) (q .gate) (q .height) r ⌝ }
 {
+    let k = q.k;
     let most = k * s.gates;
-    let f = force(s, net, slots, members, labels, phi, h, k, g);
+    let f = force(s, net, slots, members, labels, q);
     if most < f {
         let e = f - most;
         unforce(s, slots, &members[..e]);
@@ -124,20 +123,18 @@ pub fn chosen(
     nodes: &mut [usize],
     backs: &mut [usize],
     labels: &[i64],
-    phi: usize,
-    k: usize,
-    g: usize,
-    h: i64,
+    q: Query,
 ) -> usize
     requires { ⌜ AtRest (packedOf s (now net) (now slots)) (now table) (now list) (now stack) (now counts) (now members) ⌝ }
-    requires { ⌜ Asks (packedOf s (now net) (now slots)) (now labels) phi k g ⌝ }
-    requires { ⌜ Takes (packedOf s (now net) (now slots)) k (now nodes) (now backs) ⌝ }
+    requires { ⌜ Asks (packedOf s (now net) (now slots)) (now labels) (q .phi) (q .k) (q .gate) ⌝ }
+    requires { ⌜ Takes (packedOf s (now net) (now slots)) (q .k) (now nodes) (now backs) ⌝ }
     ensures rest { λ _. ⌜ AtRest (packedOf s (now (net .entry)) (now (slots .exit))) (now (table .exit)) (now (list .exit)) (now (stack .exit)) (now (counts .exit)) (now (members .exit)) ⌝ }
-    ensures answer { λ r. ⌜ Decides (packedOf s (now (net .entry)) (now (slots .entry))) (now (labels .entry)) phi k g h r ⌝ }
-    ensures written { λ r. ⌜ Written (packedOf s (now (net .entry)) (now (slots .entry))) (now (labels .entry)) phi k g h (now (nodes .exit)) (now (backs .exit)) r ⌝ }
+    ensures answer { λ r. ⌜ Decides (packedOf s (now (net .entry)) (now (slots .entry))) (now (labels .entry)) (q .phi) (q .k) (q .gate) (q .height) r ⌝ }
+    ensures written { λ r. ⌜ Written (packedOf s (now (net .entry)) (now (slots .entry))) (now (labels .entry)) (q .phi) (q .k) (q .gate) (q .height) (now (nodes .exit)) (now (backs .exit)) r ⌝ }
 {
+    let k = q.k;
     let most = k * s.gates;
-    let f = force(s, net, slots, members, labels, phi, h, k, g);
+    let f = force(s, net, slots, members, labels, q);
     if most < f {
         let e = f - most;
         unforce(s, slots, &members[..e]);

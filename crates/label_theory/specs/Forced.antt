@@ -116,12 +116,12 @@ module _ (N : Net) (v φ : ℕ) (lab : ℕ → ℤ) (h : ℤ) (S C : List Copy) 
   }
 
   -- **The separation with fewest leaves and smallest cone is the chosen cut.**
-  pub separation-chosen : (R : Ranked N) (M : Mode) {reach : ℕ} (near : Bordered (Inside M φ h) reach border) (k other : ℕ) → Bordered (Inside M φ h) (k * reachOf N) other → {L : List Copy} (l : IsLeaves N C L) (few : length L ≤ k)
-      → ((C′ L′ : List Copy) → Separation N v S other C′ → IsLeaves N C′ L′ → length L ≤ length L′)
-      → ((C′ L′ : List Copy) → Separation N v S other C′ → IsLeaves N C′ L′ → length L′ ≡ length L → Within C C′)
+  pub separation-chosen : (R : Ranked N) (M : Mode) (k : ℕ) (near : Bordered (Inside M φ h) (k * reachOf N) border) {L : List Copy} (l : IsLeaves N C L) (few : length L ≤ k)
+      → ((C′ L′ : List Copy) → Separation N v S border C′ → IsLeaves N C′ L′ → length L ≤ length L′)
+      → ((C′ L′ : List Copy) → Separation N v S border C′ → IsLeaves N C′ L′ → length L′ ≡ length L → Within C C′)
       → Chosen N k v (Low φ lab h) (Inside M φ h) (separation-cut M near k l few)
   unfolding separation-cut
-  separation-chosen R M near k other far l few fewest smallest = record {
-    fewest = λ J. fewest (J .cone) (J .leaves) (reach-separates R other far J s) (J .isLeaves);
-    smallest = λ J e. smallest (J .cone) (J .leaves) (reach-separates R other far J s) (J .isLeaves) e;
+  separation-chosen R M k near l few fewest smallest = record {
+    fewest = λ J. fewest (J .cone) (J .leaves) (reach-separates R border near J s) (J .isLeaves);
+    smallest = λ J e. smallest (J .cone) (J .leaves) (reach-separates R border near J s) (J .isLeaves) e;
   }

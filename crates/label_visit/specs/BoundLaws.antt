@@ -88,7 +88,7 @@ module _ {C : Circuit} {k φ : ℕ} where
       → Kept C k φ ls (set ls (C .inputs + g) (p +ℤ pos 1))
   kept-more ls g q p l r m a few = kept-set ls g (p +ℤ pos 1) r (λ δ N S.
       keeps-more k φ (S .sound) δ (labelIn ls) (C .inputs + g) (pinAt (C .sources) (C .counts) (stride * g + m .pin)) (gate-of (S .holds) g l) (is-pin (S .holds) g (m .pin) l (m .isPin)) p (m .attained)
-      (a .none N (S .holds) (S .ranked) (S .loopless) (S .border) few))
+      (a .none N (S .holds) (S .ranked) (S .loopless) plain p (bordered-plain φ p (S .border)) few))
 
 module _ {C : Circuit} {k φ : ℕ} {tops : List ℕ} where
   -- **past its ceiling a gate refutes**

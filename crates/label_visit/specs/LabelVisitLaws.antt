@@ -131,7 +131,7 @@ module _ (C : Circuit) (k φ : ℕ) (tops : List ℕ) (ls : List ℤ) (g : ℕ) 
         keeps = kept;
         same = λ e. R .there e .1;
         quiet = λ e. level p m (R .there e .0) (λ N S. subst (λ (x : List ℤ). Parted N (C .inputs + g) φ (labelIn x) p (C .border) k) (R .there e .1)
-            (a .some N (S .holds) (S .ranked) (S .loopless) (S .border) few));
+            (a .some N (S .holds) (S .ranked) (S .loopless) few));
         less = no-more u;
         falls = λ e. left-falls changed (R .lower e .0) u (C .gates) h;
         refuted = λ e. absurd (let b = R .bound in omega (arith, e));

@@ -1,5 +1,6 @@
 // One visit of a gate: its label raised to what every labelling reaches, unless nothing can change or it would pass its ceiling.
 use cut_circuit::Extent;
+use cut_forced::Query;
 use cut_question::question;
 use label_pins::best_pin;
 use label_pins::pin_height;
@@ -76,6 +77,12 @@ fn try_label(
     let top = phi * tops[g];
     if below(p, top + 1) {
         let rose = raise(labels, v, p);
+        let q = Query {
+            phi: phi,
+            k: k,
+            gate: g,
+            height: p,
+        };
         let r = question(
             s,
             net,
@@ -86,10 +93,7 @@ fn try_label(
             counts,
             members,
             labels,
-            phi,
-            k,
-            g,
-            p,
+            q,
         );
         if r <= k {
             return rose;

@@ -33,8 +33,8 @@ grow-requires c κs =
     let start = c .before .before .before .before .before .before .before .before .before .before .before .before .before .before .before in
     record {
       ground = start .pre .ground;
-      root = start .args .s .inputs + start .args .g;
-      growing = growing-root (start .pre) (toZ w64 (ofZ w64 (start .args .h))) (c .before .before .before .before .before .before .before .before .hold .ensures)
+      root = start .args .s .inputs + start .args .q .gate;
+      growing = growing-root (start .pre) (start .args .q .height) (c .before .before .before .before .before .before .before .before .hold .ensures)
           (c .before .before .before .before .put-number .ensures);
     }
 
@@ -48,12 +48,10 @@ returns : tie.Need-returns
 returns c =
     let grow = c .before .before .before .before .grow in
     let start = c .before .before .before .before .before .before .before .before .before .before .before .before .before .before .before .before .before .before .before .before in
-    let v = start .args .s .inputs + start .args .g in
-    subst (λ (z : ℤ). ForceTold (packedOf (start .args .s) (start .args .net .now) []) (target (start .args .labels .now) (start .args .phi) v z) (start .args .k)
-    (grow .last .1 .1 .0) (grow .last .1 .1 .1 .0) (grow .result)) (back (start .args .h) (start .fits .h))
-    (grow .ensures v (growing-root (start .pre) (toZ w64 (ofZ w64 (start .args .h)))
+    let v = start .args .s .inputs + start .args .q .gate in
+    grow .ensures v (growing-root (start .pre) (start .args .q .height)
     (c .before .before .before .before .before .before .before .before .before .before .before .before .before .hold .ensures)
-    (c .before .before .before .before .before .before .before .before .before .put-number .ensures)))
+    (c .before .before .before .before .before .before .before .before .before .put-number .ensures))
 
 pub force-spec : {M : Type 1} → statement M
 force-spec =

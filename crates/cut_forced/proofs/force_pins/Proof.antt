@@ -16,34 +16,33 @@ use Rattle.cut_forced.proofs.force_pins.Statement.{statement}
 use Rattle.cut_forced.proofs.force_pins.Tie as tie
 
 abbrev Inv-loop : tie.InvT-loop
-Inv-loop s net slots₀ members₀ labels phi h k m x most n c₀ j₀ slots members c j =
-    (j ≤ n) × (c ≤ k * s .gates) × ((v : ℕ) → Growing (packedOf s net []) (target labels phi v (toZ w64 h)) k slots₀ members₀ m
-    → Told (packedOf s net []) (target labels phi v (toZ w64 h)) k (Looked (packedOf s net []) (target labels phi v (toZ w64 h)) x j) slots₀ members₀ m slots members c)
+Inv-loop s net slots₀ members₀ labels q m x most n c₀ j₀ slots members c j =
+    (j ≤ n) × (c ≤ q .k * s .gates) × ((v : ℕ) → Growing (packedOf s net []) (target labels (q .phi) v (q .height)) (q .k) slots₀ members₀ m
+    → Told (packedOf s net []) (target labels (q .phi) v (q .height)) (q .k) (Looked (packedOf s net []) (target labels (q .phi) v (q .height)) x j) slots₀ members₀ m slots members c)
     × (length slots ≡ length slots₀) × (length members ≡ length members₀)
 
 abbrev μ-loop : tie.MeasureT-loop
-μ-loop s net slots₀ members₀ labels phi h k m x most n c₀ j₀ slots members c j = n - j
+μ-loop s net slots₀ members₀ labels q m x most n c₀ j₀ slots members c j = n - j
 
 mul-most : tie.Need-mul-most Inv-loop μ-loop
-mul-most c = omega (arith, ground-fits (c .before .before .before .before .pre .ground))
+mul-most c = omega (arith, ground-fits (c .before .before .before .before .before .pre .ground))
 
 pins-of-requires : tie.Need-pins-of-requires Inv-loop μ-loop
 pins-of-requires c κs =
-    let start = c .before .before .before .before in
+    let start = c .before .before .before .before .before in
     gate-asked (start .pre .ground) (marked-inner (packedOf (start .args .s) (start .args .net .now) []) (start .args .slots .now) (start .args .x) (start .pre .member))
 
 loop-holds : tie.Need-loop-holds Inv-loop μ-loop
 loop-holds c =
-    let start = c .before .before .before .before .before in
+    let start = c .before .before .before .before .before .before in
     (omega arith, start .pre .growing .few, λ v G. told-start (start .args .x) G, refl, refl)
 
 force-pin-requires : tie.Need-force-pin-requires Inv-loop μ-loop
 force-pin-requires c κs =
     let loop = c .before .before .before .loop in
-    let start = c .before .before .before .before .before .before .before .before .before in
+    let start = c .before .before .before .before .before .before .before .before .before .before in
     let W = packedOf (start .args .s) (start .args .net .now) [] in
-    let w = loop .inv .2 (start .pre .root) (subst (λ (z : ℤ). Growing W (target (start .args .labels .now) (start .args .phi) (start .pre .root) z) (start .args .k)
-    (start .args .slots .now) (start .args .members .now) (start .args .m)) (sym (back (start .args .h) (start .fits .h))) (start .pre .growing)) in
+    let w = loop .inv .2 (start .pre .root) (start .pre .growing) in
     pin-asked (start .pre .ground) (marked-inner W (start .args .slots .now) (start .args .x) (start .pre .member)) (omega
     (arith, c .before .before .loop-test .taken, c .before .before .before .before .pins-of .ensures)) (w .growing (loop .inv .1))
 
@@ -57,12 +56,10 @@ returns : tie.Need-returns Inv-loop μ-loop
 returns c =
     let force-pin = c .before .before .before .before .before .force-pin in
     let loop = c .before .before .before .before .before .before .before .before .before .loop in
-    let start = c .before .before .before .before .before .before .before .before .before .before .before .before .before .before .before in
+    let start = c .before .before .before .before .before .before .before .before .before .before .before .before .before .before .before .before in
     let W = packedOf (start .args .s) (start .args .net .now) [] in
-    subst (λ (z : ℤ). MemberTold W (start .args .labels .now) (start .args .phi) z (start .args .k) (start .args .slots .now) (start .args .members .now)
-    (start .args .m) (start .args .x) (force-pin .last .1 .1 .0) (force-pin .last .1 .1 .1 .0) (force-pin .result)) (back (start .args .h) (start .fits .h))
-    (λ v G. told-lost (c .if1 .taken) (told-pin (start .pre .ground) (marked-inner W (start .args .slots .now) (start .args .x) (start .pre .member)) (omega
-    (arith, c .before .before .before .before .before .before .before .before .loop-test .taken, c .before .before .before .before .before .before .before .before .before .before .pins-of .ensures)) (loop .inv .1) (start .pre .member) (loop .inv .2 v G) (force-pin .ensures)))
+    λ v G. told-lost (c .if1 .taken) (told-pin (start .pre .ground) (marked-inner W (start .args .slots .now) (start .args .x) (start .pre .member)) (omega
+    (arith, c .before .before .before .before .before .before .before .before .loop-test .taken, c .before .before .before .before .before .before .before .before .before .before .pins-of .ensures)) (loop .inv .1) (start .pre .member) (loop .inv .2 v G) (force-pin .ensures))
 
 add-j : tie.Need-add-j Inv-loop μ-loop
 add-j c = omega (arith, c .before .before .before .before .before .before .before .before .loop-test .taken)
@@ -75,7 +72,7 @@ loop-again c =
     let force-pin = c .before .before .before .before .before .force-pin in
     let loop-test = c .before .before .before .before .before .before .before .before .loop-test in
     let loop = c .before .before .before .before .before .before .before .before .before .loop in
-    let start = c .before .before .before .before .before .before .before .before .before .before .before .before .before .before .before in
+    let start = c .before .before .before .before .before .before .before .before .before .before .before .before .before .before .before .before in
     let W = packedOf (start .args .s) (start .args .net .now) [] in (
       omega (arith, loop-test .taken),
       omega (arith, c .if1 .left),
@@ -94,11 +91,7 @@ same-length-4 c = c .before .loop .inv .4
 
 returns-2 : tie.Need-returns-2 Inv-loop μ-loop
 returns-2 c =
-    let start = c .before .before .before .before .before .before .before in
-    subst (λ (z : ℤ). MemberTold (packedOf (start .args .s) (start .args .net .now) []) (start .args .labels .now) (start .args .phi) z (start .args .k)
-    (start .args .slots .now) (start .args .members .now) (start .args .m) (start .args .x) (c .before .loop .slots) (c .before .loop .members)
-    (c .before .loop .c)) (back (start .args .h) (start .fits .h))
-    (λ v G. told-then (λ s p j b. p j (omega (arith, b, c .loop-test .left, c .before .before .pins-of .ensures))) (c .before .loop .inv .2 v G))
+    λ v G. told-then (λ s p j b. p j (omega (arith, b, c .loop-test .left, c .before .before .pins-of .ensures))) (c .before .loop .inv .2 v G)
 
 pub force-pins-spec : {M : Type 1} → statement M
 force-pins-spec =

@@ -17,32 +17,31 @@ use Rattle.cut_forced.proofs.grow.Statement.{statement}
 use Rattle.cut_forced.proofs.grow.Tie as tie
 
 abbrev Inv-loop : tie.InvT-loop
-Inv-loop s net slots₀ members₀ labels phi h k most m₀ i₀ slots members m i =
-    (m ≤ k * s .gates) × ((v : ℕ) → Growing (packedOf s net []) (target labels phi v (toZ w64 h)) k slots₀ members₀ 1
-    → Progress (packedOf s net []) (target labels phi v (toZ w64 h)) k slots members m i)
+Inv-loop s net slots₀ members₀ labels q most m₀ i₀ slots members m i =
+    (m ≤ q .k * s .gates) × ((v : ℕ) → Growing (packedOf s net []) (target labels (q .phi) v (q .height)) (q .k) slots₀ members₀ 1
+    → Progress (packedOf s net []) (target labels (q .phi) v (q .height)) (q .k) slots members m i)
     × (length slots ≡ length slots₀) × (length members ≡ length members₀)
 
 abbrev μ-loop : tie.MeasureT-loop
-μ-loop s net slots₀ members₀ labels phi h k most m₀ i₀ slots members m i = k * s .gates - i
+μ-loop s net slots₀ members₀ labels q most m₀ i₀ slots members m i = q .k * s .gates - i
 
 mul-most : tie.Need-mul-most Inv-loop μ-loop
-mul-most c = omega (arith, ground-fits (c .before .before .before .before .pre .ground))
+mul-most c = omega (arith, ground-fits (c .before .before .before .before .before .pre .ground))
 
 loop-holds : tie.Need-loop-holds Inv-loop μ-loop
-loop-holds c = (c .before .before .before .before .pre .growing .few, λ v G. progress-start G, refl, refl)
+loop-holds c = (c .before .before .before .before .before .pre .growing .few, λ v G. progress-start G, refl, refl)
 
 number-at-requires : tie.Need-number-at-requires Inv-loop μ-loop
 number-at-requires c κs =
     omega
-    (arith, c .before .loop-test .taken, c .before .before .loop .inv .0, c .before .before .before .before .before .before .before .pre .growing .space, c .before .before .loop .inv .3)
+    (arith, c .before .loop-test .taken, c .before .before .loop .inv .0, c .before .before .before .before .before .before .before .before .pre .growing .space, c .before .before .loop .inv .3)
 
 force-pins-requires : tie.Need-force-pins-requires Inv-loop μ-loop
 force-pins-requires c κs =
     let loop = c .before .before .before .before .before .loop in
-    let start = c .before .before .before .before .before .before .before .before .before .before in
+    let start = c .before .before .before .before .before .before .before .before .before .before .before in
     let W = packedOf (start .args .s) (start .args .net .now) [] in
-    let w = loop .inv .1 (start .pre .root) (subst (λ (z : ℤ). Growing W (target (start .args .labels .now) (start .args .phi) (start .pre .root) z) (start .args .k)
-    (start .args .slots .now) (start .args .members .now) 1) (sym (back (start .args .h) (start .fits .h))) (start .pre .growing)) in
+    let w = loop .inv .1 (start .pre .root) (start .pre .growing) in
     record {
       ground = start .pre .ground;
       root = start .pre .root;
@@ -62,17 +61,13 @@ same-length-2 c =
 returns : tie.Need-returns Inv-loop μ-loop
 returns c =
     let force-pins = c .before .before .before .before .before .force-pins in
-    let start = c .before .before .before .before .before .before .before .before .before .before .before .before .before .before .before .before in
-    let W = packedOf (start .args .s) (start .args .net .now) [] in
-    subst (λ (z : ℤ). GrowTold W (start .args .labels .now) (start .args .phi) z (start .args .k) (start .args .slots .now) (start .args .members .now)
-    (force-pins .last .1 .1 .0) (force-pins .last .1 .1 .1 .0) (force-pins .result)) (back (start .args .h) (start .fits .h))
-    (λ v G. let w = c .before .before .before .before .before .before .before .before .before .before .before .loop .inv .1 v G in progress-lost (c .if1 .taken)
-    (force-pins .ensures v (w .growing)))
+    λ v G. let w = c .before .before .before .before .before .before .before .before .before .before .before .loop .inv .1 v G in progress-lost (c .if1 .taken)
+    (force-pins .ensures v (w .growing))
 
 add-i : tie.Need-add-i Inv-loop μ-loop
 add-i c =
     omega
-    (arith, c .before .before .before .before .before .before .before .before .before .before .loop-test .taken, c .before .before .before .before .before .before .before .before .before .before .before .loop .inv .0, ground-fits (c .before .before .before .before .before .before .before .before .before .before .before .before .before .before .before .before .pre .ground))
+    (arith, c .before .before .before .before .before .before .before .before .before .before .loop-test .taken, c .before .before .before .before .before .before .before .before .before .before .before .loop .inv .0, ground-fits (c .before .before .before .before .before .before .before .before .before .before .before .before .before .before .before .before .before .pre .ground))
 
 loop-less : tie.Need-loop-less Inv-loop μ-loop
 loop-less c =
@@ -83,14 +78,14 @@ loop-again : tie.Need-loop-again Inv-loop μ-loop
 loop-again c =
     let force-pins = c .before .before .before .before .before .force-pins in
     let loop = c .before .before .before .before .before .before .before .before .before .before .before .loop in
-    let start = c .before .before .before .before .before .before .before .before .before .before .before .before .before .before .before .before in
+    let start = c .before .before .before .before .before .before .before .before .before .before .before .before .before .before .before .before .before in
     let W = packedOf (start .args .s) (start .args .net .now) [] in (
       omega (arith, c .if1 .left),
       (λ v G.
           let w = loop .inv .1 v G in
-          let T = target (start .args .labels .now) (start .args .phi) v (toZ w64 (ofZ w64 (start .args .h))) in
+          let T = target (start .args .labels .now) (start .args .q .phi) v (start .args .q .height) in
           progress-step w (c .before .before .before .before .before .before .before .before .before .before .loop-test .taken) (omega (arith, c .if1 .left)) (subst (λ
-          (x : ℕ). Told W T (start .args .k) (AllSettled W T x) (loop .slots) (loop .members) (loop .m) (force-pins .last .1 .1 .0) (force-pins .last .1 .1 .1 .0)
+          (x : ℕ). Told W T (start .args .q .k) (AllSettled W T x) (loop .slots) (loop .members) (loop .m) (force-pins .last .1 .1 .0) (force-pins .last .1 .1 .1 .0)
           (force-pins .result)) (c .before .before .before .before .before .before .before .before .number-at .ensures) (force-pins .ensures v (w .growing)))),
       force-pins .kept .1 .1 .0 ∙ loop .inv .2,
       force-pins .kept .1 .1 .1 .0 ∙ loop .inv .3,
@@ -104,10 +99,7 @@ same-length-4 c = c .before .loop .inv .3
 
 returns-2 : tie.Need-returns-2 Inv-loop μ-loop
 returns-2 c =
-    let start = c .before .before .before .before .before .before in
-    subst (λ (z : ℤ). GrowTold (packedOf (start .args .s) (start .args .net .now) []) (start .args .labels .now) (start .args .phi) z (start .args .k)
-    (start .args .slots .now) (start .args .members .now) (c .before .loop .slots) (c .before .loop .members) (c .before .loop .m)) (back (start .args .h) (start .fits .h))
-    (λ v G. progress-end (c .before .loop .inv .1 v G) (c .loop-test .left))
+    λ v G. progress-end (c .before .loop .inv .1 v G) (c .loop-test .left)
 
 pub grow-spec : {M : Type 1} → statement M
 grow-spec =

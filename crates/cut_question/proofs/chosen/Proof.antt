@@ -1,15 +1,10 @@
 -- `cut_question::chosen` meets its contract: what the forced set, its minimum cut and the leaves written mean for gate g.
 use mathlib.Core.Path.{refl, sym, subst, _∙_}
-use mathlib.Core.List.{[]}
 use Prim.Native.Nat.{_+_, _-_, _*_}
 use native.Mathlib.Nat.{mul-le-mul-right}
 use native.Mathlib.Omega.{arith}
-use lib.IntN.{ℤ}
 use lib.Seq.{length-take-le}
-use Rattle.cut_circuit.specs.Packed.{packedOf}
-use Rattle.cut_forced.specs.Forcing.{target, ForceTold}
 use Rattle.cut_forced.specs.GrowLaws.{part-inside, listed-of, excess-inside, excess-listed}
-use Rattle.signed.specs.RangeLaws.{back}
 use Rattle.cut_question.specs.RestLaws.{force-asked, takes-filled, decides-none, written-none}
 use Rattle.cut_question.specs.Meaning.{cut-asked, rest-again, decides-found, written-found}
 use borrow.Author.Needs.{needs}
@@ -22,7 +17,7 @@ use Rattle.cut_forced.proofs.unforce.Reads as unforce-reads
 use Rattle.cut_question.proofs.separate_leaves.Reads as separate-leaves-reads
 
 mul-most : tie.Need-mul-most
-mul-most c = omega (arith, c .before .before .before .before .before .before .before .before .before .before .pre .0 .resting .space, mul-le-mul-right {m = c .before .before .before .before .before .before .before .before .before .before .args .k} {n = 6} (c .before .before .before .before .before .before .before .before .before .before .args .s .gates) (c .before .before .before .before .before .before .before .before .before .before .pre .1 .0 .limit), c .before .before .before .before .before .before .before .before .before .before .good)
+mul-most c = omega (arith, c .before .before .before .before .before .before .before .before .before .before .pre .0 .resting .space, mul-le-mul-right {m = c .before .before .before .before .before .before .before .before .before .before .args .q .k} {n = 6} (c .before .before .before .before .before .before .before .before .before .before .args .s .gates) (c .before .before .before .before .before .before .before .before .before .before .pre .1 .0 .limit), c .before .before .before .before .before .before .before .before .before .before .good)
 
 force-requires : tie.Need-force-requires
 force-requires c κs = force-asked (c .before .before .before .before .before .before .before .before .before .before .before .before .pre .0 .resting) (c .before .before .before .before .before .before .before .before .before .before .before .before .pre .1 .0)
@@ -34,7 +29,7 @@ slice-reshare-prefix-unforce : tie.Need-slice-reshare-prefix-unforce
 slice-reshare-prefix-unforce c = excess-inside (c .before .before .before .before .before .before .force .ensures .refutes (c .before .if1 .taken))
 
 slice-aggregate-unforce : tie.Need-slice-aggregate-unforce
-slice-aggregate-unforce c = sym (length-take-le (c .before .before .before .before .before .before .before .force .result - c .before .before .before .before .before .before .before .before .before .before .before .before .before .before .before .before .before .before .before .before .args .k * c .before .before .before .before .before .before .before .before .before .before .before .before .before .before .before .before .before .before .before .before .args .s .gates) (c .before .before .before .before .before .before .before .force .last .1 .1 .1 .0) (excess-inside (c .before .before .before .before .before .before .before .force .ensures .refutes (c .before .before .if1 .taken))))
+slice-aggregate-unforce c = sym (length-take-le (c .before .before .before .before .before .before .before .force .result - c .before .before .before .before .before .before .before .before .before .before .before .before .before .before .before .before .before .before .before .before .args .q .k * c .before .before .before .before .before .before .before .before .before .before .before .before .before .before .before .before .before .before .before .before .args .s .gates) (c .before .before .before .before .before .before .before .force .last .1 .1 .1 .0) (excess-inside (c .before .before .before .before .before .before .before .force .ensures .refutes (c .before .before .if1 .taken))))
 
 unforce-requires : tie.Need-unforce-requires
 unforce-requires c κs = excess-listed (c .before .before .before .before .before .before .before .force .ensures .refutes (c .before .before .if1 .taken))
@@ -50,8 +45,7 @@ same-length-2 c = search needs
 
 returns : tie.Need-returns
 returns c =
-    let F = subst (λ (z : ℤ). ForceTold (packedOf (c .before .before .before .before .before .before .before .before .before .before .before .before .before .before .before .before .before .before .before .before .before .before .before .args .s) (c .before .before .before .before .before .before .before .before .before .before .before .before .before .before .before .before .before .before .before .before .before .before .before .args .net .now) []) (target (c .before .before .before .before .before .before .before .before .before .before .before .before .before .before .before .before .before .before .before .before .before .before .before .args .labels .now) (c .before .before .before .before .before .before .before .before .before .before .before .before .before .before .before .before .before .before .before .before .before .before .before .args .phi) (c .before .before .before .before .before .before .before .before .before .before .before .before .before .before .before .before .before .before .before .before .before .before .before .args .s .inputs + c .before .before .before .before .before .before .before .before .before .before .before .before .before .before .before .before .before .before .before .before .before .before .before .args .g) z) (c .before .before .before .before .before .before .before .before .before .before .before .before .before .before .before .before .before .before .before .before .before .before .before .args .k)
-    (c .before .before .before .before .before .before .before .before .before .before .force .last .1 .1 .0) (c .before .before .before .before .before .before .before .before .before .before .force .last .1 .1 .1 .0) (c .before .before .before .before .before .before .before .before .before .before .force .result)) (back (c .before .before .before .before .before .before .before .before .before .before .before .before .before .before .before .before .before .before .before .before .before .before .before .args .h) (c .before .before .before .before .before .before .before .before .before .before .before .before .before .before .before .before .before .before .before .before .before .before .before .fits .h)) (c .before .before .before .before .before .before .before .before .before .before .force .ensures) in (
+    let F = c .before .before .before .before .before .before .before .before .before .before .force .ensures in (
       rest-again (c .before .before .before .before .before .before .before .before .before .before .before .before .before .before .before .before .before .before .before .before .before .before .before .pre .0) (c .before .before .unforce .kept .1 .0 ∙ c .before .before .before .before .before .before .before .before .before .before .force .kept .1 .1 .0) (c .before .before .unforce .ensures) refl refl refl refl (c .before .before .before .before .before .before .before .before .before .before .before .before .before .before .before .before .before .before .before .before .before .before .before .pre .0 .cleared) (c .before .before .before .before .before .before .before .before .before .before .force .kept .1 .1 .1 .0),
       (decides-none (F .refutes (c .before .before .before .before .before .if1 .taken) .refuted), written-none),
     )
@@ -100,8 +94,7 @@ same-length-10 c = search needs
 
 returns-2 : tie.Need-returns-2
 returns-2 c =
-    let F = subst (λ (z : ℤ). ForceTold (packedOf (c .before .before .before .before .before .before .before .before .before .before .before .before .before .before .before .before .before .before .before .before .before .before .before .before .before .before .before .before .before .before .before .before .before .before .before .before .before .before .before .before .before .before .before .before .args .s) (c .before .before .before .before .before .before .before .before .before .before .before .before .before .before .before .before .before .before .before .before .before .before .before .before .before .before .before .before .before .before .before .before .before .before .before .before .before .before .before .before .before .before .before .before .args .net .now) []) (target (c .before .before .before .before .before .before .before .before .before .before .before .before .before .before .before .before .before .before .before .before .before .before .before .before .before .before .before .before .before .before .before .before .before .before .before .before .before .before .before .before .before .before .before .before .args .labels .now) (c .before .before .before .before .before .before .before .before .before .before .before .before .before .before .before .before .before .before .before .before .before .before .before .before .before .before .before .before .before .before .before .before .before .before .before .before .before .before .before .before .before .before .before .before .args .phi) (c .before .before .before .before .before .before .before .before .before .before .before .before .before .before .before .before .before .before .before .before .before .before .before .before .before .before .before .before .before .before .before .before .before .before .before .before .before .before .before .before .before .before .before .before .args .s .inputs + c .before .before .before .before .before .before .before .before .before .before .before .before .before .before .before .before .before .before .before .before .before .before .before .before .before .before .before .before .before .before .before .before .before .before .before .before .before .before .before .before .before .before .before .before .args .g) z) (c .before .before .before .before .before .before .before .before .before .before .before .before .before .before .before .before .before .before .before .before .before .before .before .before .before .before .before .before .before .before .before .before .before .before .before .before .before .before .before .before .before .before .before .before .args .k)
-    (c .before .before .before .before .before .before .before .before .before .before .before .before .before .before .before .before .before .before .before .before .before .before .before .before .before .before .before .before .before .before .before .force .last .1 .1 .0) (c .before .before .before .before .before .before .before .before .before .before .before .before .before .before .before .before .before .before .before .before .before .before .before .before .before .before .before .before .before .before .before .force .last .1 .1 .1 .0) (c .before .before .before .before .before .before .before .before .before .before .before .before .before .before .before .before .before .before .before .before .before .before .before .before .before .before .before .before .before .before .before .force .result)) (back (c .before .before .before .before .before .before .before .before .before .before .before .before .before .before .before .before .before .before .before .before .before .before .before .before .before .before .before .before .before .before .before .before .before .before .before .before .before .before .before .before .before .before .before .before .args .h) (c .before .before .before .before .before .before .before .before .before .before .before .before .before .before .before .before .before .before .before .before .before .before .before .before .before .before .before .before .before .before .before .before .before .before .before .before .before .before .before .before .before .before .before .before .fits .h)) (c .before .before .before .before .before .before .before .before .before .before .before .before .before .before .before .before .before .before .before .before .before .before .before .before .before .before .before .before .before .before .before .force .ensures) in
+    let F = c .before .before .before .before .before .before .before .before .before .before .before .before .before .before .before .before .before .before .before .before .before .before .before .before .before .before .before .before .before .before .before .force .ensures in
     let S = c .before .before .before .before .before .before .before .before .before .before .before .before .before .before .before .before .before .separate-leaves .ensures in (
       rest-again (c .before .before .before .before .before .before .before .before .before .before .before .before .before .before .before .before .before .before .before .before .before .before .before .before .before .before .before .before .before .before .before .before .before .before .before .before .before .before .before .before .before .before .before .before .pre .0) (c .before .before .unforce2 .kept .1 .0 ∙ c .before .before .before .before .before .before .before .before .before .before .before .before .before .before .before .before .before .before .before .before .before .before .before .before .before .before .before .before .before .before .before .force .kept .1 .1 .0) (c .before .before .unforce2 .ensures) (c .before .before .before .before .before .before .before .before .before .before .before .before .before .before .before .before .before .separate-leaves .kept .1 .1 .1 .0) (c .before .before .before .before .before .before .before .before .before .before .before .before .before .before .before .before .before .separate-leaves .kept .1 .1 .1 .1 .0)
           (c .before .before .before .before .before .before .before .before .before .before .before .before .before .before .before .before .before .separate-leaves .kept .1 .1 .1 .1 .1 .0) (c .before .before .before .before .before .before .before .before .before .before .before .before .before .before .before .before .before .separate-leaves .kept .1 .1 .1 .1 .1 .1 .0) (S .0) (c .before .before .before .before .before .before .before .before .before .before .before .before .before .before .before .before .before .before .before .before .before .before .before .before .before .before .before .before .before .before .before .force .kept .1 .1 .1 .0),

@@ -1,15 +1,10 @@
 -- `cut_question::question` meets its contract: what the forced set and its minimum cut mean for gate g.
 use mathlib.Core.Path.{refl, sym, subst, _∙_}
-use mathlib.Core.List.{[]}
 use Prim.Native.Nat.{_+_, _-_, _*_}
 use native.Mathlib.Nat.{mul-le-mul-right}
 use native.Mathlib.Omega.{arith}
-use lib.IntN.{ℤ}
 use lib.Seq.{length-take-le}
-use Rattle.cut_circuit.specs.Packed.{packedOf}
-use Rattle.cut_forced.specs.Forcing.{target, ForceTold}
 use Rattle.cut_forced.specs.GrowLaws.{part-inside, listed-of, excess-inside, excess-listed}
-use Rattle.signed.specs.RangeLaws.{back}
 use Rattle.cut_question.specs.RestLaws.{force-asked, decides-none}
 use Rattle.cut_question.specs.Meaning.{cut-asked, rest-again, decides-found}
 use Rattle.cut_question.specs.Few.{few-asked, decides-few}
@@ -24,7 +19,7 @@ use Rattle.cut_forced.proofs.unforce.Reads as unforce-reads
 use Rattle.cut_question.proofs.separate.Reads as separate-reads
 
 mul-most : tie.Need-mul-most
-mul-most c = omega (arith, c .before .before .before .before .before .before .before .before .pre .0 .resting .space, mul-le-mul-right {m = c .before .before .before .before .before .before .before .before .args .k} {n = 6} (c .before .before .before .before .before .before .before .before .args .s .gates) (c .before .before .before .before .before .before .before .before .pre .1 .limit), c .before .before .before .before .before .before .before .before .good)
+mul-most c = omega (arith, c .before .before .before .before .before .before .before .before .pre .0 .resting .space, mul-le-mul-right {m = c .before .before .before .before .before .before .before .before .args .q .k} {n = 6} (c .before .before .before .before .before .before .before .before .args .s .gates) (c .before .before .before .before .before .before .before .before .pre .1 .limit), c .before .before .before .before .before .before .before .before .good)
 
 force-requires : tie.Need-force-requires
 force-requires c κs = force-asked (c .before .before .before .before .before .before .before .before .before .before .pre .0 .resting) (c .before .before .before .before .before .before .before .before .before .before .pre .1)
@@ -36,7 +31,7 @@ slice-reshare-prefix-unforce : tie.Need-slice-reshare-prefix-unforce
 slice-reshare-prefix-unforce c = excess-inside (c .before .before .before .before .before .before .force .ensures .refutes (c .before .if1 .taken))
 
 slice-aggregate-unforce : tie.Need-slice-aggregate-unforce
-slice-aggregate-unforce c = sym (length-take-le (c .before .before .before .before .before .before .before .force .result - c .before .before .before .before .before .before .before .before .before .before .before .before .before .before .before .before .before .before .args .k * c .before .before .before .before .before .before .before .before .before .before .before .before .before .before .before .before .before .before .args .s .gates) (c .before .before .before .before .before .before .before .force .last .1 .1 .1 .0) (excess-inside (c .before .before .before .before .before .before .before .force .ensures .refutes (c .before .before .if1 .taken))))
+slice-aggregate-unforce c = sym (length-take-le (c .before .before .before .before .before .before .before .force .result - c .before .before .before .before .before .before .before .before .before .before .before .before .before .before .before .before .before .before .args .q .k * c .before .before .before .before .before .before .before .before .before .before .before .before .before .before .before .before .before .before .args .s .gates) (c .before .before .before .before .before .before .before .force .last .1 .1 .1 .0) (excess-inside (c .before .before .before .before .before .before .before .force .ensures .refutes (c .before .before .if1 .taken))))
 
 unforce-requires : tie.Need-unforce-requires
 unforce-requires c κs = excess-listed (c .before .before .before .before .before .before .before .force .ensures .refutes (c .before .before .if1 .taken))
@@ -52,8 +47,7 @@ same-length-2 c = search needs
 
 returns : tie.Need-returns
 returns c =
-    let F = subst (λ (z : ℤ). ForceTold (packedOf (c .before .before .before .before .before .before .before .before .before .before .before .before .before .before .before .before .before .before .before .before .before .args .s) (c .before .before .before .before .before .before .before .before .before .before .before .before .before .before .before .before .before .before .before .before .before .args .net .now) []) (target (c .before .before .before .before .before .before .before .before .before .before .before .before .before .before .before .before .before .before .before .before .before .args .labels .now) (c .before .before .before .before .before .before .before .before .before .before .before .before .before .before .before .before .before .before .before .before .before .args .phi) (c .before .before .before .before .before .before .before .before .before .before .before .before .before .before .before .before .before .before .before .before .before .args .s .inputs + c .before .before .before .before .before .before .before .before .before .before .before .before .before .before .before .before .before .before .before .before .before .args .g) z) (c .before .before .before .before .before .before .before .before .before .before .before .before .before .before .before .before .before .before .before .before .before .args .k)
-    (c .before .before .before .before .before .before .before .before .before .before .force .last .1 .1 .0) (c .before .before .before .before .before .before .before .before .before .before .force .last .1 .1 .1 .0) (c .before .before .before .before .before .before .before .before .before .before .force .result)) (back (c .before .before .before .before .before .before .before .before .before .before .before .before .before .before .before .before .before .before .before .before .before .args .h) (c .before .before .before .before .before .before .before .before .before .before .before .before .before .before .before .before .before .before .before .before .before .fits .h)) (c .before .before .before .before .before .before .before .before .before .before .force .ensures) in
+    let F = c .before .before .before .before .before .before .before .before .before .before .force .ensures in
     (rest-again (c .before .before .before .before .before .before .before .before .before .before .before .before .before .before .before .before .before .before .before .before .before .pre .0) (c .before .before .unforce .kept .1 .0 ∙ c .before .before .before .before .before .before .before .before .before .before .force .kept .1 .1 .0) (c .before .before .unforce .ensures) refl refl refl refl (c .before .before .before .before .before .before .before .before .before .before .before .before .before .before .before .before .before .before .before .before .before .pre .0 .cleared) (c .before .before .before .before .before .before .before .before .before .before .force .kept .1 .1 .1 .0), decides-none (F .refutes (c .before .before .before .before .before .if1 .taken) .refuted))
 
 slice-reshare-prefix-few-outside : tie.Need-slice-reshare-prefix-few-outside
@@ -82,8 +76,7 @@ same-length-4 c = search needs
 
 returns-2 : tie.Need-returns-2
 returns-2 c =
-    let F = subst (λ (z : ℤ). ForceTold (packedOf (c .before .before .before .before .before .before .before .before .before .before .before .before .before .before .before .before .before .before .before .before .before .before .before .before .before .args .s) (c .before .before .before .before .before .before .before .before .before .before .before .before .before .before .before .before .before .before .before .before .before .before .before .before .before .args .net .now) []) (target (c .before .before .before .before .before .before .before .before .before .before .before .before .before .before .before .before .before .before .before .before .before .before .before .before .before .args .labels .now) (c .before .before .before .before .before .before .before .before .before .before .before .before .before .before .before .before .before .before .before .before .before .before .before .before .before .args .phi) (c .before .before .before .before .before .before .before .before .before .before .before .before .before .before .before .before .before .before .before .before .before .before .before .before .before .args .s .inputs + c .before .before .before .before .before .before .before .before .before .before .before .before .before .before .before .before .before .before .before .before .before .before .before .before .before .args .g) z) (c .before .before .before .before .before .before .before .before .before .before .before .before .before .before .before .before .before .before .before .before .before .before .before .before .before .args .k)
-    (c .before .before .before .before .before .before .before .before .before .before .before .before .before .before .force .last .1 .1 .0) (c .before .before .before .before .before .before .before .before .before .before .before .before .before .before .force .last .1 .1 .1 .0) (c .before .before .before .before .before .before .before .before .before .before .before .before .before .before .force .result)) (back (c .before .before .before .before .before .before .before .before .before .before .before .before .before .before .before .before .before .before .before .before .before .before .before .before .before .args .h) (c .before .before .before .before .before .before .before .before .before .before .before .before .before .before .before .before .before .before .before .before .before .before .before .before .before .fits .h)) (c .before .before .before .before .before .before .before .before .before .before .before .before .before .before .force .ensures) in (
+    let F = c .before .before .before .before .before .before .before .before .before .before .before .before .before .before .force .ensures in (
       rest-again (c .before .before .before .before .before .before .before .before .before .before .before .before .before .before .before .before .before .before .before .before .before .before .before .before .before .pre .0) (c .before .before .unforce2 .kept .1 .0 ∙ c .before .before .before .before .before .before .before .before .before .before .before .before .before .before .force .kept .1 .1 .0) (c .before .before .unforce2 .ensures) refl refl refl refl (c .before .before .before .before .before .before .before .before .before .before .before .before .before .before .before .before .before .before .before .before .before .before .before .before .before .pre .0 .cleared) (c .before .before .before .before .before .before .before .before .before .before .before .before .before .before .force .kept .1 .1 .1 .0),
       decides-few (c .before .before .before .before .before .before .before .before .before .before .before .before .before .before .before .before .before .before .before .before .before .before .before .before .before .pre .0 .resting) (c .before .before .before .before .before .before .before .before .before .before .before .before .before .before .before .before .before .before .before .before .before .before .before .before .before .pre .1) (F .growing (omega (arith, c .before .before .before .before .before .before .before .before .before .if1 .left))) (F .closed (omega (arith, c .before .before .before .before .before .before .before .before .before .if1 .left))) (c .before .before .before .before .before .before .few-outside .ensures (c .before .before .before .before .before .if2 .taken)),
     )
@@ -126,8 +119,7 @@ same-length-10 c = search needs
 
 returns-3 : tie.Need-returns-3
 returns-3 c =
-    let F = subst (λ (z : ℤ). ForceTold (packedOf (c .before .before .before .before .before .before .before .before .before .before .before .before .before .before .before .before .before .before .before .before .before .before .before .before .before .before .before .before .before .before .before .before .before .before .before .before .before .before .before .before .args .s) (c .before .before .before .before .before .before .before .before .before .before .before .before .before .before .before .before .before .before .before .before .before .before .before .before .before .before .before .before .before .before .before .before .before .before .before .before .before .before .before .before .args .net .now) []) (target (c .before .before .before .before .before .before .before .before .before .before .before .before .before .before .before .before .before .before .before .before .before .before .before .before .before .before .before .before .before .before .before .before .before .before .before .before .before .before .before .before .args .labels .now) (c .before .before .before .before .before .before .before .before .before .before .before .before .before .before .before .before .before .before .before .before .before .before .before .before .before .before .before .before .before .before .before .before .before .before .before .before .before .before .before .before .args .phi) (c .before .before .before .before .before .before .before .before .before .before .before .before .before .before .before .before .before .before .before .before .before .before .before .before .before .before .before .before .before .before .before .before .before .before .before .before .before .before .before .before .args .s .inputs + c .before .before .before .before .before .before .before .before .before .before .before .before .before .before .before .before .before .before .before .before .before .before .before .before .before .before .before .before .before .before .before .before .before .before .before .before .before .before .before .before .args .g) z) (c .before .before .before .before .before .before .before .before .before .before .before .before .before .before .before .before .before .before .before .before .before .before .before .before .before .before .before .before .before .before .before .before .before .before .before .before .before .before .before .before .args .k)
-    (c .before .before .before .before .before .before .before .before .before .before .before .before .before .before .before .before .before .before .before .before .before .before .before .before .before .before .before .before .before .force .last .1 .1 .0) (c .before .before .before .before .before .before .before .before .before .before .before .before .before .before .before .before .before .before .before .before .before .before .before .before .before .before .before .before .before .force .last .1 .1 .1 .0) (c .before .before .before .before .before .before .before .before .before .before .before .before .before .before .before .before .before .before .before .before .before .before .before .before .before .before .before .before .before .force .result)) (back (c .before .before .before .before .before .before .before .before .before .before .before .before .before .before .before .before .before .before .before .before .before .before .before .before .before .before .before .before .before .before .before .before .before .before .before .before .before .before .before .before .args .h) (c .before .before .before .before .before .before .before .before .before .before .before .before .before .before .before .before .before .before .before .before .before .before .before .before .before .before .before .before .before .before .before .before .before .before .before .before .before .before .before .before .fits .h)) (c .before .before .before .before .before .before .before .before .before .before .before .before .before .before .before .before .before .before .before .before .before .before .before .before .before .before .before .before .before .force .ensures) in
+    let F = c .before .before .before .before .before .before .before .before .before .before .before .before .before .before .before .before .before .before .before .before .before .before .before .before .before .before .before .before .before .force .ensures in
     let S = c .before .before .before .before .before .before .before .before .before .before .before .before .before .separate .ensures in (
       rest-again (c .before .before .before .before .before .before .before .before .before .before .before .before .before .before .before .before .before .before .before .before .before .before .before .before .before .before .before .before .before .before .before .before .before .before .before .before .before .before .before .before .pre .0) (c .before .before .unforce3 .kept .1 .0 ∙ c .before .before .before .before .before .before .before .before .before .before .before .before .before .before .before .before .before .before .before .before .before .before .before .before .before .before .before .before .before .force .kept .1 .1 .0) (c .before .before .unforce3 .ensures) (c .before .before .before .before .before .before .before .before .before .before .before .before .before .separate .kept .1 .1 .1 .0) (c .before .before .before .before .before .before .before .before .before .before .before .before .before .separate .kept .1 .1 .1 .1 .0) (c .before .before .before .before .before .before .before .before .before .before .before .before .before .separate .kept .1 .1 .1 .1 .1 .0)
           (c .before .before .before .before .before .before .before .before .before .before .before .before .before .separate .kept .1 .1 .1 .1 .1 .1 .0) (S .0) (c .before .before .before .before .before .before .before .before .before .before .before .before .before .before .before .before .before .before .before .before .before .before .before .before .before .before .before .before .before .force .kept .1 .1 .1 .0),

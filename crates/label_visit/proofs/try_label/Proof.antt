@@ -51,8 +51,7 @@ raise-requires c κs =
 
 question-requires : tie.Need-question-requires
 question-requires c κs =
-    let start = c .before .before .before .before .before .before .before .before .before .before .before .before .before .before .before .before .before .before .before .before
-    .before .before in (
+    let start = c .before .before .before .before .before .before .before .before .before .before .before .before .before .before .before .before .before .before .before .before .before .before in (
       start .pre .0,
       asks-of (raised-ready (start .args .g) (start .pre .1 .0 .0) (start .pre .1 .0 .1)
           (subst Small (sym (back (start .args .p) (start .fits .p))) (start .pre .1 .1 .2)) (c .before .before .before .before .before .before .before .before .raise .ensures))
@@ -83,10 +82,8 @@ same-length-7 c = search needs
 returns : tie.Need-returns
 returns c =
     let question = c .before .before .before .before .before .before .before .before .before .before .before .before .before .question in
-    let raise = c .before .before .before .before .before .before .before .before .before .before .before .before .before .before .before .before .before .before .before .before
-    .before .before .raise in
-    let start = c .before .before .before .before .before .before .before .before .before .before .before .before .before .before .before .before .before .before .before .before
-    .before .before .before .before .before .before .before .before .before .before .before .before .before .before .before .before in
+    let raise = c .before .before .before .before .before .before .before .before .before .before .before .before .before .before .before .before .before .before .before .before .before .before .raise in
+    let start = c .before .before .before .before .before .before .before .before .before .before .before .before .before .before .before .before .before .before .before .before .before .before .before .before .before .before .before .before .before .before .before .before .before .before .before .before in
     let e = sym (back (start .args .p) (start .fits .p)) in (
       question .ensures .0,
       visit-cut (wiring (start .args .s) (now (start .args .net))) (start .args .k) (start .args .phi) (now (start .args .tops)) (now (start .args .labels)) (start .args .g)
@@ -94,24 +91,19 @@ returns c =
           (ready-fine (start .pre .1 .0 .0)) (start .pre .1 .0 .1) (pinmax-at e (start .pre .1 .1 .0))
           (subst (λ (x : ℤ). labelIn (now (start .args .labels)) (start .args .s .inputs + start .args .g) ≤ℤ x) e (start .pre .1 .1 .1))
           (subst Small e (start .pre .1 .1 .2)) _ (raise .result) (raise .ensures) (question .result) (decides-wiring (question .ensures .1))
-          (omega arith) (let t = c .before .before .before .before .before .before .before .before .before .before .before .before .before .before .before .before .before .before
-          .before .before .before .before .before .before .before .below .ensures .0 (c .before .before .before .before .before .before .before .before .before .before
-          .before .before .before .before .before .before .before .before .before .before .before .before .before .before .if1 .taken) in omega (arith, ints, t)),
+          (omega arith) (let t = c .before .before .before .before .before .before .before .before .before .before .before .before .before .before .before .before .before .before .before .before .before .before .before .before .before .below .ensures .0 (c .before .before .before .before .before .before .before .before .before .before .before .before .before .before .before .before .before .before .before .before .before .before .before .before .if1 .taken) in omega (arith, ints, t)),
     )
 
 below-requires-2 : tie.Need-below-requires-2
 below-requires-2 c κs =
-    let start = c .before .before .before .before .before .before .before .before .before .before .before .before .before .before .before .before .before .before .before .before
-    .before .before .before .before .before .before .before .before .before .before .before .before .before .before .before .before in
+    let start = c .before .before .before .before .before .before .before .before .before .before .before .before .before .before .before .before .before .before .before .before .before .before .before .before .before .before .before .before .before .before .before .before .before .before .before .before in
     ((subst Small (sym (back (start .args .p) (start .fits .p))) (start .pre .1 .1 .2)), (let q = start .pre .1 .0 .2 .top (start .args .g) (start .pre .1 .0 .1) in omega arith))
 
 lift-requires : tie.Need-lift-requires
 lift-requires c κs =
-    let start = c .before .before .before .before .before .before .before .before .before .before .before .before .before .before .before .before .before .before .before .before
-    .before .before .before .before .before .before .before .before .before .before .before .before .before .before .before .before .before .before .before in (
+    let start = c .before .before .before .before .before .before .before .before .before .before .before .before .before .before .before .before .before .before .before .before .before .before .before .before .before .before .before .before .before .before .before .before .before .before .before .before .before .before .before in (
       let e = (raised-changed (let e′ = start .pre .1 .0 .0 .size in let h′ = start .pre .1 .0 .1 in omega arith)
-          (c .before .before .before .before .before .before .before .before .before .before .before .before .before .before .before .before .before .before .before .before
-          .before .before .before .before .before .raise .ensures)) .size in let e′ = start .pre .1 .0 .0 .size in let h′ = start .pre .1 .0 .1 in omega arith,
+          (c .before .before .before .before .before .before .before .before .before .before .before .before .before .before .before .before .before .before .before .before .before .before .before .before .before .raise .ensures)) .size in let e′ = start .pre .1 .0 .0 .size in let h′ = start .pre .1 .0 .1 in omega arith,
       (subst Small (sym (back (start .args .p) (start .fits .p))) (start .pre .1 .1 .2)),
     )
 
@@ -139,10 +131,8 @@ same-length-14 c = search needs
 returns-2 : tie.Need-returns-2
 returns-2 c =
     let question = c .before .before .before .before .before .before .before .before .before .before .before .before .before .before .before .before .before .before .question in
-    let raise = c .before .before .before .before .before .before .before .before .before .before .before .before .before .before .before .before .before .before .before .before
-    .before .before .before .before .before .before .before .raise in
-    let start = c .before .before .before .before .before .before .before .before .before .before .before .before .before .before .before .before .before .before .before .before
-    .before .before .before .before .before .before .before .before .before .before .before .before .before .before .before .before .before .before .before .before .before in
+    let raise = c .before .before .before .before .before .before .before .before .before .before .before .before .before .before .before .before .before .before .before .before .before .before .before .before .before .before .before .raise in
+    let start = c .before .before .before .before .before .before .before .before .before .before .before .before .before .before .before .before .before .before .before .before .before .before .before .before .before .before .before .before .before .before .before .before .before .before .before .before .before .before .before .before .before in
     let e = sym (back (start .args .p) (start .fits .p)) in
     let s = subst Small e (start .pre .1 .1 .2) in
     let u = c .before .before .before .before .below2 .ensures .0 (c .before .before .before .if3 .taken) in (
@@ -179,10 +169,8 @@ same-length-21 c = search needs
 returns-3 : tie.Need-returns-3
 returns-3 c =
     let question = c .before .before .before .before .before .before .before .before .before .before .before .before .before .before .before .question in
-    let raise = c .before .before .before .before .before .before .before .before .before .before .before .before .before .before .before .before .before .before .before .before
-    .before .before .before .before .raise in
-    let start = c .before .before .before .before .before .before .before .before .before .before .before .before .before .before .before .before .before .before .before .before
-    .before .before .before .before .before .before .before .before .before .before .before .before .before .before .before .before .before .before in
+    let raise = c .before .before .before .before .before .before .before .before .before .before .before .before .before .before .before .before .before .before .before .before .before .before .before .before .raise in
+    let start = c .before .before .before .before .before .before .before .before .before .before .before .before .before .before .before .before .before .before .before .before .before .before .before .before .before .before .before .before .before .before .before .before .before .before .before .before .before .before in
     let e = sym (back (start .args .p) (start .fits .p)) in (
       question .ensures .0,
       visit-over (wiring (start .args .s) (now (start .args .net))) (start .args .k) (start .args .phi) (now (start .args .tops)) (now (start .args .labels)) (start .args .g)
@@ -190,9 +178,7 @@ returns-3 c =
           (ready-fine (start .pre .1 .0 .0)) (start .pre .1 .0 .1) (pinmax-at e (start .pre .1 .1 .0))
           (subst (λ (x : ℤ). labelIn (now (start .args .labels)) (start .args .s .inputs + start .args .g) ≤ℤ x) e (start .pre .1 .1 .1))
           (subst Small e (start .pre .1 .1 .2)) _ (raise .result) (raise .ensures) (question .result) (decides-wiring (question .ensures .1))
-          (omega arith) (let t = c .before .before .before .before .before .before .before .before .before .before .before .before .before .before .before .before .before .before
-          .before .before .before .before .before .before .before .before .before .below .ensures .0 (c .before .before .before .before .before .before .before .before
-          .before .before .before .before .before .before .before .before .before .before .before .before .before .before .before .before .before .before .if1 .taken) in omega
+          (omega arith) (let t = c .before .before .before .before .before .before .before .before .before .before .before .before .before .before .before .before .before .before .before .before .before .before .before .before .before .before .before .below .ensures .0 (c .before .before .before .before .before .before .before .before .before .before .before .before .before .before .before .before .before .before .before .before .before .before .before .before .before .before .if1 .taken) in omega
           (arith, ints, t)) (c .before .below2 .ensures .1 (c .if3 .left)),
     )
 
