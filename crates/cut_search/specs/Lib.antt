@@ -12,3 +12,4 @@ pub mod StepLaws
 pub mod ReadLaws
 pub mod UnwindLaws
 pub mod SearchLaws
+pub mod AroundLaws

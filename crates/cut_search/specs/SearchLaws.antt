@@ -242,13 +242,13 @@ module _ {C : Circuit} {f : ℕ} {members t₀ l₀ stk₀ cnt₀ : List ℕ} (a
         o : MemberTold C f t stk cnt t′ l′ stk′ cnt′ (getD members i 0) r
         o = subst (λ (y : ℕ). MemberTold C f t stk cnt t′ l′ stk′ cnt′ y r) is u
 
-    pub searched-won : {t′ l′ stk′ cnt′ : List ℕ} {x r : ℕ} → MemberTold C f t stk cnt t′ l′ stk′ cnt′ x r → 0 < r → SearchTold C f t₀ t′ l′ r
-    searched-won {t′} o h = record {
+    pub searched-won : {t′ l′ stk′ cnt′ : List ℕ} {x r n : ℕ} → MemberTold C f t stk cnt t′ l′ stk′ cnt′ x r → 0 < r → 0 < n → SearchTold C f t₀ t′ l′ n
+    searched-won {t′} o u h = record {
       noted = o .noted;
       same = λ q. absurd (omega (arith, q, h));
       capped = λ q. absurd (omega (arith, q, h));
       won = λ p W load.
-          let m = o .won p W (load-same t₀ t W (w .same) load) in
+          let m = o .won u W (load-same t₀ t W (w .same) load) in
           record { X = m .X; few = m .few; gains = λ E s. m .gains E (subst (λ (g : ℕ → ℕ). State (graphOf C) g E) (sym (w .same)) s); load = m .load };
     }
 

@@ -1,9 +1,10 @@
 -- Definitions: what the functions of the search ask and tell. What is not in the arrays is asked to be there, and told for whatever it was: R, the forced copies
 -- whose turn has come, and W, which holds what carries.
 use mathlib.Core.Path.{_≡_}
-use mathlib.Core.List.{List, [], _∷_}
+use mathlib.Core.Logic.{_⊎_}
+use mathlib.Core.List.{List, [], _∷_, _++_}
 use Prim.Native.Nat.{ℕ, zero, suc, _+_, _*_, _^_, _≤_, _<_}
-use lib.ListN.{length, getD}
+use lib.ListN.{length, getD, take, drop}
 use Rattle.limits.specs.Limits.{mostPins}
 use Rattle.sequences.specs.Member.{_∈_}
 use Rattle.cut_flow.specs.Search.{View, Gains, Ready}
@@ -180,6 +181,15 @@ pub record SearchTold (C : Circuit) (f : ℕ) (t t′ l′ : List ℕ) (r : ℕ)
   pub same : r ≡ 0 → viewOf t′ .flow ≡ viewOf t .flow
   pub capped : r ≡ 0 → Capped (graphOf C) (viewOf t′) (nodeOf C) f
   pub won : 0 < r → (W : List ℕ) → Load t W → More C f (viewOf t) t′ W
+
+-- the members from a place on, then those before it
+unfoldable pub around : ℕ → List ℕ → List ℕ
+around from members = drop from members ++ take from members
+
+-- r is the place that is tried j-th of n, from a place on and then around
+pub record Turning (n from j r : ℕ) : Type 0 where
+  pub below : r < n
+  pub place : (r ≡ from + j) ⊎ (r + n ≡ from + j)
 
 -- the first i members, the last one first
 unfoldable pub seen : List ℕ → ℕ → List ℕ

@@ -19,7 +19,7 @@ ghost use Rattle.cut_search.specs.SearchTable.{viewOf, Touched, Noted, w
 ghost use Rattle.cut_search.specs.SearchParts.{TouchTold, ListRoom, MarkedOutTold, CandidateAsked, CandidateTold, SeekAsked, SeekTold, EntryTold, WayPlace, WayTold, Zeroed};
 ghost use Rattle.cut_search.specs.Stacks.{turnAt, framesOf};
 ghost use Rattle.cut_search.specs.StackParts.{PushAsked, Pushed};
-ghost use Rattle.cut_search.specs.Steps.{ComeAsked, ComeTold, LeaveAsked, LeaveTold, StepAsked, StepTold, RunAsked, RunTold, UnwindAsked, UnwindTold, MemberAsked, MemberTold, SearchAsked, RootsAsked, SearchTold};
+ghost use Rattle.cut_search.specs.Steps.{ComeAsked, ComeTold, LeaveAsked, LeaveTold, StepAsked, StepTold, RunAsked, RunTold, UnwindAsked, UnwindTold, MemberAsked, MemberTold, SearchAsked, RootsAsked, Turning, SearchTold};
 
 // ---- the byte of a copy
 
@@ -420,7 +420,19 @@ fn clear_counts(counts: &mut [u32])
     }
 }
 
-// The same for all members of the forced set, from an empty stack and counters at 0.
+// The place that is tried j-th of n, from a place on and then around.
+fn place_at(n: usize, from: usize, j: usize) -> usize
+    requires { ⌜ (from ≤ n) × (j < n) ⌝ }
+    ensures { λ r. ⌜ Turning n from j r ⌝ }
+{
+    let rest = n - from;
+    if j < rest {
+        return from + j;
+    }
+    j - rest
+}
+
+// The same for all members of the forced set, those from a place on first, from an empty stack and counters at 0: 0, or 1 more than the place of the member that a unit was found from.
 fn try_members(
     s: Extent,
     net: &[usize],
@@ -431,23 +443,27 @@ fn try_members(
     counts: &mut [u32],
     f: usize,
     members: &[u32],
+    from: usize,
 ) -> usize
     requires { ⌜ RootsAsked (packedOf s (now net) (now slots)) f (now members) (now table) (now list) (now stack) (now counts) ⌝ }
+    requires { ⌜ from ≤ length (now members) ⌝ }
     ensures { λ r. ⌜ SearchTold (packedOf s (now (net .entry)) (now (slots .entry))) f (now (table .entry)) (now (table .exit)) (now (list .exit)) r ⌝ }
+    ensures { λ r. ⌜ r ≤ length (now (members .entry)) ⌝ }
 {
-    let mut i = 0;
-    while i < members.len() {
+    let mut j = 0;
+    while j < members.len() {
+        let i = place_at(members.len(), from, j);
         let x = number_at(members, i);
         let r = try_member(s, net, slots, table, list, stack, counts, f, x);
         if r > 0 {
-            return r;
+            return i + 1;
         }
-        i += 1;
+        j += 1;
     }
     0
 }
 
-// Searches for one more unit than the f that flow, from no marks: 0 if there is none.
+// Searches for one more unit than the f that flow, from no marks: 0 if there is none, else 1 more than the place of the member that it was found from.
 pub fn search(
     s: Extent,
     net: &[usize],
@@ -458,11 +474,14 @@ pub fn search(
     counts: &mut [u32],
     f: usize,
     members: &[u32],
+    from: usize,
 ) -> usize
     requires { ⌜ SearchAsked (packedOf s (now net) (now slots)) f (now members) (now table) (now list) (now stack) (now counts) ⌝ }
+    requires { ⌜ from ≤ length (now members) ⌝ }
     ensures { λ r. ⌜ SearchTold (packedOf s (now (net .entry)) (now (slots .entry))) f (now (table .entry)) (now (table .exit)) (now (list .exit)) r ⌝ }
+    ensures { λ r. ⌜ r ≤ length (now (members .entry)) ⌝ }
 {
     clear_counts(counts);
     put_number(stack, 0, 0);
-    try_members(s, net, slots, table, list, stack, counts, f, members)
+    try_members(s, net, slots, table, list, stack, counts, f, members, from)
 }

@@ -59,8 +59,9 @@ fn put(text: &mut String, more: &str) {
     text.write_str(more).expect("a string");
 }
 
-/// `&sif` runs so often on a net, for its time.
-const TURNS: usize = 20;
+/// `&sif` runs so often on a net, for its time: it takes microseconds, reading the net more.
+/// It leaves ABC's net as it is, so that each turn does the same.
+const TURNS: usize = 400;
 
 /// The period of each net, none where there was none, and the time of one `&sif`: from a
 /// run over all nets less a run which only reads them.

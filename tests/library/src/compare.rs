@@ -1,7 +1,7 @@
 //! The library against the second mapper on random nets and candidates: answers, cover
 //! areas and scratch, whole.
 
-use crate::nets::{hand_made, net_a, net_b, net_c, of_family, FAMILIES};
+use crate::nets::{net_a, net_b, net_c, of_family, FAMILIES};
 use crate::programs::printed;
 use second::damage::{candidate, damaged, damaged_net};
 use second::encode::{encode, encode_with_holes};
@@ -172,9 +172,8 @@ pub fn random_calls(
     tally
 }
 
-/// Map of the hand-made nets: every k from 0 to 8 and the huge ones, with these targets and the huge ones.
-pub fn hand_made_maps(course: Course, targets: &[u32]) {
-    let nets = hand_made();
+/// Map of some nets: every k from 0 to 8 and the huge ones, with these targets and the huge ones.
+pub fn all_maps(course: Course, nets: &[Vec<u8>], targets: &[u32]) {
     let tally = on_threads(|thread, threads| {
         let mut random = Random::new(thread);
         let mut sides = Sides::of(course, &mut random);

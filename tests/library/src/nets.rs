@@ -306,6 +306,19 @@ fn loops_in_a_row(random: &mut Random, gates: usize, pins: usize) -> Net {
     with_line(inputs, all, place(total - 1) - inputs, gates, 0)
 }
 
+/// The nets of real designs in `real-nets.txt`, as records.
+pub fn real() -> Vec<Vec<u8>> {
+    let lines = include_str!("../real-nets.txt").lines();
+    let digits = lines.filter_map(|line| Some(line.split_once(' ')?.0).filter(|word| *word != "#"));
+    let byte = |pair: &[u8]| {
+        let pair = std::str::from_utf8(pair).expect("ASCII");
+        u8::from_str_radix(pair, 16).expect("two hexadecimal digits")
+    };
+    digits
+        .map(|word| word.as_bytes().chunks(2).map(byte).collect())
+        .collect()
+}
+
 /// The names of the slow families.
 pub const FAMILIES: [&str; 9] = [
     "ring",

@@ -1,7 +1,7 @@
 //! The library's map against the second mapper's: answers, cover areas and scratch, whole.
 
-use library::compare::{cases, hand_made_maps, on_threads, random_calls, Sides};
-use library::nets::{largest_record, net_a};
+use library::compare::{all_maps, cases, on_threads, random_calls, Sides};
+use library::nets::{hand_made, largest_record, net_a, real};
 use second::encode::encode;
 use second::jobs::LONG;
 use second::Random;
@@ -21,7 +21,13 @@ fn random_and_damaged_nets() {
 #[test]
 fn hand_made_nets_with_all_k_and_targets() {
     let targets: Vec<u32> = (0..=40).collect();
-    hand_made_maps(LONG, &targets);
+    all_maps(LONG, &hand_made(), &targets);
+}
+
+/// The nets of real designs, with the small targets and the largest.
+#[test]
+fn real_nets() {
+    all_maps(LONG, &real(), &[0, 1, 2, 3, 4, 32]);
 }
 
 /// All lengths around the limits, for a net that is mapped and some that are refused.

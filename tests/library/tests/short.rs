@@ -1,9 +1,8 @@
 //! Map and mark of the short course against the second mapper's, and against those of the long course
 //! on the same inputs: answers, cover areas and scratch, whole.
 
-use library::compare::{
-    cases, hand_made_maps, on_threads, random_calls, seed, some_k, some_net, Sides,
-};
+use library::compare::{all_maps, cases, on_threads, random_calls, seed, some_k, some_net, Sides};
+use library::nets::hand_made;
 use second::jobs::{SCRATCH_BYTES, SHORT};
 use second::Random;
 
@@ -27,7 +26,7 @@ fn random_candidates() {
 #[test]
 fn hand_made_nets_with_all_k() {
     let targets: Vec<u32> = (0..=9).chain(31..=34).collect();
-    hand_made_maps(SHORT, &targets);
+    all_maps(SHORT, &hand_made(), &targets);
 }
 
 /// Both courses on the same inputs: the same within both, and beyond 1, then 5.

@@ -6,7 +6,7 @@
 //! in the time. Build with the profile `timing`.
 
 use library::abc;
-use library::nets::{of_family, FAMILIES};
+use library::nets::{of_family, real, FAMILIES};
 use second::encode::encode;
 use second::generate::{random_net, Shape};
 use second::jobs::{COVER_BYTES, LONG, SCRATCH_BYTES};
@@ -421,6 +421,14 @@ fn run(nets: usize, seed: u64) {
     }
     println!("\nall of these");
     all.print();
+    println!("real nets of up to 32 gates, k 4 to 6");
+    let own = real();
+    let cases = |net: Vec<u8>| (4..=6).map(move |k| (net.clone(), k));
+    measure(
+        &mut areas,
+        &own.into_iter().flat_map(cases).collect::<Vec<_>>(),
+    )
+    .print();
     println!("slow families, map alone");
     println!("               gates {COLUMNS}");
     for family in 0..FAMILIES.len() {
