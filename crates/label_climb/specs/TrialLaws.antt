@@ -2,7 +2,7 @@
 use mathlib.Core.Path.{_≡_, refl, sym, _∙_, subst}
 use mathlib.Core.List.{List}
 use mathlib.Core.Logic.{_⊎_, inl, inr}
-use Prim.Native.Nat.{ℕ, zero, suc, _+_, _-_, _*_, _≤_, _<_}
+use Prim.Native.Nat.{ℕ, zero, suc, _+_, _*_, _≤_, _<_}
 use native.Mathlib.Decide.{ℕ-discrete, decLt}
 use native.Mathlib.Nat.{mul-le-mul-left, mul-le-mul-right}
 use native.Mathlib.Omega.{arith}
@@ -12,8 +12,7 @@ use lib.Seq.{getD-set-same, getD-set-other, ext-getD}
 use lib.Signed.{_≤ℤ_, _<ℤ_, ≤ℤ-refl}
 use Rattle.limits.specs.Limits.{mostNodes}
 use Rattle.integers.specs.Parts.{ints, +-parts, sub-parts}
-use Rattle.net_model.specs.Net.{Net, IsGate, IsInput, IsNode}
-use Rattle.label_theory.specs.Labels.{plain}
+use Rattle.net_model.specs.Net.{Net, IsGate, IsInput}
 use Rattle.label_theory.specs.Lower.{input-or-gate}
 use Rattle.label_theory.specs.Near.{Rose}
 use Rattle.label_theory.specs.NearLaws.{bound-near, near-bound, jump}

@@ -7,7 +7,7 @@ use native.Mathlib.Omega.{arith}
 use lib.IntN.{ℤ}
 use lib.ListN.{getD}
 use Rattle.cut_circuit.specs.Circuit.{Circuit}
-use Rattle.label_visit.specs.LabelVisits.{Quiet, Fine, left, Visited}
+use Rattle.label_visit.specs.LabelVisits.{Quiet, Fine, Visited}
 use Rattle.label_visit.specs.BoundLaws.{kept-same, kept-then, kept-bounds}
 use Rattle.label_pass.specs.Passes.{IfRose, GoesOn, QuietFrom, Sweep, SweepTold, Progress}
 

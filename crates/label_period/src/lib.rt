@@ -1,8 +1,6 @@
 // The least period: small ones are asked from 1 up, larger ones by halves.
 use cut_circuit::Extent;
 use label_sweep::reach;
-ghost use mathlib.Core.Path.{_≡_};
-ghost use mathlib.Core.Bool.{true, false};
 ghost use Prim.Native.Nat.{_≤_, _<_};
 ghost use Rattle.cut_circuit.specs.Packed.{packedOf};
 ghost use Rattle.cut_question.specs.Separating.{AtRest};

@@ -1,11 +1,10 @@
 -- Sweeps joined until nothing can change.
-use mathlib.Core.Path.{_≡_, refl, sym, _∙_, subst}
+use mathlib.Core.Path.{_≡_, subst}
 use mathlib.Core.List.{List}
 use Prim.Native.Nat.{ℕ, _+_, _%_, _≤_, _<_}
-use native.Mathlib.Decide.{ℕ-discrete, decLt}
+use native.Mathlib.Decide.{ℕ-discrete}
 use native.Mathlib.Omega.{arith}
 use lib.IntN.{ℤ}
-use lib.ListN.{getD}
 use Rattle.cut_circuit.specs.Circuit.{Circuit}
 use Rattle.label_visit.specs.LabelVisits.{Quiet, Fine, left}
 use Rattle.label_visit.specs.BoundLaws.{kept-bounds}

@@ -1,5 +1,5 @@
 -- Laws of labels near all labellings: a visit keeps them near, and a trial in which every raised label rose further leaves a lower bound.
-use mathlib.Core.Path.{_≡_, sym, subst}
+use mathlib.Core.Path.{_≡_, subst}
 use mathlib.Core.Logic.{_⊎_, inl, inr}
 use Prim.Native.Nat.{ℕ, zero, suc, _+_, _*_, _≤_}
 use native.Mathlib.Decide.{ℕ-discrete}
@@ -10,10 +10,9 @@ use Rattle.integers.specs.Parts.{ints, +-parts, sub-parts}
 use Rattle.integers.specs.Order.{≤ℤ-total}
 use Rattle.integers.specs.Height.{height, height-parts}
 use Rattle.sequences.specs.Member.{_∈_}
-use Rattle.net_model.specs.Net.{Net, Pin, IsGate, IsInput, IsNode, pins}
+use Rattle.net_model.specs.Net.{Net, Pin, IsGate, IsInput, pins}
 use Rattle.net_model.specs.Checks.{Sound}
-use Rattle.net_model.specs.Copies.{Copy}
-use Rattle.label_theory.specs.Labels.{Mode, LowCutIn, LabellingIn}
+use Rattle.label_theory.specs.Labels.{Mode, LabellingIn}
 use Rattle.label_theory.specs.Modes.{inside-lower}
 use Rattle.label_theory.specs.Lower.{InputsZero, input-or-gate, leaf-node, recut, remember, replace, replace-same, replace-other}
 use Rattle.label_theory.specs.Pins.{pin-lemma, pin-input}

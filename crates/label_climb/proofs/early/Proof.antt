@@ -1,7 +1,6 @@
 -- `label_climb::early` meets its contract.
 use mathlib.Core.Bool.{true≢false}
 use native.Mathlib.Omega.{arith}
-use borrow.Author.Needs.{needs}
 use Rattle.label_climb.proofs.early.Statement.{statement}
 use Rattle.label_climb.proofs.early.Tie as tie
 

@@ -1,5 +1,5 @@
 -- `label_period::either` meets its contract.
-use mathlib.Core.Path.{_≡_, refl, sym, _∙_}
+use mathlib.Core.Path.{refl, sym, _∙_}
 use mathlib.Core.Bool.{true≢false, false≢true}
 use Rattle.label_period.proofs.either.Statement.{statement}
 use Rattle.label_period.proofs.either.Tie as tie
