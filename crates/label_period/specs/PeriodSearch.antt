@@ -1,5 +1,6 @@
 -- Definitions: what a search for the least period tells.
 use mathlib.Core.Path.{_≡_}
+use mathlib.Core.Bool.{Bool, true, false}
 use mathlib.Core.List.{List}
 use Prim.Native.Nat.{ℕ, _≤_, _<_}
 use lib.IntN.{ℤ}
@@ -12,9 +13,26 @@ use Rattle.cut_circuit.specs.Circuit.{Circuit}
 use Rattle.signed.specs.Range.{labelIn}
 use Rattle.label_visit.specs.LabelVisits.{Suits, Fine}
 
+-- x if b, else y
+abbrev pub Either : Bool → ℕ → ℕ → ℕ → Type 0
+Either b x y r = (b ≡ true → r ≡ x) × (b ≡ false → r ≡ y)
+
+-- a period up to the number of gates
+pub record Few (gates r : ℕ) : Type 0 where
+  pub positive : 1 ≤ r
+  pub most : r ≤ gates
+
 -- no period below φ is reachable
 pub record NoneBelow (C : Circuit) (k : ℕ) (tops os oc : List ℕ) (n φ : ℕ) : Type 0 where
-  pub below : (ψ : ℕ) → 1 ≤ ψ → ψ < φ → (N : Net) → Suits C k tops N → N .outputs ≡ pinsIn os oc 0 n → ¬ Reachable N k ψ
+  pub below : (ψ : ℕ) → 1 ≤ ψ → ψ < φ → (N : Net) → Suits C k tops N → Passed N k → N .outputs ≡ pinsIn os oc 0 n → ¬ Reachable N k ψ
+
+-- The least period is from low up to high.
+pub record Halved (C : Circuit) (k : ℕ) (tops os oc : List ℕ) (n low high : ℕ) : Type 0 where
+  pub positive : 1 ≤ low
+  pub order : low ≤ high
+  pub most : high ≤ C .gates
+  pub none : NoneBelow C k tops os oc n low
+  pub reached : (N : Net) → Suits C k tops N → Passed N k → N .outputs ≡ pinsIn os oc 0 n → Reachable N k high
 
 -- r is the least period of every net that suits, and the labels are its least labelling.
 pub record Period (C : Circuit) (k : ℕ) (tops os oc : List ℕ) (n : ℕ) (ls : List ℤ) (r : ℕ) : Type 0 where

@@ -1,10 +1,9 @@
--- The least period by search: periods 1, 2, ... until one is reachable; the number of gates is.
-use mathlib.Core.Path.{_≡_, refl}
+-- The least period by search: periods 1, 2, ... until one is reachable, or what is left by halves; the number of gates is reachable.
+use mathlib.Core.Path.{_≡_, refl, subst}
 use mathlib.Core.List.{List}
 use mathlib.Core.Bool.{Bool, true, false}
-use Prim.Native.Nat.{ℕ, _+_, _≤_, _<_}
-use native.Mathlib.Nat.{mul-le-mul-right}
-use native.Mathlib.Decide.{ℕ-discrete}
+use Prim.Native.Nat.{ℕ, _+_, _-_, _≤_, _<_}
+use native.Mathlib.Nat.{le-trans, mul-le-mul-right}
 use native.Mathlib.Omega.{arith}
 use lib.IntN.{ℤ}
 use lib.ListN.{length, getD}
@@ -13,14 +12,14 @@ use Rattle.net_model.specs.Arrays.{pinsIn}
 use Rattle.net_model.specs.Checks.{Passed}
 use Rattle.label_theory.specs.Labels.{Reachable}
 use Rattle.cover_theory.specs.Covers.{LeastPeriod}
-use Rattle.cover_theory.specs.Joined.{reachable-met, met-reachable}
+use Rattle.cover_theory.specs.Joined.{reachable-met, met-reachable, met-more}
 use Rattle.cover_theory.specs.Period.{gates-reach}
 use Rattle.cut_circuit.specs.Circuit.{Circuit}
 use Rattle.cut_circuit.specs.declared.Extent.{Extent}
 use Rattle.signed.specs.Range.{labelIn}
 use Rattle.label_visit.specs.LabelVisits.{Suits, Ceilings}
 use Rattle.label_sweep.specs.Sweeps.{Sized, Labelled}
-use Rattle.label_period.specs.PeriodSearch.{NoneBelow, Period}
+use Rattle.label_period.specs.PeriodSearch.{Either, NoneBelow, Halved, Period}
 
 -- ---- smaller periods ask less
 pub sized-less : {s : Extent} {ls ls′ : List ℤ} {os oc : List ℕ} {k n φ : ℕ} (ψ : ℕ) → ψ ≤ φ → length ls′ ≡ length ls → Sized s ls os oc φ k n → Sized s ls′ os oc ψ k n
@@ -40,20 +39,29 @@ sized-less {s} {oc = oc} ψ h e z = record {
 pub ceilings-less : {C : Circuit} {tops : List ℕ} {φ : ℕ} (ψ : ℕ) → ψ ≤ φ → Ceilings C φ tops → Ceilings C ψ tops
 ceilings-less {tops = tops} ψ h c = record { size = c .size; top = λ g l. let a = mul-le-mul-right (getD tops g 0) h in let b = c .top g l in omega arith }
 
+-- a period larger than a reachable one is reachable
+reachable-more : {N : Net} {k φ ψ : ℕ} → Passed N k → 1 ≤ ψ → ψ ≤ φ → Reachable N k ψ → Reachable N k φ
+reachable-more P one le r = met-reachable P (le-trans one le) (met-more le (reachable-met P one r))
+
+-- what is left falls
+pub halves-less : {b : Bool} {low high φ low′ high′ : ℕ} → low ≤ φ → φ < high → Either b low (φ + 1) low′ → Either b φ high high′ → high′ - low′ < high - low
+halves-less {b} {low} {high} {φ} {low′} {high′} le lt x y = go b refl
+  where
+    go : (t : Bool) → b ≡ t → high′ - low′ < high - low
+    go true e = let p = x .0 e in let q = y .0 e in omega arith
+    go false e = let p = x .1 e in let q = y .1 e in omega arith
+
 module _ {C : Circuit} {k : ℕ} {tops os oc : List ℕ} {n : ℕ} where
   pub none-first : NoneBelow C k tops os oc n 1
   none-first = record { below = λ ψ a b. absurd (omega (arith, a, b)) }
 
-  pub none-next : {φ : ℕ} {ls : List ℤ} {b : Bool} → NoneBelow C k tops os oc n φ → Labelled C k φ tops os oc n ls b → b ≡ false → NoneBelow C k tops os oc n (φ + 1)
-  none-next {φ} f l e = record { below = λ ψ a b N S o. go ψ a b N S o (ℕ-discrete ψ φ) }
-    where
-      go : (ψ : ℕ) → 1 ≤ ψ → ψ < φ + 1 → (N : Net) → Suits C k tops N → N .outputs ≡ pinsIn os oc 0 n → Dec (ψ ≡ φ) → ¬ Reachable N k ψ
-      go ψ a b N S o (yes q) = rw q (l .none e N S o)
-      go ψ a b N S o (no q) = f .below ψ a (omega arith) N S o
+  -- **a period that is not reachable leaves out all up to it**
+  pub none-next : {φ : ℕ} {ls : List ℤ} {b : Bool} → Labelled C k φ tops os oc n ls b → b ≡ false → NoneBelow C k tops os oc n (φ + 1)
+  none-next l e = record { below = λ ψ a b N S P o r. l .none e N S o (reachable-more P a (omega arith) r) }
 
   -- the first that is reachable is the least period
   first : {φ : ℕ} → 1 ≤ φ → NoneBelow C k tops os oc n φ → (N : Net) → Suits C k tops N → (P : Passed N k) → N .outputs ≡ pinsIn os oc 0 n → Reachable N k φ → LeastPeriod N k φ
-  first one f N S P o r = record { positive = one; met = reachable-met P one r; least = λ ψ a b m. f .below ψ a b N S o (met-reachable P a m) }
+  first one f N S P o r = record { positive = one; met = reachable-met P one r; least = λ ψ a b m. f .below ψ a b N S P o (met-reachable P a m) }
 
   pub period-found : {φ : ℕ} {ls : List ℤ} {b : Bool} → 1 ≤ φ → φ ≤ C .gates → NoneBelow C k tops os oc n φ → Labelled C k φ tops os oc n ls b → b ≡ true → Period C k tops os oc n ls φ
   period-found {ls = ls} one most f l e = record {
@@ -64,13 +72,42 @@ module _ {C : Circuit} {k : ℕ} {tops os oc : List ℕ} {n : ℕ} where
     labels = λ N S P o. l .found e N S o;
   }
 
+  -- ---- by halves
+
   -- the number of gates is reachable
-  pub period-last : {φ : ℕ} {ls : List ℤ} {b : Bool} → φ ≡ C .gates → 1 ≤ φ → NoneBelow C k tops os oc n φ → Labelled C k φ tops os oc n ls b → Period C k tops os oc n ls φ
-  period-last {φ} {ls} {b} g one f l = go b refl
+  pub halved-first : {φ γ : ℕ} → γ ≡ C .gates → 1 ≤ φ → φ ≤ γ → NoneBelow C k tops os oc n φ → Halved C k tops os oc n φ γ
+  halved-first e one le f = record {
+    positive = one;
+    order = le;
+    most = omega arith;
+    none = f;
+    reached = λ N S P o. gates-reach P _ (let h = S .holds .gates in omega arith);
+  }
+
+  pub halved-next : {low high φ low′ high′ : ℕ} {ls : List ℤ} {b : Bool} → Halved C k tops os oc n low high → low ≤ φ → φ < high → Labelled C k φ tops os oc n ls b
+      → Either b low (φ + 1) low′ → Either b φ high high′ → Halved C k tops os oc n low′ high′
+  halved-next {low} {high} {φ} {low′} {high′} {ls} {b} h le lt l x y = go b refl
+    where
+      go : (t : Bool) → b ≡ t → Halved C k tops os oc n low′ high′
+      go true e = rw (x .0 e, y .0 e) (record {
+        positive = h .positive;
+        order = le;
+        most = let m = h .most in omega arith;
+        none = h .none;
+        reached = λ N S P o. let t = l .found e N S o in record { label = labelIn ls; least = t .0; outputs = t .1 };
+      })
+      go false e = rw (x .1 e, y .1 e) (record { positive = omega arith; order = omega arith; most = h .most; none = none-next l e; reached = h .reached })
+
+  pub halved-end : {low high : ℕ} → high ≤ low → Halved C k tops os oc n low high → Halved C k tops os oc n low low
+  halved-end {low} {high} le h = subst (Halved C k tops os oc n low) (let o = h .order in let e : high ≡ low = omega arith in e) h
+
+  -- **what is left by halves is the least period**
+  pub period-last : {φ : ℕ} {ls : List ℤ} {b : Bool} → Halved C k tops os oc n φ φ → Labelled C k φ tops os oc n ls b → Period C k tops os oc n ls φ
+  period-last {φ} {ls} {b} h l = go b refl
     where
       last : b ≡ false → (N : Net) → Suits C k tops N → Passed N k → N .outputs ≡ pinsIn os oc 0 n → ⊥
-      last e N S P o = l .none e N S o (gates-reach P φ (let h = S .holds .gates in omega arith))
+      last e N S P o = l .none e N S o (h .reached N S P o)
 
       go : (t : Bool) → b ≡ t → Period C k tops os oc n ls φ
-      go true e = period-found one (omega arith) f l e
-      go false e = record { positive = one; most = omega arith; fine = l .fine; least = λ N S P o. absurd (last e N S P o); labels = λ N S P o. absurd (last e N S P o) }
+      go true e = period-found (h .positive) (h .most) (h .none) l e
+      go false e = record { positive = h .positive; most = h .most; fine = l .fine; least = λ N S P o. absurd (last e N S P o); labels = λ N S P o. absurd (last e N S P o) }

@@ -1,4 +1,4 @@
-// The least period, by search over periods from 1 up.
+// The least period: small ones are asked from 1 up, larger ones by halves.
 use cut_circuit::Extent;
 use label_sweep::reach;
 ghost use Prim.Native.Nat.{_≤_, _<_};
@@ -6,7 +6,77 @@ ghost use Rattle.cut_circuit.specs.Packed.{packedOf};
 ghost use Rattle.cut_question.specs.Separating.{AtRest};
 ghost use Rattle.label_visit.specs.LabelVisits.{wiring, Ceilings};
 ghost use Rattle.label_sweep.specs.Sweeps.{Sized, Ordered};
-ghost use Rattle.label_period.specs.PeriodSearch.{Period};
+ghost use Rattle.label_period.specs.PeriodSearch.{Either, Few, NoneBelow, Halved, Period};
+
+// Periods below this one are asked from 1 up.
+const FEW: usize = 8;
+
+// The smaller of the number of gates and FEW.
+fn few(gates: usize) -> usize
+    requires { ⌜ 1 ≤ gates ⌝ }
+    ensures { λ r. ⌜ Few gates r ⌝ }
+{
+    if gates < FEW { gates } else { FEW }
+}
+
+fn either(b: bool, x: usize, y: usize) -> usize
+    ensures { λ r. ⌜ Either b x y r ⌝ }
+{
+    if b { x } else { y }
+}
+
+// The least period from low on, where no smaller one is reachable: what is left is halved until one period is.
+fn halve(
+    s: Extent,
+    net: &[usize],
+    slots: &mut [u32],
+    table: &mut [u8],
+    list: &mut [u32],
+    stack: &mut [u32],
+    counts: &mut [u32],
+    members: &mut [u32],
+    labels: &mut [i64],
+    tops: &[usize],
+    order: &[usize],
+    outs: &[usize],
+    delays: &[usize],
+    n: usize,
+    k: usize,
+    from: usize,
+) -> usize
+    requires { ⌜ AtRest (packedOf s (now net) (now slots)) (now table) (now list) (now stack) (now counts) (now members) ⌝ }
+    requires { ⌜ Sized s (now labels) (now outs) (now delays) (s .gates) k n × Ordered (wiring s (now net)) (now order) × Ceilings (wiring s (now net)) (s .gates) (now tops) ⌝ }
+    requires { ⌜ (1 ≤ from) × (from ≤ s .gates) × NoneBelow (wiring s (now net)) k (now tops) (now outs) (now delays) n from ⌝ }
+    ensures { λ _. ⌜ AtRest (packedOf s (now (net .entry)) (now (slots .exit))) (now (table .exit)) (now (list .exit)) (now (stack .exit)) (now (counts .exit)) (now (members .exit)) ⌝ }
+    ensures { λ r. ⌜ Halved (wiring s (now (net .entry))) k (now (tops .entry)) (now (outs .entry)) (now (delays .entry)) n r r ⌝ }
+{
+    let mut low = from;
+    let mut high = s.gates;
+    while low < high {
+        let phi = low + (high - low) / 2;
+        let b = reach(
+            s,
+            net,
+            slots,
+            table,
+            list,
+            stack,
+            counts,
+            members,
+            labels,
+            tops,
+            order,
+            outs,
+            delays,
+            n,
+            phi,
+            k,
+        );
+        low = either(b, low, phi + 1);
+        high = either(b, phi, high);
+    }
+    low
+}
 
 // The least period, with its least labelling left in labels.
 pub fn least_period(
@@ -31,8 +101,9 @@ pub fn least_period(
     ensures { λ _. ⌜ AtRest (packedOf s (now (net .entry)) (now (slots .exit))) (now (table .exit)) (now (list .exit)) (now (stack .exit)) (now (counts .exit)) (now (members .exit)) ⌝ }
     ensures { λ r. ⌜ Period (wiring s (now (net .entry))) k (now (tops .entry)) (now (outs .entry)) (now (delays .entry)) n (now (labels .exit)) r ⌝ }
 {
+    let end = few(s.gates);
     let mut phi = 1;
-    while phi < s.gates {
+    while phi < end {
         if reach(
             s,
             net,
@@ -55,6 +126,24 @@ pub fn least_period(
         }
         phi += 1;
     }
+    let low = halve(
+        s,
+        net,
+        slots,
+        table,
+        list,
+        stack,
+        counts,
+        members,
+        labels,
+        tops,
+        order,
+        outs,
+        delays,
+        n,
+        k,
+        phi,
+    );
     reach(
         s,
         net,
@@ -70,8 +159,8 @@ pub fn least_period(
         outs,
         delays,
         n,
-        phi,
+        low,
         k,
     );
-    phi
+    low
 }

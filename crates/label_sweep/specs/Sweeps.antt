@@ -12,40 +12,9 @@ use Rattle.signed.specs.Range.{room, labelIn}
 use Rattle.cut_circuit.specs.Circuit.{Circuit}
 use Rattle.cut_circuit.specs.declared.Extent.{Extent}
 use Rattle.limits.specs.Limits.{mostK}
-use Rattle.label_visit.specs.LabelVisits.{Suits, Quiet, Bounds, Refuted, Fine, left}
+use Rattle.label_visit.specs.LabelVisits.{Suits, Quiet, Bounds, Refuted, Fine}
+pub use Rattle.label_pass.specs.Passes.{Ordered}
 use Rattle.label_pins.specs.PinHeights.{PinFits}
-
--- a where a visit raised a label, else b
-abbrev pub IfRose : ℕ → ℕ → ℕ → ℕ → Type 0
-IfRose e a b r = (e ≡ 1 → r ≡ a) × (¬ (e ≡ 1) → r ≡ b)
-
--- from place n of the order on nothing can change
-abbrev pub QuietFrom : Circuit → ℕ → ℕ → List ℕ → List ℕ → List ℤ → ℕ → Type 0
-QuietFrom C k φ tops order ls n = (i : ℕ) → n ≤ i → i < C .gates → Quiet C k φ tops ls (getD order i 0)
-
--- A sweep with n gates of the order visited. It ends at place `end`; `last` is the place behind the last rise so far, 0 where no label rose.
-pub record Sweep (C : Circuit) (k φ : ℕ) (tops order : List ℕ) (ls ls′ : List ℤ) (n end last : ℕ) : Type 0 where
-  pub ends : end ≤ C .gates
-  pub place : n ≤ end
-  pub behind : last ≤ n
-  pub fine : Fine C ls′
-  pub bounds : Bounds C k φ tops ls → Bounds C k φ tops ls′
-  pub same : last ≡ 0 → ls′ ≡ ls
-  pub quiet : (i : ℕ) → last ≤ i → i < n → Quiet C k φ tops ls′ (getD order i 0)
-  pub rest : QuietFrom C k φ tops order ls′ end
-  pub less : left C φ tops ls′ (C .gates) ≤ left C φ tops ls (C .gates)
-  pub falls : 1 ≤ last → left C φ tops ls′ (C .gates) < left C φ tops ls (C .gates)
-
--- One sweep. 0: nothing can change. From 1 to the number of gates: the place behind the last rise. One more: a label would pass its ceiling.
-pub record SweepTold (C : Circuit) (k φ : ℕ) (tops order : List ℕ) (ls ls′ : List ℤ) (r : ℕ) : Type 0 where
-  pub most : r ≤ C .gates + 1
-  pub fine : Fine C ls′
-  pub bounds : Bounds C k φ tops ls → Bounds C k φ tops ls′
-  pub same : r ≡ 0 → ls′ ≡ ls
-  pub quiet : r ≤ C .gates → QuietFrom C k φ tops order ls′ r
-  pub less : left C φ tops ls′ (C .gates) ≤ left C φ tops ls (C .gates)
-  pub falls : 1 ≤ r → r ≤ C .gates → left C φ tops ls′ (C .gates) < left C φ tops ls (C .gates)
-  pub refuted : C .gates < r → Bounds C k φ tops ls → Refuted C k φ tops
 
 -- What a sweep's result r says. 0: nothing can change. 1: a label rose. 2: it would pass its ceiling.
 pub record Outcome (gates r o : ℕ) : Type 0 where
@@ -87,12 +56,6 @@ pub record Labelled (C : Circuit) (k φ : ℕ) (tops os oc : List ℕ) (n : ℕ)
   pub found : r ≡ true → (N : Net) → Suits C k tops N → N .outputs ≡ pinsIn os oc 0 n → Least N k φ (labelIn ls) × OutputsMet N φ (labelIn ls)
   pub quiet : r ≡ true → (g : ℕ) → g < C .gates → Quiet C k φ tops ls g
   pub none : r ≡ false → (N : Net) → Suits C k tops N → N .outputs ≡ pinsIn os oc 0 n → ¬ Reachable N k φ
-
--- an order of the gates
-pub record Ordered (C : Circuit) (order : List ℕ) : Type 0 where
-  pub room : C .gates ≤ length order
-  pub gate : (i : ℕ) → i < C .gates → getD order i 0 < C .gates
-  pub all : (g : ℕ) → g < C .gates → (i : ℕ) × (i < C .gates) × (getD order i 0 ≡ g)
 
 -- The sweeps so far, the last with result r.
 pub record Settling (C : Circuit) (k φ : ℕ) (tops : List ℕ) (ls ls′ : List ℤ) (r : ℕ) : Type 0 where

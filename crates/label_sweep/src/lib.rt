@@ -1,7 +1,8 @@
-// The label sweep: labels raised from below, gate by gate, until nothing can change or a label would pass its ceiling.
+// The label sweep: labels raised from below, sweep after sweep, until nothing can change or a label would pass its ceiling.
 use cut_circuit::Extent;
+use label_climb::next_width;
+use label_climb::round;
 use label_pins::pin_height;
-use label_visit::visit;
 use signed::minus;
 use signed::whole;
 ghost use mathlib.Core.Path.{_≡_};
@@ -15,68 +16,8 @@ ghost use Rattle.cut_circuit.specs.Packed.{packedOf};
 ghost use Rattle.cut_question.specs.Separating.{AtRest};
 ghost use Rattle.label_visit.specs.LabelVisits.{wiring, Ready, Ceilings};
 ghost use Rattle.label_pins.specs.PinHeights.{heightAt, PinFits};
-ghost use Rattle.label_sweep.specs.Sweeps.{Ordered, IfRose, QuietFrom, SweepTold, Outcome, SettleTold, Filled, OutFits, Sized, Labelled};
+ghost use Rattle.label_sweep.specs.Sweeps.{Ordered, Outcome, SettleTold, Filled, OutFits, Sized, Labelled};
 ghost use Rattle.label_sweep.specs.Starting.{Started, OutsMet};
-
-// One sweep over the gates in an order, up to place stop, or over all of them once a label rose: from stop on nothing can change unless one rises.
-// 0 where nothing can change, the place behind the last rise, or gates + 1 where a label would pass its ceiling.
-fn sweep(
-    s: Extent,
-    net: &[usize],
-    slots: &mut [u32],
-    table: &mut [u8],
-    list: &mut [u32],
-    stack: &mut [u32],
-    counts: &mut [u32],
-    members: &mut [u32],
-    labels: &mut [i64],
-    tops: &[usize],
-    order: &[usize],
-    phi: usize,
-    k: usize,
-    stop: usize,
-) -> usize
-    requires { ⌜ AtRest (packedOf s (now net) (now slots)) (now table) (now list) (now stack) (now counts) (now members) ⌝ }
-    requires { ⌜ Ready s (now labels) phi k × Ordered (wiring s (now net)) (now order) × Ceilings (wiring s (now net)) phi (now tops) ⌝ }
-    requires { ⌜ (stop ≤ s .gates) × QuietFrom (wiring s (now net)) k phi (now tops) (now order) (now labels) stop ⌝ }
-    ensures { λ _. ⌜ AtRest (packedOf s (now (net .entry)) (now (slots .exit))) (now (table .exit)) (now (list .exit)) (now (stack .exit)) (now (counts .exit)) (now (members .exit)) ⌝ }
-    ensures { λ r. ⌜ SweepTold (wiring s (now (net .entry))) k phi (now (tops .entry)) (now (order .entry)) (now (labels .entry)) (now (labels .exit)) r ⌝ }
-{
-    let mut last = 0;
-    let mut end = stop;
-    let mut i = 0;
-    while i < end {
-        let e = visit(
-            s,
-            net,
-            slots,
-            table,
-            list,
-            stack,
-            counts,
-            members,
-            labels,
-            tops,
-            phi,
-            k,
-            order[i],
-        );
-        if e == 2 {
-            return s.gates + 1;
-        }
-        i += 1;
-        last = if_rose(e, i, last);
-        end = if_rose(e, s.gates, end);
-    }
-    last
-}
-
-// a where a visit raised a label, else b.
-fn if_rose(e: usize, a: usize, b: usize) -> usize
-    ensures { λ r. ⌜ IfRose e a b r ⌝ }
-{
-    if e == 1 { a } else { b }
-}
 
 // What a sweep's result says: 0 where nothing can change, 1 where a label rose, 2 where one would pass its ceiling.
 fn outcome(gates: usize, r: usize) -> usize
@@ -91,7 +32,7 @@ fn outcome(gates: usize, r: usize) -> usize
     }
 }
 
-// Sweeps until nothing can change, or a label would pass its ceiling.
+// Sweeps, with trials where labels keep rising, until nothing can change or a label would pass its ceiling.
 fn sweep_all(
     s: Extent,
     net: &[usize],
@@ -113,9 +54,10 @@ fn sweep_all(
     ensures { λ r. ⌜ SettleTold (wiring s (now (net .entry))) k phi (now (tops .entry)) (now (labels .entry)) (now (labels .exit)) r ⌝ }
 {
     let mut stop = s.gates;
+    let mut w = 1;
     let mut r = 1;
     while r == 1 {
-        stop = sweep(
+        stop = round(
             s,
             net,
             slots,
@@ -130,8 +72,10 @@ fn sweep_all(
             phi,
             k,
             stop,
+            w,
         );
         r = outcome(s.gates, stop);
+        w = next_width(w);
     }
     r
 }

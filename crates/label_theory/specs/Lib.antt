@@ -4,6 +4,8 @@ pub mod Lower
 pub mod Pins
 pub mod Floor
 pub mod Bounds
+pub mod Near
+pub mod NearLaws
 pub mod LabelDecision
 pub mod Small
 pub mod Exists

@@ -1,7 +1,6 @@
 -- Labels that no labelling is below: raised to what every labelling reaches, past a ceiling, and where all gates are quiet.
-use mathlib.Core.Path.{_≡_, sym, ap, _∙_, subst, fun-ext}
+use mathlib.Core.Path.{_≡_, refl, sym, ap, _∙_, subst, fun-ext}
 use mathlib.Core.List.{List}
-use mathlib.Core.Logic.{_⊎_, inl, inr}
 use Prim.Native.Nat.{ℕ, suc, _+_, _-_, _*_, _<_}
 use native.Mathlib.Decide.{ℕ-discrete}
 use native.Mathlib.Nat.{le-refl}
@@ -11,22 +10,24 @@ use lib.ListN.{length, getD, set}
 use lib.Seq.{getD-set-same, getD-set-other}
 use lib.Signed.{_≤ℤ_, _<ℤ_}
 use Rattle.integers.specs.Parts.{ints, +-parts}
-use Rattle.integers.specs.Order.{≤ℤ-trans, ≤ℤ-antisym}
+use Rattle.integers.specs.Order.{≤ℤ-trans}
 use Rattle.sequences.specs.Member.{_∈_}
 use Rattle.net_model.specs.Net.{Net, Pin, IsGate, pins}
 use Rattle.net_model.specs.Arrays.{stride}
 use Rattle.net_model.specs.ArrayLaws.{pinAt, pinsIn-in, in-pinsIn}
 use Rattle.net_model.specs.Checks.{Sound}
-use Rattle.label_theory.specs.Labels.{plain, LowCut, Labelling, Least}
-use Rattle.label_theory.specs.Lower.{relabel, replace, replace-same, replace-other}
-use Rattle.label_theory.specs.Bounds.{LowerBound, PinsReach, pin-bound, raised, refutes, alone-cut, settled-least}
+use Rattle.label_theory.specs.Labels.{plain, LowCut, Least}
+use Rattle.label_theory.specs.Lower.{replace, replace-same, replace-other}
+use Rattle.label_theory.specs.Bounds.{PinsReach, refutes, alone-cut, settled-least}
+use Rattle.label_theory.specs.Near.{Keeps}
+use Rattle.label_theory.specs.NearLaws.{bound-near, near-bound, keeps-pin, keeps-more}
 use Rattle.label_theory.specs.Modes.{bordered-plain}
 use Rattle.label_theory.specs.Forced.{Falling, separation-cut}
 use Rattle.signed.specs.Range.{labelIn}
 use Rattle.cut_circuit.specs.Circuit.{Circuit}
 use Rattle.cut_circuit.specs.Bridge.{Holds, gate-of}
 use Rattle.cut_question.specs.Question.{Decides}
-use Rattle.label_visit.specs.LabelVisits.{Suits, pinHeight, PinMax, Quiet, higher, level, Bounds, Refuted}
+use Rattle.label_visit.specs.LabelVisits.{Suits, Sane, pinHeight, PinMax, Quiet, higher, level, Bounds, Kept, Refuted}
 
 -- gates and pins of a net with this wiring
 place-of : {C : Circuit} {N : Net} → Holds C N → (v : ℕ) → IsGate N v → (g : ℕ) × (g < C .gates) × (v ≡ C .inputs + g)
@@ -52,41 +53,43 @@ label-set ls v u h l = go (ℕ-discrete u v)
     go (yes e) = rw e (getD-set-same ls v h (pos 0) l ∙ sym (replace-same (labelIn ls) v h))
     go (no n) = getD-set-other ls v u h (pos 0) n ∙ sym (replace-other (labelIn ls) v h u n)
 
-module _ {C : Circuit} {k φ : ℕ} {tops : List ℕ} where
-  -- **every labelling reaches p**
-  reaches-p : {N : Net} {ls : List ℤ} {p : ℤ} (S : Suits C k tops N) (g : ℕ) → g < C .gates → PinMax C ls φ g p → LowerBound N k φ (labelIn ls)
-      → (lab : ℕ → ℤ) → Labelling N k φ lab → p ≤ℤ lab (C .inputs + g)
-  reaches-p {N} {ls} {p} S g l m b lab x =
-      subst (λ (z : ℤ). z ≤ℤ lab (C .inputs + g)) (m .attained)
-      (pin-bound N k φ (S .sound) (labelIn ls) (C .inputs + g) (pinAt (C .sources) (C .counts) (stride * g + m .pin)) b (gate-of (S .holds) g l) (is-pin (S .holds) g (m .pin) l (m .isPin)) lab x)
+pub sane-of : {C : Circuit} {k : ℕ} {tops : List ℕ} {N : Net} → Suits C k tops N → Sane C k N
+sane-of S = record { holds = S .holds; ranked = S .ranked; loopless = S .loopless; sound = S .sound; border = S .border }
+
+-- ---- what visits keep of labels
+module _ {C : Circuit} {k φ : ℕ} where
+  pub kept-same : (ls : List ℤ) → Kept C k φ ls ls
+  kept-same ls = record { inputs = λ u h. refl; near = λ δ N S c l n. n }
+
+  pub kept-then : {ls ls′ ls″ : List ℤ} → Kept C k φ ls ls′ → Kept C k φ ls′ ls″ → Kept C k φ ls ls″
+  kept-then a b = record { inputs = λ u h. b .inputs u h ∙ a .inputs u h; near = λ δ N S c l n. b .near δ N S c l (a .near δ N S c l n) }
+
+  -- **Labels kept near stay a lower bound.**
+  pub kept-bounds : {tops : List ℕ} {ls ls′ : List ℤ} → Kept C k φ ls ls′ → Bounds C k φ tops ls → Bounds C k φ tops ls′
+  kept-bounds {ls = ls} {ls′ = ls′} K b N S =
+      near-bound (λ u i. K .inputs u (let h = S .holds .inputs in omega arith) ∙ b N S .inputs u i) (K .near 0 N (sane-of S) 0 (omega arith) (bound-near (b N S)))
+
+  -- a gate's label replaced
+  kept-set : (ls : List ℤ) (g : ℕ) (h : ℤ) → C .inputs + g < length ls
+      → ((δ : ℕ) (N : Net) → Sane C k N → Keeps plain N k φ δ (labelIn ls) (replace (labelIn ls) (C .inputs + g) h)) → Kept C k φ ls (set ls (C .inputs + g) h)
+  kept-set ls g h r f = record {
+    inputs = λ u i. getD-set-other ls (C .inputs + g) u h (pos 0) (λ e. omega (arith, e, i));
+    near = λ δ N S. subst (λ (m : ℕ → ℤ). Keeps plain N k φ δ (labelIn ls) m) (sym (fun-ext (λ u. label-set ls (C .inputs + g) u h r))) (f δ N S);
+  }
+
+  -- **p is kept near**
+  pub kept-p : (ls : List ℤ) (g : ℕ) (p : ℤ) → g < C .gates → C .inputs + g < length ls → PinMax C ls φ g p → Kept C k φ ls (set ls (C .inputs + g) p)
+  kept-p ls g p l r m = kept-set ls g p r (λ δ N S.
+      keeps-pin k φ (S .sound) δ (labelIn ls) (C .inputs + g) (pinAt (C .sources) (C .counts) (stride * g + m .pin)) (gate-of (S .holds) g l) (is-pin (S .holds) g (m .pin) l (m .isPin)) p (m .attained))
 
   -- **and p + 1 where there is no cut of height p**
-  reaches-more : {N : Net} {ls : List ℤ} {p : ℤ} (S : Suits C k tops N) (g : ℕ) → g < C .gates → PinMax C ls φ g p → LowerBound N k φ (labelIn ls)
-      → ¬ LowCut N k φ (labelIn ls) (C .inputs + g) p → (lab : ℕ → ℤ) → Labelling N k φ lab → (p +ℤ pos 1) ≤ℤ lab (C .inputs + g)
-  reaches-more {N} {ls} {p} S g l m b n lab x = go (Rattle.integers.specs.Order.≤ℤ-total (lab (C .inputs + g)) p)
-    where
-      v : ℕ
-      v = C .inputs + g
+  pub kept-more : (ls : List ℤ) (g q : ℕ) (p : ℤ) → g < C .gates → C .inputs + g < length ls → PinMax C ls φ g p → Decides C ls φ k g p q → k < q
+      → Kept C k φ ls (set ls (C .inputs + g) (p +ℤ pos 1))
+  kept-more ls g q p l r m a few = kept-set ls g (p +ℤ pos 1) r (λ δ N S.
+      keeps-more k φ (S .sound) δ (labelIn ls) (C .inputs + g) (pinAt (C .sources) (C .counts) (stride * g + m .pin)) (gate-of (S .holds) g l) (is-pin (S .holds) g (m .pin) l (m .isPin)) p (m .attained)
+      (a .none N (S .holds) (S .ranked) (S .loopless) plain p (bordered-plain φ p (S .border)) few))
 
-      go : (lab v ≤ℤ p) ⊎ (p <ℤ lab v) → (p +ℤ pos 1) ≤ℤ lab v
-      go (inl h) = absurd (n (subst (LowCut N k φ (labelIn ls) v) (≤ℤ-antisym h (reaches-p {ls = ls} S g l m b lab x))
-          (relabel N k φ (S .sound) plain v (b .inputs) (x .inputs) (b .below lab x) (x .gates v (gate-of (S .holds) g l)))))
-      go (inr h) = omega (arith, ints, +-parts p (pos 1))
-
-  -- a label raised to what every labelling reaches
-  pub bounds-set : (ls : List ℤ) (g : ℕ) (h : ℤ) → g < C .gates → C .inputs + g < length ls → Bounds C k φ tops ls
-      → ((N : Net) → Suits C k tops N → (lab : ℕ → ℤ) → Labelling N k φ lab → h ≤ℤ lab (C .inputs + g)) → Bounds C k φ tops (set ls (C .inputs + g) h)
-  bounds-set ls g h l r b f N S =
-      subst (LowerBound N k φ) (sym (fun-ext (λ u. label-set ls (C .inputs + g) u h r))) (raised N k φ (S .sound) (labelIn ls) (C .inputs + g) h (b N S) (gate-of (S .holds) g l) (f N S))
-
-  pub bounds-p : (ls : List ℤ) (g : ℕ) (p : ℤ) → g < C .gates → C .inputs + g < length ls → PinMax C ls φ g p → Bounds C k φ tops ls → Bounds C k φ tops (set ls (C .inputs + g) p)
-  bounds-p ls g p l r m b = bounds-set ls g p l r b (λ N S. reaches-p S g l m (b N S))
-
-  pub bounds-more : (ls : List ℤ) (g q : ℕ) (p : ℤ) → g < C .gates → C .inputs + g < length ls → PinMax C ls φ g p → Decides C ls φ k g p q → k < q → Bounds C k φ tops ls
-      → Bounds C k φ tops (set ls (C .inputs + g) (p +ℤ pos 1))
-  bounds-more ls g q p l r m a few b =
-      bounds-set ls g (p +ℤ pos 1) l r b (λ N S. reaches-more S g l m (b N S) (a .none N (S .holds) (S .ranked) (S .loopless) plain p (bordered-plain φ p (S .border)) few))
-
+module _ {C : Circuit} {k φ : ℕ} {tops : List ℕ} where
   -- **past its ceiling a gate refutes**
   pub past-top : (ls : List ℤ) (g : ℕ) → g < C .gates → Bounds C k φ tops ls → pos (φ * getD tops g 0) <ℤ labelIn ls (C .inputs + g) → Refuted C k φ tops
   past-top ls g l b h N S =

@@ -15,8 +15,8 @@ use Rattle.signed.specs.Range.{Small, labelIn}
 use Rattle.signed.specs.RangeLaws.{other-zero}
 use Rattle.cut_circuit.specs.Circuit.{Circuit}
 use Rattle.cut_question.specs.Question.{Decides, Parted}
-use Rattle.label_visit.specs.LabelVisits.{PinMax, higher, level, Bounds, Raised, Changed, Fine, left, Visited}
-use Rattle.label_visit.specs.BoundLaws.{bounds-p, bounds-more, past-top}
+use Rattle.label_visit.specs.LabelVisits.{PinMax, higher, level, Kept, Raised, Changed, Fine, left, Visited}
+use Rattle.label_visit.specs.BoundLaws.{kept-same, kept-then, kept-bounds, kept-p, kept-more, past-top}
 use Rattle.label_visit.specs.ReadyLaws.{changed-set, changed-then, two-cases, raised-changed, changed-small}
 
 module _ (C : Circuit) (k φ : ℕ) (tops : List ℕ) (ls : List ℤ) (g : ℕ) (p : ℤ) where
@@ -71,7 +71,7 @@ module _ (C : Circuit) (k φ : ℕ) (tops : List ℕ) (ls : List ℤ) (g : ℕ) 
   visit-higher f m l = record {
     most = omega arith;
     fine = f;
-    bounds = λ b. b;
+    keeps = kept-same ls;
     same = λ e. refl;
     quiet = λ e. higher p m l;
     less = omega arith;
@@ -88,12 +88,12 @@ module _ (C : Circuit) (k φ : ℕ) (tops : List ℕ) (ls : List ℤ) (g : ℕ) 
     visit-past o = record {
       most = omega arith;
       fine = f;
-      bounds = λ b. b;
+      keeps = kept-same ls;
       same = λ e. refl;
       quiet = λ e. absurd (omega (arith, e));
       less = omega arith;
       falls = λ e. absurd (omega (arith, e));
-      refuted = λ e b. past-top (set ls (C .inputs + g) p) g h (bounds-p ls g p h inside m b) (rw ((changed-set ls (C .inputs + g) p inside) .at) o);
+      refuted = λ e b. past-top (set ls (C .inputs + g) p) g h (kept-bounds (kept-p ls g p h inside m) b) (rw ((changed-set ls (C .inputs + g) p inside) .at) o);
     }
 
     module _ (s : Small p) (ls′ : List ℤ) (rose : ℕ) (R : Raised ls ls′ (C .inputs + g) p rose) (q : ℕ) (a : Decides C ls′ φ k g p q) where
@@ -103,12 +103,12 @@ module _ (C : Circuit) (k φ : ℕ) (tops : List ℕ) (ls : List ℤ) (g : ℕ) 
       changed : Changed ls ls′ (C .inputs + g) p
       changed = raised-changed inside R
 
-      bounded : Bounds C k φ tops ls → Bounds C k φ tops ls′
-      bounded b = go cases
+      kept : Kept C k φ ls ls′
+      kept = go cases
         where
-          go : (rose ≡ 0) ⊎ (rose ≡ 1) → Bounds C k φ tops ls′
-          go (inl e) = subst (Bounds C k φ tops) (sym (R .there e .1)) b
-          go (inr e) = subst (Bounds C k φ tops) (sym (R .lower e .1)) (bounds-p ls g p h inside m b)
+          go : (rose ≡ 0) ⊎ (rose ≡ 1) → Kept C k φ ls ls′
+          go (inl e) = subst (Kept C k φ ls) (sym (R .there e .1)) (kept-same ls)
+          go (inr e) = subst (Kept C k φ ls) (sym (R .lower e .1)) (kept-p ls g p h inside m)
 
       no-more : p ≤ℤ pos (φ * getD tops g 0) → left C φ tops ls′ (C .gates) ≤ left C φ tops ls (C .gates)
       no-more u = go cases
@@ -128,7 +128,7 @@ module _ (C : Circuit) (k φ : ℕ) (tops : List ℕ) (ls : List ℤ) (g : ℕ) 
       visit-cut few u = record {
         most = let b = R .bound in omega arith;
         fine = fine-of f s changed;
-        bounds = bounded;
+        keeps = kept;
         same = λ e. R .there e .1;
         quiet = λ e. level p m (R .there e .0) (λ N S. subst (λ (x : List ℤ). Parted N (C .inputs + g) φ (labelIn x) p (C .border) k) (R .there e .1)
             (a .some N (S .holds) (S .ranked) (S .loopless) few));
@@ -144,7 +144,7 @@ module _ (C : Circuit) (k φ : ℕ) (tops : List ℕ) (ls : List ℤ) (g : ℕ) 
           record {
             most = omega arith;
             fine = fine-of f s′ c;
-            bounds = λ b. subst (Bounds C k φ tops) (sym e) (bounds-more ls′ g q p h inside′ max a many (bounded b));
+            keeps = kept-then kept (subst (Kept C k φ ls′) (sym e) (kept-more ls′ g q p h inside′ max a many));
             same = λ i. absurd (omega (arith, i));
             quiet = λ i. absurd (omega (arith, i));
             less = let d = left-falls c (omega (arith, ints, +-parts p (pos 1))) (omega (arith, ints, +-parts p (pos 1))) (C .gates) h in omega arith;
@@ -157,12 +157,12 @@ module _ (C : Circuit) (k φ : ℕ) (tops : List ℕ) (ls : List ℤ) (g : ℕ) 
       visit-over many t u = record {
         most = omega arith;
         fine = fine-of f s changed;
-        bounds = bounded;
+        keeps = kept;
         same = λ i. absurd (omega (arith, i));
         quiet = λ i. absurd (omega (arith, i));
         less = no-more t;
         falls = λ i. absurd (omega (arith, i));
         refuted = λ i b.
-            past-top (set ls′ (C .inputs + g) (p +ℤ pos 1)) g h (bounds-more ls′ g q p h inside′ max a many (bounded b))
+            past-top (set ls′ (C .inputs + g) (p +ℤ pos 1)) g h (kept-bounds (kept-then kept (kept-more ls′ g q p h inside′ max a many)) b)
             (rw ((changed-set ls′ (C .inputs + g) (p +ℤ pos 1) inside′) .at) (omega (arith, ints, +-parts p (pos 1))));
       }

@@ -12,9 +12,10 @@ use Rattle.net_model.specs.Arrays.{stride}
 use Rattle.net_model.specs.Checks.{Sound, Fits, Loopless}
 use Rattle.cone_theory.specs.Ranks.{Ranked}
 use Rattle.cone_theory.specs.Reach.{reachOf}
-use Rattle.label_theory.specs.Labels.{Labelling, OutputsMet}
+use Rattle.label_theory.specs.Labels.{plain, Labelling, OutputsMet}
 use Rattle.label_theory.specs.Pins.{OutPath}
 use Rattle.label_theory.specs.Bounds.{LowerBound}
+use Rattle.label_theory.specs.Near.{Keeps}
 use Rattle.signed.specs.Range.{Small, room, labelIn}
 use Rattle.cut_circuit.specs.Circuit.{Circuit}
 use Rattle.cut_circuit.specs.Packed.{packedOf, sourcesAt, countsAt}
@@ -33,6 +34,14 @@ pub record Suits (C : Circuit) (k : ℕ) (tops : List ℕ) (N : Net) : Type 0 wh
   pub fits : Fits N k
   pub border : k * reachOf N ≤ C .border
   pub path : (g : ℕ) → g < C .gates → (1 ≤ getD tops g 0) × OutPath N (C .inputs + g) (getD tops g 0 - 1)
+
+-- The same without ceilings and numbers of pins: all that a visit's new label needs.
+pub record Sane (C : Circuit) (k : ℕ) (N : Net) : Type 0 where
+  pub holds : Holds C N
+  pub ranked : Ranked N
+  pub loopless : Loopless N
+  pub sound : Sound N
+  pub border : k * reachOf N ≤ C .border
 
 -- label(u) − φ·w for pin j of gate g
 abbrev pub pinHeight : Circuit → List ℤ → ℕ → ℕ → ℕ → ℤ
@@ -54,6 +63,11 @@ pub data Quiet (C : Circuit) (k φ : ℕ) (tops : List ℕ) (ls : List ℤ) (g :
 -- a lower bound for every net that suits
 abbrev pub Bounds : Circuit → ℕ → ℕ → List ℕ → List ℤ → Type 0
 Bounds C k φ tops ls = (N : Net) → Suits C k tops N → LowerBound N k φ (labelIn ls)
+
+-- The labels of inputs stay, and labels near all labellings stay near. No ceiling occurs here.
+pub record Kept (C : Circuit) (k φ : ℕ) (ls ls′ : List ℤ) : Type 0 where
+  pub inputs : (u : ℕ) → u < C .inputs → labelIn ls′ u ≡ labelIn ls u
+  pub near : (δ : ℕ) (N : Net) → Sane C k N → Keeps plain N k φ δ (labelIn ls) (labelIn ls′)
 
 -- no labelling meets the outputs of a net that suits
 abbrev pub Refuted : Circuit → ℕ → ℕ → List ℕ → Type 0
@@ -111,7 +125,7 @@ left C φ tops ls (suc n) = up (pos (φ * getD tops n 0) -ℤ labelIn ls (C .inp
 pub record Visited (C : Circuit) (k φ : ℕ) (tops : List ℕ) (ls ls′ : List ℤ) (g r : ℕ) : Type 0 where
   pub most : r ≤ 2
   pub fine : Fine C ls′
-  pub bounds : Bounds C k φ tops ls → Bounds C k φ tops ls′
+  pub keeps : Kept C k φ ls ls′
   pub same : r ≡ 0 → ls′ ≡ ls
   pub quiet : r ≡ 0 → Quiet C k φ tops ls g
   pub less : left C φ tops ls′ (C .gates) ≤ left C φ tops ls (C .gates)

@@ -191,13 +191,16 @@ pub fn ring(ring: Ring) -> Net {
         own.extend((1..ring.pins).map(|j| ((i + j) % ring.inputs, ring.entry)));
         pins.push(own);
     }
-    for i in ring.round..ring.gates {
-        let source = if i == ring.round {
-            first
-        } else {
-            first + i - 1
-        };
-        pins.push(vec![(source, ring.far)]);
+    with_line(ring.inputs, pins, 0, ring.gates, ring.far)
+}
+
+/// Gates given by their pins, then a line of gates up to so many in all, from one of the first
+/// gates to the output, with so many registers on each pin.
+fn with_line(inputs: usize, mut pins: Vec<Vec<Read>>, from: usize, gates: usize, far: u32) -> Net {
+    let mut end = inputs + from;
+    for i in pins.len()..gates {
+        pins.push(vec![(end, far)]);
+        end = inputs + i;
     }
     // Parity needs every pin.
     let table =
@@ -206,15 +209,103 @@ pub fn ring(ring: Ring) -> Net {
         .iter()
         .map(|own| (&own[..], table(own.len())))
         .collect();
-    let end = if ring.gates == ring.round {
-        first
-    } else {
-        first + ring.gates - 1
-    };
-    net(ring.inputs, &gates, &[(end, 0)])
+    net(inputs, &gates, &[(end, 0)])
 }
 
-/// The names of the slow families.
+/// A slow climb: a ring with registers on the pins of every second to fourth gate, each gate
+/// reading inputs too, numbered along the signal or against it; the output is far.
+fn climb(random: &mut Random, gates: usize, pins: usize, against: bool) -> Net {
+    let round = random.within(1, gates);
+    let step = random.within(2, 4);
+    let inputs = random.within(1, 16);
+    let each = random.within(1, 3) as u32;
+    let entry = random.below(4) as u32;
+    let place = |i: usize| if against { round - 1 - i } else { i };
+    let mut all = vec![Vec::new(); round];
+    for i in 0..round {
+        let count = if i % step == 0 { each } else { 0 };
+        let mut own = vec![(inputs + place((i + round - 1) % round), count)];
+        own.extend((1..pins).map(|j| ((i + j) % inputs, entry)));
+        all[place(i)] = own;
+    }
+    with_line(inputs, all, place(round - 1), gates, 3)
+}
+
+/// A deep one: a ring with one input, whose gates read others of the ring through registers.
+fn deep_climb(random: &mut Random, gates: usize, pins: usize) -> Net {
+    let round = random.within(1, gates);
+    let step = random.within(1, 6);
+    let most = random.within(1, 3) as u32;
+    let hub = random.chance(50);
+    let mut all = Vec::new();
+    for i in 0..round {
+        let mut own = match i {
+            0 => vec![(round, most), (0, random.below(4) as u32)],
+            _ => vec![(i, u32::from(step > 1 && i % step == 0))],
+        };
+        while own.len() < pins {
+            let source = if hub { i / 2 } else { random.below(round) };
+            own.push((1 + source, if random.chance(33) { 3 } else { most }));
+        }
+        all.push(own);
+    }
+    with_line(1, all, round - 1, gates, 3)
+}
+
+/// Two rings that read each other through registers; the output is far from the second.
+fn coupled_rings(random: &mut Random, gates: usize, pins: usize) -> Net {
+    let first = random.within(1, gates.div_ceil(2));
+    let second = random.within(1, gates.div_ceil(2)).min(gates - first);
+    if second == 0 {
+        return climb(random, gates, pins, false);
+    }
+    let inputs = random.within(1, 16);
+    let mut all = Vec::new();
+    for (start, round, other) in [(0, first, first + second / 2), (first, second, first / 3)] {
+        let (close, between) = (random.within(1, 3) as u32, random.within(1, 3) as u32);
+        for i in 0..round {
+            let mut own = match i {
+                0 => vec![(inputs + start + round - 1, close)],
+                _ => vec![(inputs + start + i - 1, 0)],
+            };
+            own.extend((1..pins).map(|j| ((i + j) % inputs, 0)));
+            if i == round / 2 {
+                own[1] = (inputs + other, between);
+            }
+            all.push(own);
+        }
+    }
+    // Two gates of two pins would read no input.
+    if pins == 2 && first + second == 2 {
+        all[0][0] = (0, 0);
+    }
+    with_line(inputs, all, first + second - 1, gates, 3)
+}
+
+/// Many loops in a row, each of up to four gates, the first gate of each reading the loop before.
+fn loops_in_a_row(random: &mut Random, gates: usize, pins: usize) -> Net {
+    let round = random.within(1, 4.min(gates));
+    let close = random.within(1, 3) as u32;
+    let between = random.below(4) as u32;
+    let inputs = random.within(1, 16);
+    let total = gates / round * round;
+    let against = random.chance(50);
+    let place = |g: usize| inputs + if against { total - 1 - g } else { g };
+    let mut all = vec![Vec::new(); total];
+    for g in 0..total {
+        let mut own = match g % round {
+            0 => vec![(place(g + round - 1), close)],
+            _ => vec![(place(g - 1), 0)],
+        };
+        own.extend((1..pins).map(|j| ((g + j) % inputs, 0)));
+        if g % round == 0 && g > 0 {
+            own[1] = (place(g - 1), between);
+        }
+        all[place(g) - inputs] = own;
+    }
+    with_line(inputs, all, place(total - 1) - inputs, gates, 0)
+}
+
 /// The nets of real designs in `real-nets.txt`, as records.
 pub fn real() -> Vec<Vec<u8>> {
     let lines = include_str!("../real-nets.txt").lines();
@@ -228,7 +319,18 @@ pub fn real() -> Vec<Vec<u8>> {
         .collect()
 }
 
-pub const FAMILIES: [&str; 4] = ["ring", "far output", "registers", "tangle"];
+/// The names of the slow families.
+pub const FAMILIES: [&str; 9] = [
+    "ring",
+    "far output",
+    "registers",
+    "tangle",
+    "climb along",
+    "climb against",
+    "deep climb",
+    "coupled rings",
+    "loops in a row",
+];
 
 /// A net of a family with so many gates and at most so many pins a gate.
 pub fn of_family(family: usize, random: &mut Random, gates: usize, pins: usize) -> Net {
@@ -270,7 +372,7 @@ pub fn of_family(family: usize, random: &mut Random, gates: usize, pins: usize) 
             },
         ),
         // Few registers, many loops, one input.
-        _ => {
+        3 => {
             let shape = Shape {
                 inputs: (1, 1),
                 gates: (gates, gates),
@@ -284,6 +386,11 @@ pub fn of_family(family: usize, random: &mut Random, gates: usize, pins: usize) 
             };
             random_net(random, &shape)
         }
+        4 => climb(random, gates, own, false),
+        5 => climb(random, gates, own, true),
+        6 => deep_climb(random, gates, own),
+        7 => coupled_rings(random, gates, own),
+        _ => loops_in_a_row(random, gates, own),
     }
 }
 

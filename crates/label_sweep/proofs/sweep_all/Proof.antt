@@ -9,82 +9,71 @@ use Rattle.cut_circuit.specs.Packed.{packedOf}
 use Rattle.cut_question.specs.Separating.{AtRest}
 use Rattle.label_visit.specs.LabelVisits.{wiring, left}
 use Rattle.label_visit.specs.ReadyLaws.{ready-fine, ready-after}
-use Rattle.label_sweep.specs.Sweeps.{QuietFrom, Settling}
-use Rattle.label_sweep.specs.Sweeping.{settling-first, settling-next, quiet-none, next-stop, swept-falls, fallen}
+use Rattle.label_pass.specs.Passes.{QuietFrom}
+use Rattle.label_pass.specs.PassLaws.{quiet-none}
+use Rattle.label_sweep.specs.Sweeps.{Settling}
+use Rattle.label_sweep.specs.Sweeping.{settling-first, settling-next, next-stop, swept-falls, fallen}
 use Rattle.label_sweep.proofs.sweep_all.Statement.{statement}
 use Rattle.label_sweep.proofs.sweep_all.Tie as tie
 
 abbrev Inv-loop : tie.InvT-loop
-Inv-loop s net slots₀ table₀ list₀ stack₀ counts₀ members₀ labels₀ tops order phi k stop₀ r₀ slots table list stack counts members labels stop r =
+Inv-loop s net slots₀ table₀ list₀ stack₀ counts₀ members₀ labels₀ tops order phi k stop₀ w₀ r₀ slots table list stack counts members labels stop w r =
     AtRest (packedOf s net slots) table list stack counts members × Settling (wiring s net) k phi tops labels₀ labels r
     × (r ≡ 1 → (stop ≤ s .gates) × QuietFrom (wiring s net) k phi tops order labels stop)
-    × (length slots ≡ length slots₀) × (length table ≡ length table₀) × (length list ≡ length list₀) × (length stack ≡ length stack₀) × (length counts ≡ length counts₀) ×
-    (length members ≡ length members₀) × (length labels ≡ length labels₀)
+    × (length slots ≡ length slots₀) × (length table ≡ length table₀) × (length list ≡ length list₀) × (length stack ≡ length stack₀) × (length counts ≡ length counts₀) × (length members ≡ length members₀) × (length labels ≡ length labels₀)
 
 abbrev μ-loop : tie.MeasureT-loop
-μ-loop s net slots₀ table₀ list₀ stack₀ counts₀ members₀ labels₀ tops order phi k stop₀ r₀ slots table list stack counts members labels stop r = left (wiring s net) phi tops labels
-    (s .gates) + r % 2
+μ-loop s net slots₀ table₀ list₀ stack₀ counts₀ members₀ labels₀ tops order phi k stop₀ w₀ r₀ slots table list stack counts members labels stop w r = left (wiring s net) phi tops labels (s .gates) + r % 2
 
 loop-holds : tie.Need-loop-holds Inv-loop μ-loop
-loop-holds c =
-    let start = c .before .before .before .before .before .before .before .before .before in (
-      start .pre .0,
-      settling-first (ready-fine (start .pre .1 .0)),
-      (λ e. (
-        omega arith,
-        quiet-none (wiring (start .args .s) (now (start .args .net))) (start .args .k) (start .args .phi) (now (start .args .tops)) (now (start .args .order)) (now (start .args .labels)),
-      )),
-      refl,
-      refl,
-      refl,
-      refl,
-      refl,
-      refl,
-      refl,
-    )
+loop-holds c = (
+  c .before .before .before .before .before .before .before .before .before .pre .0,
+  settling-first (ready-fine (c .before .before .before .before .before .before .before .before .before .pre .1 .0)),
+  (λ e. (
+    omega arith,
+    quiet-none (wiring (c .before .before .before .before .before .before .before .before .before .args .s) (now (c .before .before .before .before .before .before .before .before .before .args .net))) (c .before .before .before .before .before .before .before .before .before .args .k) (c .before .before .before .before .before .before .before .before .before .args .phi) (now (c .before .before .before .before .before .before .before .before .before .args .tops)) (now (c .before .before .before .before .before .before .before .before .before .args .order)) (now (c .before .before .before .before .before .before .before .before .before .args .labels)),
+  )),
+  refl,
+  refl,
+  refl,
+  refl,
+  refl,
+  refl,
+  refl,
+)
 
-sweep-requires : tie.Need-sweep-requires Inv-loop μ-loop
-sweep-requires c κs =
-    let loop = c .before .before .before .before .before .before .before .before .loop in
-    let start = c .before .before .before .before .before .before .before .before .before .before .before .before .before .before .before .before .before .before in (
-      loop .inv .0,
-      (
-        (ready-after (start .pre .1 .0) (loop .inv .1 .fine), start .pre .1 .1, start .pre .1 .2),
-        loop .inv .2 (c .before .before .before .before .before .before
-            .before .loop-test .taken),
-      ),
-    )
+round-requires : tie.Need-round-requires Inv-loop μ-loop
+round-requires c κs = (
+  c .before .before .before .before .before .before .before .before .loop .inv .0,
+  (
+    (ready-after (c .before .before .before .before .before .before .before .before .before .before .before .before .before .before .before .before .before .before .pre .1 .0) (c .before .before .before .before .before .before .before .before .loop .inv .1 .fine), c .before .before .before .before .before .before .before .before .before .before .before .before .before .before .before .before .before .before .pre .1 .1, c .before .before .before .before .before .before .before .before .before .before .before .before .before .before .before .before .before .before .pre .1 .2),
+    c .before .before .before .before .before .before .before .before .loop .inv .2 (c .before .before .before .before .before .before .before .loop-test .taken),
+  ),
+)
 
 outcome-requires : tie.Need-outcome-requires Inv-loop μ-loop
 outcome-requires c κs = search needs
 
+next-width-requires : tie.Need-next-width-requires Inv-loop μ-loop
+next-width-requires c κs = search needs
+
 loop-less : tie.Need-loop-less Inv-loop μ-loop
 loop-less c =
-    let sweep = c .before .before .before .before .before .before .before .before .before .before .before .before .before .before .sweep in
-    let outcome = c .outcome in
-    fallen (outcome .result) (outcome .ensures .most) (c .before .before .before .before .before .before .before .before .before .before .before .before .before .before .before
-    .before .before .before .before .before .before .before .before .loop .r) (c .before .before .before .before .before .before .before .before .before .before .before
-    .before .before .before .before .before .before .before .before .before .before .before .loop-test .taken) (sweep .ensures .1 .less) (swept-falls (sweep .ensures .1)
-    (outcome .ensures))
+    fallen (c .before .outcome .result) (c .before .outcome .ensures .most) (c .before .before .before .before .before .before .before .before .before .before .before .before .before .before .before .before .before .before .before .before .before .before .before .before .loop .r) (c .before .before .before .before .before .before .before .before .before .before .before .before .before .before .before .before .before .before .before .before .before .before .before .loop-test .taken) (c .before .before .before .before .before .before .before .before .before .before .before .before .before .before .before .round .ensures .1 .less) (swept-falls (c .before .before .before .before .before .before .before .before .before .before .before .before .before .before .before .round .ensures .1) (c .before .outcome .ensures))
 
 loop-again : tie.Need-loop-again Inv-loop μ-loop
-loop-again c =
-    let sweep = c .before .before .before .before .before .before .before .before .before .before .before .before .before .before .sweep in
-    let outcome = c .outcome in
-    let loop = c .before .before .before .before .before .before .before .before .before .before .before .before .before .before .before .before .before .before .before .before
-    .before .before .before .loop in (
-      sweep .ensures .0,
-      settling-next (c .before .before .before .before .before .before .before .before .before .before .before .before .before .before .before .before .before .before .before
-          .before .before .before .before .before .before .before .before .before .before .before .before .before .before .pre .1 .1) (loop .inv .1) (sweep .ensures .1) (outcome .ensures),
-      next-stop (sweep .ensures .1) (outcome .ensures),
-      sweep .kept .1 .1 .0 ∙ loop .inv .3,
-      sweep .kept .1 .1 .1 .0 ∙ loop .inv .4,
-      sweep .kept .1 .1 .1 .1 .0 ∙ loop .inv .5,
-      sweep .kept .1 .1 .1 .1 .1 .0 ∙ loop .inv .6,
-      sweep .kept .1 .1 .1 .1 .1 .1 .0 ∙ loop .inv .7,
-      sweep .kept .1 .1 .1 .1 .1 .1 .1 .0 ∙ loop .inv .8,
-      sweep .kept .1 .1 .1 .1 .1 .1 .1 .1 .0 ∙ loop .inv .9,
-    )
+loop-again c = (
+  c .before .before .before .before .before .before .before .before .before .before .before .before .before .before .before .round .ensures .0,
+  settling-next (c .before .before .before .before .before .before .before .before .before .before .before .before .before .before .before .before .before .before .before .before .before .before .before .before .before .before .before .before .before .before .before .before .before .before .pre .1 .1) (c .before .before .before .before .before .before .before .before .before .before .before .before .before .before .before .before .before .before .before .before .before .before .before .before .loop .inv .1) (c .before .before .before .before .before .before .before .before .before .before .before .before .before .before .before .round .ensures .1) (c .before .outcome .ensures),
+  next-stop (c .before .before .before .before .before .before .before .before .before .before .before .before .before .before .before .round .ensures .1) (c .before .outcome .ensures),
+  c .before .before .before .before .before .before .before .before .before .before .before .before .before .before .before .round .kept .1 .1 .0 ∙ c .before .before .before .before .before .before .before .before .before .before .before .before .before .before .before .before .before .before .before .before .before .before .before .before .loop .inv .3,
+  c .before .before .before .before .before .before .before .before .before .before .before .before .before .before .before .round .kept .1 .1 .1 .0 ∙ c .before .before .before .before .before .before .before .before .before .before .before .before .before .before .before .before .before .before .before .before .before .before .before .before .loop .inv .4,
+  c .before .before .before .before .before .before .before .before .before .before .before .before .before .before .before .round .kept .1 .1 .1 .1 .0 ∙ c .before .before .before .before .before .before .before .before .before .before .before .before .before .before .before .before .before .before .before .before .before .before .before .before .loop .inv .5,
+  c .before .before .before .before .before .before .before .before .before .before .before .before .before .before .before .round .kept .1 .1 .1 .1 .1 .0 ∙ c .before .before .before .before .before .before .before .before .before .before .before .before .before .before .before .before .before .before .before .before .before .before .before .before .loop .inv .6,
+  c .before .before .before .before .before .before .before .before .before .before .before .before .before .before .before .round .kept .1 .1 .1 .1 .1 .1 .0 ∙ c .before .before .before .before .before .before .before .before .before .before .before .before .before .before .before .before .before .before .before .before .before .before .before .before .loop .inv .7,
+  c .before .before .before .before .before .before .before .before .before .before .before .before .before .before .before .round .kept .1 .1 .1 .1 .1 .1 .1 .0 ∙ c .before .before .before .before .before .before .before .before .before .before .before .before .before .before .before .before .before .before .before .before .before .before .before .before .loop .inv .8,
+  c .before .before .before .before .before .before .before .before .before .before .before .before .before .before .before .round .kept .1 .1 .1 .1 .1 .1 .1 .1 .0 ∙ c .before .before .before .before .before .before .before .before .before .before .before .before .before .before .before .before .before .before .before .before .before .before .before .before .loop .inv .9,
+)
 
 same-length : tie.Need-same-length Inv-loop μ-loop
 same-length c = c .before .loop .inv .3
@@ -117,8 +106,9 @@ sweep-all-spec =
     Inv-loop
     μ-loop
     loop-holds
-    sweep-requires
+    round-requires
     outcome-requires
+    next-width-requires
     loop-less
     loop-again
     same-length

@@ -227,13 +227,13 @@ fn random_cases(random: &mut Random, nets: usize) -> Vec<Case> {
     cases
 }
 
-/// The slowest call of a family at 32 gates, over k, the least period and the targets near it.
-fn slow_family(areas: &mut Areas, random: &mut Random, family: usize, nets: usize) {
+/// The slowest call of a family at so many gates, over k, the least period and the targets near it.
+fn slow_family(areas: &mut Areas, random: &mut Random, family: usize, gates: usize, nets: usize) {
     let mut times = Times::default();
     let mut slowest = (0, 0, Vec::new());
     for _ in 0..nets {
         let pins = random.within(2, 6);
-        let net = encode(&of_family(family, random, 32, pins));
+        let net = encode(&of_family(family, random, gates, pins));
         for k in pins as u32..=6 {
             let (answer, time) = areas.map(&net, k, 0);
             let least = match answer {
@@ -256,11 +256,13 @@ fn slow_family(areas: &mut Areas, random: &mut Random, family: usize, nets: usiz
     }
     let (k, target, net) = slowest;
     println!(
-        "{:12} {} at k {k}, target {target}",
+        "{:14} {gates:5} {} at k {k}, target {target}",
         FAMILIES[family],
         times.text()
     );
-    println!("             net {}", hex(&net));
+    if gates == 32 {
+        println!("               net {}", hex(&net));
+    }
 }
 
 fn hex(bytes: &[u8]) -> String {
@@ -427,10 +429,12 @@ fn run(nets: usize, seed: u64) {
         &own.into_iter().flat_map(cases).collect::<Vec<_>>(),
     )
     .print();
-    println!("slow families, 32 gates, map alone");
-    println!("             {COLUMNS}");
+    println!("slow families, map alone");
+    println!("               gates {COLUMNS}");
     for family in 0..FAMILIES.len() {
-        slow_family(&mut areas, &mut random, family, nets / 10);
+        for gates in [8, 16, 24, 32] {
+            slow_family(&mut areas, &mut random, family, gates, nets / 10);
+        }
     }
     println!();
     growth(&mut areas, &mut random, nets / 10);

@@ -1,4 +1,4 @@
--- `label_sweep::sweep` meets its contract. The loop's invariant: the sweep so far.
+-- `label_pass::sweep` meets its contract. The loop's invariant: the sweep so far.
 use borrow.Author.Needs.{needs}
 use mathlib.Core.Path.{_≡_, refl, _∙_}
 use Prim.Native.Nat.{_-_}
@@ -8,10 +8,10 @@ use Rattle.cut_circuit.specs.Packed.{packedOf}
 use Rattle.cut_question.specs.Separating.{AtRest}
 use Rattle.label_visit.specs.LabelVisits.{wiring}
 use Rattle.label_visit.specs.ReadyLaws.{ready-fine, ready-after}
-use Rattle.label_sweep.specs.Sweeps.{Sweep}
-use Rattle.label_sweep.specs.Sweeping.{sweep-none, sweep-next, swept-end, swept-past}
-use Rattle.label_sweep.proofs.sweep.Statement.{statement}
-use Rattle.label_sweep.proofs.sweep.Tie as tie
+use Rattle.label_pass.specs.Passes.{Sweep}
+use Rattle.label_pass.specs.PassLaws.{sweep-none, sweep-next, swept-end, swept-past}
+use Rattle.label_pass.proofs.sweep.Statement.{statement}
+use Rattle.label_pass.proofs.sweep.Tie as tie
 
 abbrev Inv-loop : tie.InvT-loop
 Inv-loop s net slots₀ table₀ list₀ stack₀ counts₀ members₀ labels₀ tops order phi k stop last₀ end₀ i₀ slots table list stack counts members labels last end i =
