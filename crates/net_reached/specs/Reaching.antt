@@ -37,17 +37,17 @@ pub record Reaching (I G : ℕ) (ps sources counts m ranks : List ℕ) : Type 0 
 abbrev pub Shut : ℕ → List ℕ → List ℕ → List ℕ → ℕ → Type 0
 Shut I ps sources m g = ¬ Marked m g → (j : ℕ) → j < getD ps g 0 → ¬ KnownPin I m sources g j
 
--- the outcome of one gate: r is 1 if it is newly marked
-pub record ReachGate (I G : ℕ) (ps sources counts m m′ ranks′ : List ℕ) (g r : ℕ) : Type 0 where
+-- the outcome of one gate, of which ranks below the level are looked at: r is 1 if it is newly marked
+pub record ReachGate (I G : ℕ) (ps sources counts m m′ ranks′ : List ℕ) (g level r : ℕ) : Type 0 where
   pub grown : Grown m m′ r
   pub reaching : Reaching I G ps sources counts m′ ranks′
-  pub shut : r ≡ 0 → Shut I ps sources m′ g
+  pub shut : r ≡ 0 → G ≤ level → Shut I ps sources m′ g
 
 -- of all gates below n
-pub record ReachSweep (I G : ℕ) (ps sources counts m m′ ranks′ : List ℕ) (n r : ℕ) : Type 0 where
+pub record ReachSweep (I G : ℕ) (ps sources counts m m′ ranks′ : List ℕ) (n level r : ℕ) : Type 0 where
   pub grown : Grown m m′ r
   pub reaching : Reaching I G ps sources counts m′ ranks′
-  pub shut : r ≡ 0 → (g : ℕ) → g < n → Shut I ps sources m′ g
+  pub shut : r ≡ 0 → G ≤ level → (g : ℕ) → g < n → Shut I ps sources m′ g
 
 -- what the whole check leaves and says: the marks reach as they should, and r tells whether every gate is reached, for any net with this wiring
 pub record ReachCheck (I G : ℕ) (ps sources counts m ranks : List ℕ) (r : Bool) : Type 0 where

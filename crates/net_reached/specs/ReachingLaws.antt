@@ -1,6 +1,6 @@
 -- Laws of check 10: marked gates are reached, and where nothing is newly marked the others are not.
 use mathlib.Core.Path.{_≡_, sym, ap, _∙_, subst}
-use mathlib.Core.Bool.{Bool}
+use mathlib.Core.Bool.{Bool, true, false, true≢false, false≢true}
 use mathlib.Core.List.{List}
 use mathlib.Core.Logic.{inl, inr}
 use Prim.Native.Nat.{ℕ, _+_, _-_, _*_, _≤_, _<_}
@@ -25,6 +25,29 @@ use Rattle.net_reached.specs.Reaching.{KnownPin, Falls, Behind, Reaching
 place : (I u g : ℕ) → u ≡ I + g → g ≡ u - I
 place I u g e = omega arith
 
+pub falls-known : (I : ℕ) (m ranks : List ℕ) (u level : ℕ) → Falls I m ranks u level → Known I m u
+falls-known I m ranks u level (inl i) = inl i
+falls-known I m ranks u level (inr (h, e, k, q)) = inr (h, e, k)
+
+-- ---- whether a node is an input, or a marked gate with a rank below a level
+pub near-input : (I : ℕ) (m ranks : List ℕ) (u level : ℕ) → u < I → Tells true (Falls I m ranks u level)
+near-input I m ranks u level i = record { holds = λ e. inl i; fails = λ e. absurd (true≢false e) }
+
+pub near-unmarked : (I : ℕ) (m ranks : List ℕ) (u level : ℕ) → I ≤ u → getD m (u - I) 0 ≡ 0 → Tells false (Falls I m ranks u level)
+near-unmarked I m ranks u level h z = record { holds = λ e. absurd (false≢true e); fails = λ e. none }
+  where
+    none : ¬ Falls I m ranks u level
+    none (inl i) = omega arith
+    none (inr (g, e, k, q)) = k (ap (λ (n : ℕ). getD m n 0) (place I u g e) ∙ z)
+
+pub near-gate : (I : ℕ) (m ranks : List ℕ) (u level : ℕ) (b : Bool) → I ≤ u → ¬ (getD m (u - I) 0 ≡ 0) → (b ≡ true → getD ranks (u - I) 0 < level) → (b ≡ false → level ≤ getD ranks (u - I) 0)
+    → Tells b (Falls I m ranks u level)
+near-gate I m ranks u level b h k yes-below no-below = record { holds = λ e. inr (u - I, omega arith, k, yes-below e); fails = λ e. none (no-below e) }
+  where
+    none : level ≤ getD ranks (u - I) 0 → ¬ Falls I m ranks u level
+    none l (inl i) = omega arith
+    none l (inr (g, e, k, q)) = let y : getD ranks g 0 ≡ getD ranks (u - I) 0 = ap (λ (n : ℕ). getD ranks n 0) (place I u g e) in omega arith
+
 module _ {I G : ℕ} {ps sources counts : List ℕ} where
   known-reached : {m ranks : List ℕ} → Reaching I G ps sources counts m ranks → (N : Net) → Wired N I G ps sources counts → (u : ℕ) → u < I + G → Known I m u → Reached N u
   known-reached r N w u h (inl i) = Reached.input {v = u} (let a = w .inputs in omega arith)
@@ -41,15 +64,22 @@ module _ {I G : ℕ} {ps sources counts : List ℕ} where
       let q : getD ranks g 0 ≡ getD ranks (u - I) 0 = ap (λ (n : ℕ). getD ranks n 0) (place I u g e) in
       omega arith
 
-  pub reach-marked : {m ranks : List ℕ} (g : ℕ) → Reaching I G ps sources counts m ranks → Marked m g → ReachGate I G ps sources counts m m ranks g 0
-  reach-marked {m} g r k = record { grown = grown-none m; reaching = r; shut = λ e n. absurd (n k) }
+  -- known nodes have ranks below a level that is the number of gates or more
+  known-falls : {m ranks : List ℕ} {u level : ℕ} → Reaching I G ps sources counts m ranks → G ≤ level → Known I m u → Falls I m ranks u level
+  known-falls r l (inl i) = inl i
+  known-falls r l (inr (h, e, k)) = inr (h, e, k, (let b = r .bound h k in omega arith))
 
-  pub reach-none : {m ranks : List ℕ} (g n : ℕ) → Reaching I G ps sources counts m ranks → getD ps g 0 ≤ n → First (KnownPin I m sources g) (getD ps g 0) n → ReachGate I G ps sources counts m m ranks g 0
-  reach-none {m} g n r h f = record { grown = grown-none m; reaching = r; shut = λ e k j l. first-all f h j l }
+  pub reach-marked : {m ranks : List ℕ} (g level : ℕ) → Reaching I G ps sources counts m ranks → Marked m g → ReachGate I G ps sources counts m m ranks g level 0
+  reach-marked {m} g level r k = record { grown = grown-none m; reaching = r; shut = λ e q n. absurd (n k) }
 
-  pub reach-one : {m ranks : List ℕ} (g j x : ℕ) → Wires I G ps sources counts → g < G → Reaching I G ps sources counts m ranks → getD m g 0 ≡ 0 → j < getD ps g 0
-      → First (KnownPin I m sources g) (getD ps g 0) j → Behind I ranks (getD sources (stride * g + j) 0) x → ReachGate I G ps sources counts m (set m g (j + 1)) (set ranks g x) g 1
-  reach-one {m} {ranks} g j x ws h r z l f b = record {
+  pub reach-none : {m ranks : List ℕ} (g n level : ℕ) → Reaching I G ps sources counts m ranks → getD ps g 0 ≤ n → First (λ j. Falls I m ranks (getD sources (stride * g + j) 0) level) (getD ps g 0) n
+      → ReachGate I G ps sources counts m m ranks g level 0
+  reach-none {m} g n level r h f = record { grown = grown-none m; reaching = r; shut = λ e q k j l kn. first-all f h j l (known-falls r q kn) }
+
+  pub reach-one : {m ranks : List ℕ} (g j x level : ℕ) → Wires I G ps sources counts → g < G → Reaching I G ps sources counts m ranks → getD m g 0 ≡ 0 → j < getD ps g 0
+      → First (λ j. Falls I m ranks (getD sources (stride * g + j) 0) level) (getD ps g 0) j → Behind I ranks (getD sources (stride * g + j) 0) x
+      → ReachGate I G ps sources counts m (set m g (j + 1)) (set ranks g x) g level 1
+  reach-one {m} {ranks} g j x level ws h r z l f b = record {
     grown = one;
     reaching = record {
       size = one .size ∙ r .size;
@@ -62,6 +92,9 @@ module _ {I G : ℕ} {ps sources counts : List ℕ} where
     shut = λ e. absurd (bad e);
   }
     where
+      known : KnownPin I m sources g j
+      known = falls-known I m ranks (getD sources (stride * g + j) 0) level (f .found l)
+
       inside : g < length m
       inside = let a = r .size in omega arith
 
@@ -110,7 +143,7 @@ module _ {I G : ℕ} {ps sources counts : List ℕ} where
           omega arith
 
       bound : (i : ℕ) → Marked (set m g (j + 1)) i → Dec (i ≡ g) → getD (set ranks g x) i 0 + unmarked (set m g (j + 1)) < G
-      bound i q (yes e) = rw e (let a = rank-at in let c = first-bound (f .found l) b in omega arith)
+      bound i q (yes e) = rw e (let a = rank-at in let c = first-bound known b in omega arith)
       bound i q (no n) =
           let o = getD-set-other m g i (j + 1) 0 n in
           let w = getD-set-other ranks g i x 0 n in
@@ -121,7 +154,7 @@ module _ {I G : ℕ} {ps sources counts : List ℕ} where
       falls : (i : ℕ) → i < G → Marked (set m g (j + 1)) i → Dec (i ≡ g) → Falls I (set m g (j + 1)) (set ranks g x) (getD sources (stride * i + (getD (set m g (j + 1)) i 0 - 1)) 0) (getD (set ranks g x) i 0)
       falls i k q (yes e) =
           rw (e, rank-at) (subst (λ (y : ℕ). Falls I (set m g (j + 1)) (set ranks g x) (getD sources (stride * g + y) 0) x) (before at)
-          (falls-on (getD sources (stride * g + j) 0) x (source-falls (f .found l) b)))
+          (falls-on (getD sources (stride * g + j) 0) x (source-falls known b)))
         where
           before : {y : ℕ} → y ≡ j + 1 → j ≡ y - 1
           before e = omega arith
@@ -137,32 +170,32 @@ module _ {I G : ℕ} {ps sources counts : List ℕ} where
       reached : (N : Net) → Wired N I G ps sources counts → (i : ℕ) → i < G → Marked (set m g (j + 1)) i → Dec (i ≡ g) → Reached N (I + i)
       reached N w i k q (yes e) =
           rw e (Reached.along (pinAt sources counts (stride * g + j)) (wired-gate w g h) (wired-pin w g j h l)
-          (known-reached r N w (getD sources (stride * g + j) 0) (ws .node g j h l) (f .found l)))
+          (known-reached r N w (getD sources (stride * g + j) 0) (ws .node g j h l) known))
       reached N w i k q (no n) = let o = getD-set-other m g i (j + 1) 0 n in r .reached N w i k (λ x. q (o ∙ x))
 
-  pub sweep-none : {m ranks : List ℕ} → Reaching I G ps sources counts m ranks → ReachSweep I G ps sources counts m m ranks 0 0
-  sweep-none {m} r = record { grown = grown-none m; reaching = r; shut = λ e g h. absurd (none h) }
+  pub sweep-none : {m ranks : List ℕ} {level : ℕ} → Reaching I G ps sources counts m ranks → ReachSweep I G ps sources counts m m ranks 0 level 0
+  sweep-none {m} r = record { grown = grown-none m; reaching = r; shut = λ e q g h. absurd (none h) }
     where
       none : {g : ℕ} → g < 0 → ⊥
       none h = omega arith
 
-  pub sweep-next : {m m′ m″ ranks′ ranks″ : List ℕ} {n r s : ℕ} → ReachSweep I G ps sources counts m m′ ranks′ n r → ReachGate I G ps sources counts m′ m″ ranks″ n s
-      → ReachSweep I G ps sources counts m m″ ranks″ (n + 1) (r + s)
-  sweep-next {m} {m′} {m″} {n = n} {r = r} {s = s} a b = record {
+  pub sweep-next : {m m′ m″ ranks′ ranks″ : List ℕ} {n level r s : ℕ} → ReachSweep I G ps sources counts m m′ ranks′ n level r → ReachGate I G ps sources counts m′ m″ ranks″ n level s
+      → ReachSweep I G ps sources counts m m″ ranks″ (n + 1) level (r + s)
+  sweep-next {m} {m′} {m″} {n = n} {level = level} {r = r} {s = s} a b = record {
     grown = grown-trans (a .grown) (b .grown);
     reaching = b .reaching;
-    shut = λ e g h. go e g (ℕ-discrete g n) h;
+    shut = λ e t g h. go e t g (ℕ-discrete g n) h;
   }
     where
-      go : r + s ≡ 0 → (g : ℕ) → Dec (g ≡ n) → g < n + 1 → Shut I ps sources m″ g
-      go e g (yes q) h = rw q (b .shut (omega arith))
-      go e g (no q) h = subst (λ (l : List ℕ). Shut I ps sources l g) (sym (b .grown .same (omega arith))) (a .shut (omega arith) g (lower q h))
+      go : r + s ≡ 0 → G ≤ level → (g : ℕ) → Dec (g ≡ n) → g < n + 1 → Shut I ps sources m″ g
+      go e t g (yes q) h = rw q (b .shut (omega arith) t)
+      go e t g (no q) h = subst (λ (l : List ℕ). Shut I ps sources l g) (sym (b .grown .same (omega arith))) (a .shut (omega arith) t g (lower q h))
         where
           lower : ¬ (g ≡ n) → g < n + 1 → g < n
           lower q h = omega arith
 
-  pub sweep-at : {m m′ ranks′ : List ℕ} {n n′ r : ℕ} → n ≡ n′ → ReachSweep I G ps sources counts m m′ ranks′ n r → ReachSweep I G ps sources counts m m′ ranks′ n′ r
-  sweep-at {m} {m′} {ranks′} {n} {n′} {r} e s = subst (λ (i : ℕ). ReachSweep I G ps sources counts m m′ ranks′ i r) e s
+  pub sweep-at : {m m′ ranks′ : List ℕ} {n n′ level r : ℕ} → n ≡ n′ → ReachSweep I G ps sources counts m m′ ranks′ n level r → ReachSweep I G ps sources counts m m′ ranks′ n′ level r
+  sweep-at {m} {m′} {ranks′} {n} {n′} {level} {r} e s = subst (λ (i : ℕ). ReachSweep I G ps sources counts m m′ ranks′ i level r) e s
 
   -- where a sweep marks nothing new, every reached gate is marked
   pub all-marked : (m : List ℕ) → ((g : ℕ) → g < G → Shut I ps sources m g) → (N : Net) → Wired N I G ps sources counts → {u : ℕ} → Reached N u → Known I m u

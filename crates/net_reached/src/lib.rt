@@ -1,25 +1,46 @@
 // Check 10 over a net's wiring, with a rank and an input pin of each gate.
 use limits::PINS;
 use net_marks::all_marked;
-use net_marks::known;
 use net_marks::zero;
 ghost use mathlib.Core.Path.{_≡_};
 ghost use Prim.Native.Nat.{ℕ, _+_, _-_, _*_, _≤_, _<_};
 ghost use lib.ListN.{length, getD};
 ghost use Rattle.net_model.specs.Wired.{Wires};
-ghost use Rattle.sequences.specs.Tests.{First};
-ghost use Rattle.net_marks.specs.Marks.{Known};
-ghost use Rattle.net_reached.specs.Reaching.{Behind, Reaching, ReachGate, ReachSweep, Shut, ReachCheck};
+ghost use Rattle.sequences.specs.Tests.{First, Tells};
+ghost use Rattle.net_reached.specs.Reaching.{Behind, Falls, Reaching, ReachGate, ReachSweep, Shut, ReachCheck};
 
-// The first of n pins from place `at` on whose source is known, or n.
-fn first_known(inputs: usize, seen: &[usize], sources: &[usize], at: usize, n: usize) -> usize
-    requires { ⌜ (at + n ≤ length (now sources)) × ((j : ℕ) → j < n → getD (now sources) (at + j) 0 < inputs + length (now seen)) ⌝ }
-    ensures { λ r. ⌜ First (λ j. Known inputs (now (seen .entry)) (getD (now (sources .entry)) (at + j) 0)) n r ⌝ }
+// Whether a node is an input, or a marked gate with a rank below the level.
+fn near(inputs: usize, seen: &[usize], ranks: &[usize], node: usize, level: usize) -> bool
+    requires { ⌜ (node < inputs + length (now seen)) × (length (now ranks) ≡ length (now seen)) ⌝ }
+    ensures { λ r. ⌜ Tells r (Falls inputs (now (seen .entry)) (now (ranks .entry)) node level) ⌝ }
+{
+    if node < inputs {
+        return true;
+    }
+    let g = node - inputs;
+    if seen[g] == 0 {
+        return false;
+    }
+    ranks[g] < level
+}
+
+// The first of n pins from place `at` on whose source is near, or n.
+fn first_near(
+    inputs: usize,
+    seen: &[usize],
+    ranks: &[usize],
+    sources: &[usize],
+    at: usize,
+    n: usize,
+    level: usize,
+) -> usize
+    requires { ⌜ (at + n ≤ length (now sources)) × (length (now ranks) ≡ length (now seen)) × ((j : ℕ) → j < n → getD (now sources) (at + j) 0 < inputs + length (now seen)) ⌝ }
+    ensures { λ r. ⌜ First (λ j. Falls inputs (now (seen .entry)) (now (ranks .entry)) (getD (now (sources .entry)) (at + j) 0) level) n r ⌝ }
 {
     let mut j = 0;
     while j < n {
         let node = sources[at + j];
-        if known(inputs, seen, node) {
+        if near(inputs, seen, ranks, node, level) {
             return j;
         }
         j += 1;
@@ -39,7 +60,7 @@ fn rank_behind(inputs: usize, gates: usize, ranks: &[usize], node: usize) -> usi
     }
 }
 
-// Marks gate g if it reads a known node: 1 if it is newly marked.
+// Marks gate g if it reads a near node: 1 if it is newly marked.
 fn reach_gate(
     inputs: usize,
     gates: usize,
@@ -49,15 +70,16 @@ fn reach_gate(
     seen: &mut [usize],
     ranks: &mut [usize],
     g: usize,
+    level: usize,
 ) -> usize
     requires { ⌜ Wires inputs gates (now pins) (now sources) (now counts) × (g < gates) × Reaching inputs gates (now pins) (now sources) (now counts) (now seen) (now ranks) ⌝ }
-    ensures { λ r. ⌜ ReachGate inputs gates (now (pins .entry)) (now (sources .entry)) (now (counts .entry)) (now (seen .entry)) (now (seen .exit)) (now (ranks .exit)) g r ⌝ }
+    ensures { λ r. ⌜ ReachGate inputs gates (now (pins .entry)) (now (sources .entry)) (now (counts .entry)) (now (seen .entry)) (now (seen .exit)) (now (ranks .exit)) g level r ⌝ }
 {
     if seen[g] != 0 {
         return 0;
     }
     let n = pins[g];
-    let j = first_known(inputs, seen, sources, PINS * g, n);
+    let j = first_near(inputs, seen, ranks, sources, PINS * g, n, level);
     if j < n {
         ranks[g] = rank_behind(inputs, gates, ranks, sources[PINS * g + j]);
         seen[g] = j + 1;
@@ -67,7 +89,7 @@ fn reach_gate(
     }
 }
 
-// One sweep over all gates: how many are newly marked.
+// One sweep over all gates, which looks at ranks below a level: how many are newly marked.
 fn reach_sweep(
     inputs: usize,
     gates: usize,
@@ -76,21 +98,48 @@ fn reach_sweep(
     counts: &[usize],
     seen: &mut [usize],
     ranks: &mut [usize],
+    level: usize,
 ) -> usize
     requires { ⌜ Wires inputs gates (now pins) (now sources) (now counts) × Reaching inputs gates (now pins) (now sources) (now counts) (now seen) (now ranks) ⌝ }
-    ensures { λ r. ⌜ ReachSweep inputs gates (now (pins .entry)) (now (sources .entry)) (now (counts .entry)) (now (seen .entry)) (now (seen .exit)) (now (ranks .exit)) gates r ⌝ }
+    ensures { λ r. ⌜ ReachSweep inputs gates (now (pins .entry)) (now (sources .entry)) (now (counts .entry)) (now (seen .entry)) (now (seen .exit)) (now (ranks .exit)) gates level r ⌝ }
 {
     let mut new = 0;
     let mut g = 0;
     while g < gates {
-        let r = reach_gate(inputs, gates, pins, sources, counts, seen, ranks, g);
+        let r = reach_gate(inputs, gates, pins, sources, counts, seen, ranks, g, level);
         new += r;
         g += 1;
     }
     new
 }
 
-// Sweeps until nothing is newly marked.
+// Level by level, until one marks nothing new: gates near an input are marked first.
+fn reach_levels(
+    inputs: usize,
+    gates: usize,
+    pins: &[usize],
+    sources: &[usize],
+    counts: &[usize],
+    seen: &mut [usize],
+    ranks: &mut [usize],
+)
+    requires { ⌜ Wires inputs gates (now pins) (now sources) (now counts) × Reaching inputs gates (now pins) (now sources) (now counts) (now seen) (now ranks) ⌝ }
+    ensures { λ _. ⌜ Reaching inputs gates (now (pins .entry)) (now (sources .entry)) (now (counts .entry)) (now (seen .exit)) (now (ranks .exit)) ⌝ }
+{
+    let mut level = 0;
+    let mut new = 1;
+    while 0 < new {
+        new = reach_sweep(inputs, gates, pins, sources, counts, seen, ranks, level);
+        level = next(level, gates);
+    }
+}
+
+// The next level, up to the number of gates.
+fn next(level: usize, gates: usize) -> usize {
+    if level < gates { level + 1 } else { level }
+}
+
+// Sweeps over all ranks until nothing is newly marked.
 fn reach_all(
     inputs: usize,
     gates: usize,
@@ -103,9 +152,9 @@ fn reach_all(
     requires { ⌜ Wires inputs gates (now pins) (now sources) (now counts) × Reaching inputs gates (now pins) (now sources) (now counts) (now seen) (now ranks) ⌝ }
     ensures { λ _. ⌜ Reaching inputs gates (now (pins .entry)) (now (sources .entry)) (now (counts .entry)) (now (seen .exit)) (now (ranks .exit)) × ((g : ℕ) → g < gates → Shut inputs (now (pins .entry)) (now (sources .entry)) (now (seen .exit)) g) ⌝ }
 {
-    let mut new = reach_sweep(inputs, gates, pins, sources, counts, seen, ranks);
+    let mut new = reach_sweep(inputs, gates, pins, sources, counts, seen, ranks, gates);
     while 0 < new {
-        new = reach_sweep(inputs, gates, pins, sources, counts, seen, ranks);
+        new = reach_sweep(inputs, gates, pins, sources, counts, seen, ranks, gates);
     }
 }
 
@@ -123,6 +172,7 @@ pub fn check_reached(
     ensures { λ r. ⌜ ReachCheck inputs gates (now (pins .entry)) (now (sources .entry)) (now (counts .entry)) (now (seen .exit)) (now (ranks .exit)) r ⌝ }
 {
     zero(seen);
+    reach_levels(inputs, gates, pins, sources, counts, seen, ranks);
     reach_all(inputs, gates, pins, sources, counts, seen, ranks);
     all_marked(seen, gates)
 }

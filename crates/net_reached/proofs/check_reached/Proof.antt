@@ -14,12 +14,15 @@ use Rattle.net_marks.proofs.zero.Reads as zero-reads
 zero-requires : tie.Need-zero-requires
 zero-requires c κs = search needs
 
-reach-all-requires : tie.Need-reach-all-requires
-reach-all-requires c κs =
+reach-levels-requires : tie.Need-reach-levels-requires
+reach-levels-requires c κs =
     let start = c .before .before .before .before .before .before .before .before .before .before .before in
     let z = c .before .before .before .before .zero .ensures in
     let l = start .pre .1 in
     (start .pre .0, reach-zeros _ _ (z .0 ∙ l) (start .pre .2) (λ g h. z .1 g (omega arith)))
+
+reach-all-requires : tie.Need-reach-all-requires
+reach-all-requires c κs = (c .before .before .before .before .before .before .before .before .before .before .before .before .before .before .before .before .before .before .pre .0, c .before .before .before .before .before .before .reach-levels .ensures)
 
 all-marked-requires : tie.Need-all-marked-requires
 all-marked-requires c κs = search needs
@@ -37,4 +40,4 @@ returns c =
 
 pub check-reached-spec : {M : Type 1} → statement M
 check-reached-spec =
-    tie.close (tie.spec zero-requires reach-all-requires all-marked-requires same-length same-length-2 returns)
+    tie.close (tie.spec zero-requires reach-levels-requires reach-all-requires all-marked-requires same-length same-length-2 returns)

@@ -21,7 +21,7 @@ reach-sweep-requires : tie.Need-reach-sweep-requires Inv-loop μ-loop
 reach-sweep-requires c κs = c .before .before .before .before .before .before .before .pre
 
 loop-holds : tie.Need-loop-holds Inv-loop μ-loop
-loop-holds c = let s = c .before .before .before .before .reach-sweep .ensures in (s .reaching, s .shut)
+loop-holds c = let s = c .before .before .before .before .reach-sweep .ensures in (s .reaching, λ e. s .shut e (omega arith))
 
 reach-sweep-requires-2 : tie.Need-reach-sweep-requires-2 Inv-loop μ-loop
 reach-sweep-requires-2 c κs = (
@@ -33,7 +33,7 @@ loop-less : tie.Need-loop-less Inv-loop μ-loop
 loop-less c = let n = c .before .before .before .before .reach-sweep2 .ensures .grown .new in omega arith
 
 loop-again : tie.Need-loop-again Inv-loop μ-loop
-loop-again c = let s = c .before .before .before .before .reach-sweep2 .ensures in (s .reaching, s .shut)
+loop-again c = let s = c .before .before .before .before .reach-sweep2 .ensures in (s .reaching, λ e. s .shut e (omega arith))
 
 same-length : tie.Need-same-length Inv-loop μ-loop
 same-length c = c .before .loop .inv .0 .size ∙ sym (c .before .before .before .before .before .before .before .before .before .before .before .before .before .before .pre .1 .size)

@@ -11,10 +11,10 @@ use Rattle.net_reached.proofs.reach_sweep.Statement.{statement}
 use Rattle.net_reached.proofs.reach_sweep.Tie as tie
 
 abbrev Inv-loop : tie.InvT-loop
-Inv-loop inputs gates pins sources counts marks₀ ranks₀ new₀ g₀ seen ranks new g = (g ≤ gates) × ReachSweep inputs gates pins sources counts marks₀ seen ranks g new
+Inv-loop inputs gates pins sources counts marks₀ ranks₀ level new₀ g₀ seen ranks new g = (g ≤ gates) × ReachSweep inputs gates pins sources counts marks₀ seen ranks g level new
 
 abbrev μ-loop : tie.MeasureT-loop
-μ-loop inputs gates pins sources counts marks₀ ranks₀ new₀ g₀ seen ranks new g = gates - g
+μ-loop inputs gates pins sources counts marks₀ ranks₀ level new₀ g₀ seen ranks new g = gates - g
 
 loop-holds : tie.Need-loop-holds Inv-loop μ-loop
 loop-holds c = (omega arith, sweep-none (c .before .before .before .before .before .pre .1))
