@@ -34,15 +34,3 @@ pub data SettledAs (k target : ℕ) (w : Wiring) (a : Kept) (r : ℕ) : Type 0 w
 pub record CoverSettled (k target : ℕ) (w : Wiring) (a : Kept) : Type 0 where
   pub passed : Passed (netIn (arraysOf w)) k
   pub cover : Covered (netIn (arraysOf w)) k target a
-
--- ---- pins from 0 on
-
--- all are at least 1
-pub record Counting (m : List ℕ) : Type 0 where
-  pub low : (g : ℕ) → g < length m → 1 ≤ getD m g 0
-
--- the first n are one less
-pub record Lowered (m m′ : List ℕ) (n : ℕ) : Type 0 where
-  pub size : length m′ ≡ length m
-  pub less : (g : ℕ) → g < n → getD m′ g 0 ≡ getD m g 0 - 1
-  pub rest : (g : ℕ) → n ≤ g → getD m′ g 0 ≡ getD m g 0

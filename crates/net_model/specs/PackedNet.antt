@@ -53,6 +53,12 @@ packedNet inputs gates outputs net tables = record {
   outCounts = drop (delaysAt inputs gates outputs) net;
 }
 
+-- all but the places from a up to b stays
+pub record Apart (a b : ℕ) (old new : List ℕ) : Type 0 where
+  pub below : (i : ℕ) → i < a → getD new i 0 ≡ getD old i 0
+  pub above : (i : ℕ) → b ≤ i → getD new i 0 ≡ getD old i 0
+  pub long : length new ≡ length old
+
 -- what was read stays: pins, sources and counts, and what stands behind the tops
 pub record NetKept (inputs gates : ℕ) (old new : List ℕ) : Type 0 where
   pub pins : (i : ℕ) → i < gates → getD new i 0 ≡ getD old i 0

@@ -1,21 +1,29 @@
 -- Laws of a net in one slice: the net is the same where what was read stays.
-use mathlib.Core.Path.{_≡_, refl, sym, ap, ap₂, _∙_}
+use mathlib.Core.Path.{_≡_, refl, sym, ap, ap₂, subst, _∙_}
 use mathlib.Core.List.{List}
-use Prim.Native.Nat.{ℕ, _+_, _*_, _≤_, _<_}
+use Prim.Native.Nat.{ℕ, _+_, _-_, _*_, _≤_, _<_}
 use native.Mathlib.Omega.{arith}
-use lib.ListN.{length, getD, drop, length-drop}
+use lib.ListN.{length, getD, take, drop, length-drop}
 use lib.Seq.{getD-drop}
+use Rattle.sequences.specs.Behind.{behind}
 use Rattle.sequences.specs.Listed.{listed-same, listed-first}
 use Rattle.sequences.specs.Stored.{Stored}
 use Rattle.net_model.specs.Net.{Net, Pin, Gate}
 use Rattle.net_model.specs.Arrays.{netIn, pinsIn, gatesIn, stride}
 use Rattle.net_model.specs.ArrayLaws.{pinAt, gateAt, pins-listed, gates-listed}
 use Rattle.net_model.specs.Wired.{Wired}
-use Rattle.net_model.specs.PackedNet.{firstAt, sourcesAt, countsAt, nextsAt, headsAt, orderAt, topsAt, outsAt, delaysAt, packedRoom, packedNet, NetKept}
+use Rattle.net_model.specs.PackedNet.{firstAt, sourcesAt, countsAt, nextsAt, headsAt, orderAt, topsAt, outsAt, delaysAt, packedRoom, packedNet, Apart, NetKept}
 
 -- a part up to the end
 pub length-part : (net : List ℕ) (a n : ℕ) → a + n ≤ length net → n ≤ length (drop a net)
 length-part net a n h = omega (arith, h, length-drop a net)
+
+-- what holds of what is behind a place holds of the part lent, and the other way round
+pub to-part : (P : List ℕ → Type 0) (net : List ℕ) (a : ℕ) → P (drop a net) → P (take (length net - a) (drop a net))
+to-part P net a = subst P (sym (behind net a))
+
+pub from-part : (P : List ℕ → Type 0) (net : List ℕ) (a : ℕ) → P (take (length net - a) (drop a net)) → P (drop a net)
+from-part P net a = subst P (behind net a)
 
 -- numbers of a part
 pub part-same : (net net′ : List ℕ) (a i : ℕ) → getD net′ (a + i) 0 ≡ getD net (a + i) 0 → getD (drop a net′) i 0 ≡ getD (drop a net) i 0
@@ -59,18 +67,24 @@ kept-trans p q = record {
   long = q .long ∙ p .long;
 }
 
--- first pins stored
-pub kept-first : {I G : ℕ} {old new given : List ℕ} → Stored old (firstAt G) given G new → NetKept I G old new
-kept-first w = record { pins = w .below; wires = λ i h l. w .above i (omega (arith, h)); outs = λ i h. w .above i (omega (arith, h)); long = w .long }
+-- first pins written
+pub kept-first : {I G : ℕ} {old new : List ℕ} → Apart (firstAt G) (sourcesAt G) old new → NetKept I G old new
+kept-first w = record { pins = w .below; wires = λ i h l. w .above i h; outs = λ i h. w .above i (omega (arith, h)); long = w .long }
 
--- numbers stored between the counts and the outputs
-pub kept-between : {I G : ℕ} {old new given : List ℕ} {at n : ℕ} → nextsAt G ≤ at → at + n ≤ outsAt I G → Stored old at given n new → NetKept I G old new
-kept-between a b w = record {
-  pins = λ i h. w .below i (omega (arith, h, a));
-  wires = λ i h l. w .below i (omega (arith, l, a));
-  outs = λ i h. w .above i (omega (arith, h, b));
+-- numbers written between the counts and the outputs
+pub kept-between : {I G : ℕ} {old new : List ℕ} {a b : ℕ} → nextsAt G ≤ a → b ≤ outsAt I G → Apart a b old new → NetKept I G old new
+kept-between h l w = record {
+  pins = λ i m. w .below i (omega (arith, h, m));
+  wires = λ i m n. w .below i (omega (arith, h, n));
+  outs = λ i m. w .above i (omega (arith, l, m));
   long = w .long;
 }
+
+pub apart-refl : (a b : ℕ) (net : List ℕ) → Apart a b net net
+apart-refl a b net = record { below = λ i h. refl; above = λ i h. refl; long = refl }
+
+pub stored-apart : {old new given : List ℕ} {at n : ℕ} → Stored old at given n new → Apart at (at + n) old new
+stored-apart w = record { below = w .below; above = w .above; long = w .long }
 
 module _ {I G : ℕ} {net net′ : List ℕ} (k : NetKept I G net net′) where
   source-kept : (m : ℕ) → m < stride * G → getD net′ (sourcesAt G + m) 0 ≡ getD net (sourcesAt G + m) 0
