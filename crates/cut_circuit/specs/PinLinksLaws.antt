@@ -40,11 +40,11 @@ linked-agree : {nodes gates : ℕ} {pins sources heads nexts pins′ sources′ 
     → ((u : ℕ) → u < nodes → getD heads′ u 0 ≡ getD heads u 0)
     → ((p : ℕ) → p < n → getD nexts′ p 0 ≡ getD nexts p 0)
     → Linked nodes gates pins sources heads nexts n → Linked nodes gates pins′ sources′ heads′ nexts′ n
-linked-agree {sources = sources} {heads = heads} {nexts = nexts} {sources′ = sources′} {heads′ = heads′} {nexts′ = nexts′} {n = n} node pin source head next w = record {
+linked-agree {pins = pins} {sources = sources} {heads = heads} {nexts = nexts} {sources′ = sources′} {heads′ = heads′} {nexts′ = nexts′} {n = n} node pin source head next w = record {
   low = λ u h. omega (arith, head u h, w .low u h);
   falls = λ p h. omega (arith, next p h, w .falls p h);
   all = λ g j h b k.
-      let b′ = omega (arith, pin g h, b) in
+      let b′ : j < getD pins g 0 = omega (arith, pin g h, b) in
       let p = mostPins * g + j in
       let u = getD sources p 0 in
       let inside = node g j h b′ in
@@ -217,7 +217,7 @@ asked-after {gates = gates} {net = net} {net′ = net′} a w = record {
   room = omega (arith, a .room, w .long);
   few = λ g h. omega (arith, a .few g h, w .below g (omega (arith, h)));
   node = λ g j h b.
-      let b′ = omega (arith, b, w .below g (omega (arith, h))) in
+      let b′ : j < getD net g 0 = omega (arith, b, w .below g (omega (arith, h))) in
       omega (arith, a .node g j h b′, part-same net net′ (sourcesAt gates) (mostPins * g + j) (w .below (sourcesAt gates + (mostPins * g + j)) (omega (arith, h, b′, a .few g h))));
 }
 
@@ -229,8 +229,8 @@ linked-none {gates = gates} {net′ = net′} f = record {
   all = λ g j a b h. absurd (not-suc-le-zero h);
 }
 
-pub emptied-apart : {nodes gates : ℕ} {net net′ : List ℕ} → Emptied net net′ (headsAt gates) nodes → Apart (nextsAt gates) (headsAt gates + nodes) net net′
-emptied-apart f = record { below = λ i h. f .apart .below i (omega (arith, h)); above = f .apart .above; long = f .apart .long }
+pub emptied-apart : (nodes gates : ℕ) {net net′ : List ℕ} → Emptied net net′ (headsAt gates) nodes → Apart (nextsAt gates) (headsAt gates + nodes) net net′
+emptied-apart nodes gates f = record { below = λ i h. f .apart .below i (omega (arith, h)); above = f .apart .above; long = f .apart .long }
 
 pub emptied-none : (net : List ℕ) (at : ℕ) → Emptied net net at 0
 emptied-none net at = record { zero = λ u h. absurd (not-suc-le-zero h); apart = apart-refl at (at + 0) net }

@@ -108,12 +108,7 @@ fn store_eleven(s: NetSizes, net: &mut [usize], seen: &mut [usize]) -> bool
 }
 
 // Checks 9, 10 and 11 in this order: 0, or the number of the first that fails.
-pub fn check_graph(
-    s: NetSizes,
-    net: &mut [usize],
-    seen: &mut [usize],
-    noted: &mut [usize],
-) -> usize
+pub fn check_graph(s: NetSizes, net: &mut [usize], seen: &mut [usize], noted: &mut [usize]) -> usize
     requires { ⌜ Checkable s (now net) × Lent s (now seen) (now noted) ⌝ }
     ensures { λ r. ⌜ GraphTold s (now (net .entry)) (now (net .exit)) r ⌝ }
 {
