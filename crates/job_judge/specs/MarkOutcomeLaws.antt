@@ -79,13 +79,13 @@ module _ (R : Rules) {k : ℕ} {N : Net} (bytes : List ℕ) where
 -- the least period, with the slice written in other parts
 pub least-judging : {k : ℕ} {sizes : NetSizes} {net ts net′ : List ℕ} {s : Settled} → settling.Settling k 0 sizes net ts → NetKept (sizes .inputs) (sizes .gates) net net′
     → LeastOf k (netIn (arraysOf sizes net ts)) s → s .refusal ≤ 0 → Judging k sizes net′ ts (s .period)
-least-judging {k} {sizes} {ts = ts} {net′ = net′} {s} g q l h =
+least-judging {k} {sizes} {net} {ts} {s = s} g q l h =
     let u = cover-settled (l .settled) h in
     let e = settling-same g q in
     record {
       settling = settling-kept g q;
       passed = subst (λ (N : Net). Passed N k) (sym e) (u .passed);
-      least = subst (λ (N : Net). LeastPeriod N k (s .period)) (sym e) (subst (LeastPeriod _ k) (l .period) (u .cover .least refl));
+      least = subst (λ (N : Net). LeastPeriod N k (s .period)) (sym e) (subst (LeastPeriod (netIn (arraysOf sizes net ts)) k) (l .period) (u .cover .least refl));
     }
 
 -- the answer is that for the net as it was

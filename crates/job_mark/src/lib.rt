@@ -30,13 +30,7 @@ ghost use Rattle.job_judge.specs.MarkAnswers.{answerOf, InRange};
 ghost use Rattle.job_judge.specs.JudgeMarking.{Marking, MarksTo, MarksNet, LeastOf};
 
 // Checks 9 to 11 and the least period of a net read, with the engine's table in work.
-fn least_of(
-    z: NetSizes,
-    net: &mut [usize],
-    tables: &[u64],
-    k: usize,
-    work: &mut [u8],
-) -> Settled
+fn least_of(z: NetSizes, net: &mut [usize], tables: &[u64], k: usize, work: &mut [u8]) -> Settled
     requires { ⌜ Marking k z (now net) (now tables) (now work) ⌝ }
     ensures { λ r. ⌜ LeastOf k (netIn (arraysOf z (now (net .entry)) (now (tables .entry)))) r ⌝ }
     ensures { λ _. ⌜ NetKept (z .inputs) (z .gates) (now (net .entry)) (now (net .exit)) ⌝ }
@@ -88,16 +82,7 @@ fn mark_read(
     }
     let end = TABLE;
     clear_first(work, end);
-    judge(
-        z,
-        net,
-        tables,
-        k,
-        cover,
-        s.period,
-        rules,
-        &mut work[..end],
-    )
+    judge(z, net, tables, k, cover, s.period, rules, &mut work[..end])
 }
 
 // Checks 4 to 18, with arrays for a net within the limits.
@@ -113,15 +98,7 @@ fn mark_bytes(bytes: &[u8], k: u32, cover: &[u8], work: &mut [u8], rules: Rules)
     if let Verdict::Refused(n) = v {
         return Grade::Refused(n);
     }
-    mark_read(
-        read.sizes,
-        &mut net,
-        &tables,
-        word(k),
-        cover,
-        work,
-        rules,
-    )
+    mark_read(read.sizes, &mut net, &tables, word(k), cover, work, rules)
 }
 
 // Mark under rules, for every input.

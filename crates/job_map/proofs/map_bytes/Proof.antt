@@ -1,8 +1,7 @@
 -- `job_map::map_bytes` meets its contract: a refusal of the walk, or the outcome for the net read.
 use denote.Ref.{now}
-use Prim.Native.Nat.{ℕ, _<_}
-use lib.ListN.{length-replicate}
-use Rattle.limits.specs.Limits.{mostGates, mostPacked}
+use mathlib.Core.Path.{refl}
+use Prim.Native.Nat.{_<_}
 use Rattle.net_reader.specs.ReadWires.{room-offered}
 use Rattle.job_map.specs.MapReading.{walk-refused, walk-mapping, walk-maps}
 use borrow.Author.Needs.{needs}
@@ -16,11 +15,12 @@ slice-aggregate-read-net-2 : tie.Need-slice-aggregate-read-net-2
 slice-aggregate-read-net-2 c = search needs
 
 read-net-requires : tie.Need-read-net-requires
-read-net-requires c κs = (c .before .before .before .before .before .pre .0, room-offered (c .before .before .before .before .before .pre .0) (length-replicate {A = ℕ} mostPacked 0) (length-replicate {A = ℕ} mostGates 0))
+read-net-requires c κs = let offered = c .before .before .before .before .before .pre .0 in (offered, room-offered offered refl refl)
 
 enum-known-v : tie.Need-enum-known-v
 enum-known-v c = search needs
 
+-- the walk refused: the area as it was
 returns : tie.Need-returns
 returns c =
     let small : c .before .v .given .0 .0 < 256 = search needs in
