@@ -6,5 +6,3 @@ pub mod PackedLaws
 pub mod Chains
 pub mod PinLinks
 pub mod PinLinksLaws
-pub mod Packing
-pub mod PackingLaws

@@ -1,28 +1,12 @@
--- Definitions: the arrays of a circuit in one slice of numbers, one behind the other: pins, first pins, sources, counts, the next places, the heads. What is asked
--- and told of a part, and of a slot.
+-- Definitions: the circuit of a net in one slice of numbers; what is asked of its parts, and of a slot.
 use mathlib.Core.Path.{_≡_}
 use mathlib.Core.List.{List}
 use Prim.Native.Nat.{ℕ, suc, _+_, _*_, _/_, _-_, _^_, _≤_, _<_}
 use lib.ListN.{length, getD, drop}
-use Rattle.limits.specs.Limits.{mostK, mostPins}
+use Rattle.limits.specs.Limits.{mostK}
+pub use Rattle.net_model.specs.PackedNet.{firstAt, sourcesAt, countsAt, nextsAt, headsAt}
 use Rattle.cut_circuit.specs.Circuit.{Circuit, circuit, place, feedingAt}
 use Rattle.cut_circuit.specs.declared.Extent.{Extent}
-
--- where the parts begin
-abbrev pub firstAt : ℕ → ℕ
-firstAt gates = gates
-
-abbrev pub sourcesAt : ℕ → ℕ
-sourcesAt gates = 2 * gates
-
-abbrev pub countsAt : ℕ → ℕ
-countsAt gates = (2 + mostPins) * gates
-
-abbrev pub nextsAt : ℕ → ℕ
-nextsAt gates = (2 + 2 * mostPins) * gates
-
-abbrev pub headsAt : ℕ → ℕ
-headsAt gates = (2 + 3 * mostPins) * gates
 
 -- the circuit in a slice, with the forced copies in slots
 abbrev pub packedOf : Extent → List ℕ → List ℕ → Circuit

@@ -6,13 +6,11 @@ ghost use mathlib.Core.Path.{_≡_};
 ghost use mathlib.Core.Bool.{true, false};
 ghost use Prim.Native.Nat.{_+_, _-_, _*_, _/_, _^_, _≤_, _<_};
 ghost use mathlib.Core.List.{[]};
-ghost use lib.ListN.{getD, set, drop};
+ghost use lib.ListN.{length, getD, set, drop};
 ghost use Rattle.limits.specs.Limits.{mostPins};
-ghost use Rattle.sequences.specs.Stored.{Stored};
 ghost use Rattle.cut_circuit.specs.Circuit.{feedingAt, among, forcedAt};
 ghost use Rattle.cut_circuit.specs.Packed.{packedOf, firstAt, sourcesAt, countsAt, GateAsked, SourceAsked, SlotAsked};
-ghost use Rattle.cut_circuit.specs.Packing.{PackAsked, Packs};
-ghost use Rattle.cut_circuit.specs.PinLinks.{Emptied, LinkAsked, PlaceAsked, Linked};
+ghost use Rattle.cut_circuit.specs.PinLinks.{Emptied, LinkAsked, PlaceAsked, PlaceLinked, LinkedIn, Links};
 
 // The copy u:d has the number u * width + d; copies with d above the border are terminals.
 pub struct Extent {
@@ -22,113 +20,56 @@ pub struct Extent {
     pub border: usize,
 }
 
-// ---- the chains of the pins that read a node
+// ---- the chains of the pins that read a node, in the slice of a net
 
-fn empty_heads(nodes: usize, heads: &mut [usize])
-    requires { do ⌜ nodes ≤ (← ⟦heads.len()⟧) ⌝ }
-    ensures { λ _. ⌜ Emptied (now (heads .exit)) nodes ⌝ }
+// No pin reads any of the nodes yet.
+fn empty_heads(net: &mut [usize], at: usize, nodes: usize)
+    requires { ⌜ at + nodes ≤ length (now net) ⌝ }
+    ensures { λ _. ⌜ Emptied (now (net .entry)) (now (net .exit)) at nodes ⌝ }
 {
     let mut u = 0;
     while u < nodes {
-        heads[u] = 0;
+        net[at + u] = 0;
         u += 1;
     }
 }
 
-fn link_place(
-    nodes: usize,
-    gates: usize,
-    pins: &[usize],
-    sources: &[usize],
-    heads: &mut [usize],
-    nexts: &mut [usize],
-    p: usize,
-)
-    requires { ⌜ PlaceAsked nodes gates (now pins) (now sources) (now heads) (now nexts) p ⌝ }
-    ensures { λ _. ⌜ Linked nodes gates (now (pins .entry)) (now (sources .entry)) (now (heads .exit)) (now (nexts .exit)) (p + 1) ⌝ }
+// A pin at place p stands before those that read its node so far.
+fn link_place(nodes: usize, gates: usize, net: &mut [usize], p: usize)
+    requires { ⌜ PlaceAsked nodes gates (now net) p ⌝ }
+    ensures { λ _. ⌜ PlaceLinked nodes gates (now (net .entry)) (now (net .exit)) p ⌝ }
 {
     let g = p / PINS;
-    if pins[g] <= p % PINS {
-        nexts[p] = 0;
+    let next = (2 + 2 * PINS) * gates + p;
+    if net[g] <= p % PINS {
+        net[next] = 0;
         return;
     }
-    let u = sources[p];
-    nexts[p] = heads[u];
-    heads[u] = p + 1;
+    let u = net[2 * gates + p];
+    let head = (2 + 3 * PINS) * gates + u;
+    net[next] = net[head];
+    net[head] = p + 1;
 }
 
-fn link_places(
-    nodes: usize,
-    gates: usize,
-    pins: &[usize],
-    sources: &[usize],
-    heads: &mut [usize],
-    nexts: &mut [usize],
-)
-    requires { ⌜ LinkAsked nodes gates (now pins) (now sources) (now heads) (now nexts) ⌝ }
-    requires { ⌜ Emptied (now heads) nodes ⌝ }
-    ensures { λ _. ⌜ Linked nodes gates (now (pins .entry)) (now (sources .entry)) (now (heads .exit)) (now (nexts .exit)) (mostPins * gates) ⌝ }
+fn link_places(nodes: usize, gates: usize, net: &mut [usize])
+    requires { ⌜ LinkAsked nodes gates (now net) × LinkedIn nodes gates (now net) 0 ⌝ }
+    ensures { λ _. ⌜ Links nodes gates (now (net .entry)) (now (net .exit)) ⌝ }
 {
     let mut p = 0;
     while p < PINS * gates {
-        link_place(nodes, gates, pins, sources, heads, nexts, p);
+        link_place(nodes, gates, net, p);
         p += 1;
     }
 }
 
 // Chains the pins that read each node.
-pub fn link(
-    nodes: usize,
-    gates: usize,
-    pins: &[usize],
-    sources: &[usize],
-    heads: &mut [usize],
-    nexts: &mut [usize],
-)
-    requires { ⌜ LinkAsked nodes gates (now pins) (now sources) (now heads) (now nexts) ⌝ }
-    ensures { λ _. ⌜ Linked nodes gates (now (pins .entry)) (now (sources .entry)) (now (heads .exit)) (now (nexts .exit)) (mostPins * gates) ⌝ }
+pub fn link(nodes: usize, gates: usize, net: &mut [usize])
+    requires { ⌜ LinkAsked nodes gates (now net) ⌝ }
+    ensures { λ _. ⌜ Links nodes gates (now (net .entry)) (now (net .exit)) ⌝ }
 {
-    empty_heads(nodes, heads);
-    link_places(nodes, gates, pins, sources, heads, nexts);
-}
-
-// ---- the arrays in one slice
-
-// Copies the first n numbers of `from` to place `at`.
-fn store(from: &[usize], n: usize, net: &mut [usize], at: usize)
-    requires { do ⌜ n ≤ (← ⟦from.len()⟧) ⌝ }
-    requires { do ⌜ at + n ≤ (← ⟦net.len()⟧) ⌝ }
-    ensures { λ _. ⌜ Stored (now (net .entry)) at (now (from .entry)) n (now (net .exit)) ⌝ }
-{
-    let mut i = 0;
-    while i < n {
-        net[at + i] = from[i];
-        i += 1;
-    }
-}
-
-// Puts the arrays of a circuit into one slice.
-pub fn pack(
-    s: Extent,
-    pins: &[usize],
-    first: &[usize],
-    sources: &[usize],
-    counts: &[usize],
-    heads: &[usize],
-    nexts: &[usize],
-    net: &mut [usize],
-)
-    requires { ⌜ PackAsked s (now pins) (now first) (now sources) (now counts) (now heads) (now nexts) (now net) ⌝ }
-    ensures { λ _. ⌜ Packs s (now (pins .entry)) (now (first .entry)) (now (sources .entry)) (now (counts .entry)) (now (heads .entry)) (now (nexts .entry)) (now (net .exit)) ⌝ }
-{
-    let gates = s.gates;
-    let places = PINS * gates;
-    store(pins, gates, net, 0);
-    store(first, gates, net, gates);
-    store(sources, places, net, 2 * gates);
-    store(counts, places, net, (2 + PINS) * gates);
-    store(nexts, places, net, (2 + 2 * PINS) * gates);
-    store(heads, s.inputs + gates, net, (2 + 3 * PINS) * gates);
+    let at = (2 + 3 * PINS) * gates;
+    empty_heads(net, at, nodes);
+    link_places(nodes, gates, net);
 }
 
 // ---- the pins of a copy

@@ -4,13 +4,15 @@ use mathlib.Core.Bool.{true}
 use mathlib.Core.List.{List, []}
 use Prim.Native.Nat.{ℕ, _+_, _-_, _*_, _≤_, _<_}
 use native.Mathlib.Omega.{arith}
-use lib.ListN.{length, getD}
+use lib.ListN.{length, getD, drop}
 use Rattle.net_model.specs.Net.{Net}
 use Rattle.net_model.specs.Arrays.{netIn}
 use Rattle.net_model.specs.ArrayLaws.{inputs-netIn, size-netIn, outputs-netIn}
 use Rattle.net_model.specs.WiredLaws.{netIn-wired}
 use Rattle.net_model.specs.Checks.{Passed}
 use Rattle.net_model.specs.Copies.{copy}
+use Rattle.net_model.specs.PackedNet.{sourcesAt, countsAt, outsAt, delaysAt, NetKept}
+use Rattle.net_model.specs.PackedNetLaws.{length-part}
 use Rattle.limits.specs.Limits.{mostPeriod}
 use Rattle.limits.specs.Courses.{Offered}
 use Rattle.limits.specs.CourseLaws.{offered-within}
@@ -25,22 +27,21 @@ use Rattle.cover_records.specs.CoverBytes.{Record, coverReader}
 use Rattle.cover_records.specs.Kept.{Kept}
 use Rattle.cover_records.specs.Outcomes.{Answer, accepted, turnedBack, Checked, passes, fails, checkNet, markRead, markChecked}
 use Rattle.net_reader.specs.ReadAnswer.{arraysOf}
-use Rattle.net_reader.specs.declared.Wiring.{Wiring}
+use Rattle.net_reader.specs.declared.NetSizes.{NetSizes}
 use Rattle.cover_cuts.specs.Cuts.{Cutting, CutsTold, CutAs}
 use Rattle.cover_links.specs.Links.{Linking, LinksTold, LinkedAs}
 use Rattle.cover_links.specs.LinkLaws.{wellHeld-wired}
 use Rattle.cover_records.specs.CheckLaws.{check-refused, check-loop, check-unreached, check-unled, check-passes}
-use Rattle.net_reader.specs.Lengths.{Lengths}
 use Rattle.job_plan.specs.Ready.{net-wires, tabled-netIn}
 use Rattle.job_settle.specs.Settling.{SettledAs}
 use Rattle.job_settle.specs.Settling as settling
 use Rattle.job_settle.specs.declared.Settled.{Settled}
 use Rattle.job_settle.specs.Settling.{CoverSettled}
-use Rattle.job_settle.specs.SettlingLaws.{cover-settled}
+use Rattle.job_settle.specs.SettlingLaws.{settling-same, settling-kept, cover-settled}
 use Rattle.cover_reader.specs.Reads.{CoverRead, heldOf, recordOf}
 use Rattle.cover_reader.specs.declared.Candidate.{Candidate}
 use Rattle.job_judge.specs.MarkAnswers.{InRange}
-use Rattle.job_judge.specs.JudgeMarking.{Judging, HeldFor, LeastOf, MarksTo, MarksNet, MarksRead}
+use Rattle.job_judge.specs.JudgeMarking.{Judging, HeldFor, CutsToldOf, LinksToldOf, LeastOf, MarksTo, MarksNet, MarksRead}
 use Rattle.job_judge.specs.Judged.{Cuts, Links, cuts-sure, links-sure, cuts-small, links-small, read-cuts, read-links, read-right}
 
 -- a check of the net failed
@@ -51,12 +52,12 @@ marks-fails R k n net bytes h e = record { small = h; outcome = ap (λ (c : Chec
 pub marks-refused : (R : Rules) (k n : ℕ) (net bytes : List ℕ) → n < 256 → netReader R k net ≡ refused n → MarksTo R k net bytes (turnedBack n)
 marks-refused R k n net bytes h e = marks-fails R k n net bytes h (check-refused R k net n e)
 
-module _ (R : Rules) {k : ℕ} {w : Wiring} (bytes : List ℕ) where
+module _ (R : Rules) {k : ℕ} {N : Net} (bytes : List ℕ) where
   -- **9, 10 and 11**
-  pub net-refused : {a : Kept} {r n : ℕ} → SettledAs k 0 w a r → 0 < r → n ≡ r → MarksNet R k w bytes (turnedBack n)
-  net-refused {n = n} (settling.loops e q) h f = record { marks = λ net i. marks-fails R k n net bytes (omega arith) (check-loop R k net (netIn (arraysOf w)) [] i q ∙ ap fails (sym (f ∙ e))) }
-  net-refused {n = n} (settling.cutOff e l q) h f = record { marks = λ net i. marks-fails R k n net bytes (omega arith) (check-unreached R k net (netIn (arraysOf w)) [] i l q ∙ ap fails (sym (f ∙ e))) }
-  net-refused {n = n} (settling.idle e l t q) h f = record { marks = λ net i. marks-fails R k n net bytes (omega arith) (check-unled R k net (netIn (arraysOf w)) [] i l t q ∙ ap fails (sym (f ∙ e))) }
+  pub net-refused : {a : Kept} {r n : ℕ} → SettledAs k 0 N a r → 0 < r → n ≡ r → MarksNet R k N bytes (turnedBack n)
+  net-refused {n = n} (settling.loops e q) h f = record { marks = λ net i. marks-fails R k n net bytes (omega arith) (check-loop R k net N [] i q ∙ ap fails (sym (f ∙ e))) }
+  net-refused {n = n} (settling.cutOff e l q) h f = record { marks = λ net i. marks-fails R k n net bytes (omega arith) (check-unreached R k net N [] i l q ∙ ap fails (sym (f ∙ e))) }
+  net-refused {n = n} (settling.idle e l t q) h f = record { marks = λ net i. marks-fails R k n net bytes (omega arith) (check-unled R k net N [] i l t q ∙ ap fails (sym (f ∙ e))) }
   net-refused (settling.unreachable e P h′ q) h f = absurd (none h′)
     where
       none : 1 ≤ 0 → ⊥
@@ -67,50 +68,59 @@ module _ (R : Rules) {k : ℕ} {w : Wiring} (bytes : List ℕ) where
       none e h = omega arith
 
   -- a net that passes: the answer of the record's reading
-  pub net-marks : Passed (netIn (arraysOf w)) k → {y : Answer} → InRange y → ((Q : Passed (netIn (arraysOf w)) k) → markRead (netIn (arraysOf w)) k Q (coverReader R (netIn (arraysOf w)) k bytes) ≡ y) → MarksNet R k w bytes y
+  pub net-marks : Passed N k → {y : Answer} → InRange y → ((Q : Passed N k) → markRead N k Q (coverReader R N k bytes) ≡ y) → MarksNet R k N bytes y
   unfolding markChecked
   net-marks P {y} h f = record {
     marks = λ net q.
-        let t = check-passes R k net (netIn (arraysOf w)) [] q (P .loopless) (P .reached) (P .leading) in
+        let t = check-passes R k net N [] q (P .loopless) (P .reached) (P .leading) in
         record { small = h; outcome = ap (λ (c : Checked k). markChecked R k c bytes) (t .1) ∙ f (t .0) };
   }
 
--- the least period
-pub least-judging : {k : ℕ} {w : Wiring} {s : Settled} → settling.Settling k 0 w → LeastOf k w s → s .refusal ≤ 0 → Judging k w (s .period)
-least-judging {k} {w} g l h =
+-- the least period, with the slice written in other parts
+pub least-judging : {k : ℕ} {sizes : NetSizes} {net ts net′ : List ℕ} {s : Settled} → settling.Settling k 0 sizes net ts → NetKept (sizes .inputs) (sizes .gates) net net′
+    → LeastOf k (netIn (arraysOf sizes net ts)) s → s .refusal ≤ 0 → Judging k sizes net′ ts (s .period)
+least-judging {k} {sizes} {net} {ts} {s = s} g q l h =
     let u = cover-settled (l .settled) h in
-    record { settling = g; passed = u .passed; least = subst (LeastPeriod (netIn (arraysOf w)) k) (l .period) (u .cover .least refl) }
+    let e = settling-same g q in
+    record {
+      settling = settling-kept g q;
+      passed = subst (λ (N : Net). Passed N k) (sym e) (u .passed);
+      least = subst (λ (N : Net). LeastPeriod N k (s .period)) (sym e) (subst (LeastPeriod (netIn (arraysOf sizes net ts)) k) (l .period) (u .cover .least refl));
+    }
 
-module _ {k : ℕ} {w : Wiring} {least : ℕ} (j : Judging k w least) where
+-- the answer is that for the net as it was
+pub marks-same : {R : Rules} {k : ℕ} {sizes : NetSizes} {net ts net′ bytes : List ℕ} {y : Answer} → settling.Settling k 0 sizes net ts → NetKept (sizes .inputs) (sizes .gates) net net′
+    → MarksNet R k (netIn (arraysOf sizes net′ ts)) bytes y → MarksNet R k (netIn (arraysOf sizes net ts)) bytes y
+marks-same {R} {k} {bytes = bytes} {y = y} g q m = subst (λ (N : Net). MarksNet R k N bytes y) (settling-same g q) m
+
+module _ {k : ℕ} {sizes : NetSizes} {net ts : List ℕ} {least : ℕ} (j : Judging k sizes net ts least) where
   abbrev N : Net
-  N = netIn (arraysOf w)
+  N = netIn (arraysOf sizes net ts)
 
   -- **13**
-  pub judged-broken : (R : Rules) (bytes : List ℕ) → coverReader R N k bytes ≡ refused 13 → MarksNet R k w bytes (turnedBack 13)
+  pub judged-broken : (R : Rules) (bytes : List ℕ) → coverReader R N k bytes ≡ refused 13 → MarksNet R k N bytes (turnedBack 13)
   unfolding markRead
   judged-broken R bytes e = net-marks R bytes (j .passed) (omega arith) (λ Q. ap (markRead N k Q) e)
 
   module _ (c : Candidate) where
     -- what 14 and 15 tell of the record
-    pub cut-as : {r : ℕ} → CutsTold (w .inputs) (w .gates) (w .pins) (w .sources) (w .counts) (w .tables) (c .roots) (c .sizes) (c .nodes) (c .backs) (c .tables) k (c .luts) r
-        → CutAs N k ((recordOf c) .entries) r
-    cut-as t = t .tells N (netIn-wired (arraysOf w)) (tabled-netIn (arraysOf w)) (ranked (j .passed .reached)) (j .passed .loopless) (c .lags)
+    pub cut-as : {r : ℕ} → CutsToldOf sizes net ts k c r → CutAs N k ((recordOf c) .entries) r
+    cut-as t = t .tells N (netIn-wired (arraysOf sizes net ts)) (tabled-netIn (arraysOf sizes net ts)) (ranked (j .passed .reached)) (j .passed .loopless) (c .lags)
 
     -- what 16, 17 and 18 tell of it
-    pub linked-as : {r : ℕ} → LinksTold (w .inputs) (w .gates) (w .outs) (w .delays) (w .outputs) (c .roots) (c .sizes) (c .nodes) (c .backs) (c .lags) (c .luts) (c .period) r
-        → LinkedAs N ((recordOf c) .period) ((recordOf c) .entries) r
-    linked-as t = t .tells N (inputs-netIn (arraysOf w)) (size-netIn (arraysOf w)) (outputs-netIn (arraysOf w)) (c .tables)
+    pub linked-as : {r : ℕ} → LinksToldOf sizes net c r → LinkedAs N ((recordOf c) .period) ((recordOf c) .entries) r
+    linked-as t = t .tells N (inputs-netIn (arraysOf sizes net ts)) (size-netIn (arraysOf sizes net ts)) (outputs-netIn (arraysOf sizes net ts)) (c .tables)
 
-    read-marks : {y : Answer} → InRange y → ((Q : Passed N k) → markRead N k Q (got (recordOf c) []) ≡ y) → MarksRead k w c y
+    read-marks : {y : Answer} → InRange y → ((Q : Passed N k) → markRead N k Q (got (recordOf c) []) ≡ y) → MarksRead k N c y
     read-marks h f = record { marks = λ R bytes e. net-marks R bytes (j .passed) h (λ Q. ap (markRead N k Q) e ∙ f Q) }
 
     -- **14, 15**
-    pub judged-cuts : {r n : ℕ} → CutAs N k ((recordOf c) .entries) r → 0 < r → n ≡ r → MarksRead k w c (turnedBack n)
-    judged-cuts {r} t h e = subst (λ (x : ℕ). MarksRead k w c (turnedBack x)) (sym e) (read-marks (cuts-small (recordOf c) t) (λ Q. read-cuts Q (recordOf c) t h))
+    pub judged-cuts : {r n : ℕ} → CutAs N k ((recordOf c) .entries) r → 0 < r → n ≡ r → MarksRead k N c (turnedBack n)
+    judged-cuts {r} t h e = subst (λ (x : ℕ). MarksRead k N c (turnedBack x)) (sym e) (read-marks (cuts-small (recordOf c) t) (λ Q. read-cuts Q (recordOf c) t h))
 
     -- **16, 17, 18**
-    pub judged-links : {m r n : ℕ} → CutAs N k ((recordOf c) .entries) m → m ≤ 0 → LinkedAs N ((recordOf c) .period) ((recordOf c) .entries) r → 0 < r → n ≡ r → MarksRead k w c (turnedBack n)
-    judged-links t z l h e = subst (λ (x : ℕ). MarksRead k w c (turnedBack x)) (sym e) (read-marks (links-small (recordOf c) l) (λ Q. read-links Q (recordOf c) (cuts-sure (recordOf c) t z) l h))
+    pub judged-links : {m r n : ℕ} → CutAs N k ((recordOf c) .entries) m → m ≤ 0 → LinkedAs N ((recordOf c) .period) ((recordOf c) .entries) r → 0 < r → n ≡ r → MarksRead k N c (turnedBack n)
+    judged-links t z l h e = subst (λ (x : ℕ). MarksRead k N c (turnedBack x)) (sym e) (read-marks (links-small (recordOf c) l) (λ Q. read-links Q (recordOf c) (cuts-sure (recordOf c) t z) l h))
 
     module _ {m r : ℕ} (t : CutAs N k ((recordOf c) .entries) m) (z : m ≤ 0) (l : LinkedAs N ((recordOf c) .period) ((recordOf c) .entries) r) (z′ : r ≤ 0) where
       -- the excess is not below 0
@@ -122,17 +132,17 @@ module _ {k : ℕ} {w : Wiring} {least : ℕ} (j : Judging k w least) where
           subst (λ (x : ℕ). x ≤ c .period) (leastPeriod-unique (leastPeriod-is (j .passed)) (j .least)) (excess-is (j .passed) h v (b .short))
 
       -- **the excess**
-      pub judged-right : c .period ≤ mostPeriod → MarksRead k w c (accepted (c .period - least))
+      pub judged-right : c .period ≤ mostPeriod → MarksRead k N c (accepted (c .period - least))
       judged-right h = read-marks (omega arith)
           (λ Q. read-right Q (recordOf c) (cuts-sure (recordOf c) t z) (links-sure (recordOf c) l z′) ∙ ap (λ (x : ℕ). accepted (c .period - x)) (leastPeriod-unique (leastPeriod-is Q) (j .least)))
 
 -- ---- what the checks are asked
 
-module _ {k : ℕ} {w : Wiring} {c : Candidate} (h : HeldFor k w c) (l : Lengths w) where
-  pub held-cutting : Cutting (w .inputs) (w .gates) (w .pins) (w .sources) (w .counts) (w .tables) (c .roots) (c .sizes) (c .nodes) (c .backs) k (c .luts)
+module _ {k : ℕ} {sizes : NetSizes} {net ts : List ℕ} {c : Candidate} (h : HeldFor k sizes net ts c) where
+  pub held-cutting : Cutting (sizes .inputs) (sizes .gates) net (drop (sourcesAt (sizes .gates)) net) (drop (countsAt (sizes .gates)) net) ts (c .roots) (c .sizes) (c .nodes) (c .backs) k (c .luts)
   held-cutting = record {
-    wires = net-wires (h .settling .facts) l;
-    atTables = let a = h .settling .facts .gates-high in let b = l .atTables in omega arith;
+    wires = net-wires (h .settling .facts) (h .settling .room);
+    atTables = h .settling .room .tabled;
     few = h .settling .high;
     atRoots = h .well .atRoots;
     atSizes = h .well .atSizes;
@@ -144,18 +154,20 @@ module _ {k : ℕ} {w : Wiring} {c : Candidate} (h : HeldFor k w c) (l : Lengths
     rising = h .well .rising;
   }
 
-  pub held-linking : Linking (w .inputs) (w .gates) (w .outs) (w .delays) (w .outputs) (c .roots) (c .sizes) (c .nodes) (c .backs) (c .lags) (c .luts) (c .period)
+  pub held-linking : Linking (sizes .inputs) (sizes .gates) (drop (outsAt (sizes .inputs) (sizes .gates)) net) (drop (delaysAt (sizes .inputs) (sizes .gates) (sizes .outputs)) net) (sizes .outputs)
+      (c .roots) (c .sizes) (c .nodes) (c .backs) (c .lags) (c .luts) (c .period)
   held-linking = record {
     luts = wellHeld-wired (heldOf c) (h .well) (h .settling .facts .inputs-high) (h .settling .facts .gates-high) (h .settling .high) (h .few);
     limit = h .high;
-    atOuts = let a = h .settling .facts .outputs-high in let b = l .atOuts in omega arith;
-    atDelays = let a = h .settling .facts .outputs-high in let b = l .atDelays in omega arith;
+    atOuts = length-part net (outsAt (sizes .inputs) (sizes .gates)) (sizes .outputs) (omega (arith, h .settling .room .packed));
+    atDelays = length-part net (delaysAt (sizes .inputs) (sizes .gates) (sizes .outputs)) (sizes .outputs) (omega (arith, h .settling .room .packed));
     out = h .settling .facts .out-source;
     delay = h .settling .facts .out-count;
   }
 
 -- a record that was read is held
-pub read-held : {R : Rules} {k : ℕ} {w : Wiring} {c : Candidate} {bytes : List ℕ} → Offered R → settling.Settling k 0 w → CoverRead R bytes (w .inputs) (w .gates) k c → c .fine ≡ true → HeldFor k w c
+pub read-held : {R : Rules} {k : ℕ} {sizes : NetSizes} {net ts : List ℕ} {c : Candidate} {bytes : List ℕ} → Offered R → settling.Settling k 0 sizes net ts
+    → CoverRead R bytes (sizes .inputs) (sizes .gates) k c → c .fine ≡ true → HeldFor k sizes net ts c
 read-held o g r e =
     let most = offered-within o in
     let high = r .highPeriod e in

@@ -4,17 +4,20 @@ use cover_links::check_links;
 use cover_reader::Candidate;
 use cover_reader::read_cover;
 use inputs::narrow;
+use limits::PINS;
 use limits::Rules;
-use net_reader::Wiring;
+use net_reader::NetSizes;
+use net_reader::delays_at;
+use net_reader::outs_at;
 ghost use Prim.Native.Nat.{_≤_};
 ghost use lib.ListN.{length};
 ghost use Rattle.limits.specs.Courses.{Offered};
 ghost use Rattle.limits.specs.Limits.{mostTable};
+ghost use Rattle.net_model.specs.Arrays.{netIn};
+ghost use Rattle.net_reader.specs.ReadAnswer.{arraysOf};
 ghost use Rattle.cone_descent.specs.Descent.{Clear};
-ghost use Rattle.cover_cuts.specs.Cuts.{CutsTold};
-ghost use Rattle.cover_links.specs.Links.{LinksTold};
 ghost use Rattle.job_judge.specs.MarkAnswers.{answerOf};
-ghost use Rattle.job_judge.specs.JudgeMarking.{HeldFor, Judging, MarksNet, MarksRead};
+ghost use Rattle.job_judge.specs.JudgeMarking.{HeldFor, Judging, CutsToldOf, LinksToldOf, MarksNet, MarksRead};
 
 // The excess, or the number of the refusal.
 pub enum Grade {
@@ -23,28 +26,33 @@ pub enum Grade {
 }
 
 // Checks 14 and 15: 0, or the number of the first that fails.
-fn judge_luts(net: Wiring, c: Candidate, k: usize, work: &mut [u8]) -> usize
-    requires { ⌜ HeldFor k net c ⌝ }
+fn judge_luts(
+    z: NetSizes,
+    net: &[usize],
+    tables: &[u64],
+    c: Candidate,
+    k: usize,
+    work: &mut [u8],
+) -> usize
+    requires { ⌜ HeldFor k z (now net) (now tables) c ⌝ }
     requires { ⌜ (mostTable ≤ length (now work)) × Clear (now work) ⌝ }
-    ensures { λ r. ⌜ CutsTold (net .inputs) (net .gates) (net .pins) (net .sources) (net .counts) (net .tables) (c .roots) (c .sizes) (c .nodes) (c .backs) (c .tables) k (c .luts) r ⌝ }
+    ensures { λ r. ⌜ CutsToldOf z (now (net .entry)) (now (tables .entry)) k c r ⌝ }
     ensures { λ _. ⌜ Clear (now (work .exit)) ⌝ }
 {
-    let pins = net.pins;
-    let sources = net.sources;
-    let counts = net.counts;
-    let tables = net.tables;
+    let a = 2 * z.gates;
+    let b = (2 + PINS) * z.gates;
     let roots = c.roots;
     let sizes = c.sizes;
     let nodes = c.nodes;
     let backs = c.backs;
     let luts = c.tables;
     check_luts(
-        net.inputs,
-        net.gates,
-        &pins,
-        &sources,
-        &counts,
-        &tables,
+        z.inputs,
+        z.gates,
+        net,
+        &net[a..],
+        &net[b..],
+        tables,
         &roots,
         &sizes,
         &nodes,
@@ -57,23 +65,23 @@ fn judge_luts(net: Wiring, c: Candidate, k: usize, work: &mut [u8]) -> usize
 }
 
 // Checks 16, 17 and 18: 0, or the number of the first that fails.
-fn judge_links(net: Wiring, c: Candidate, k: usize) -> usize
-    requires { ⌜ HeldFor k net c ⌝ }
-    ensures { λ r. ⌜ LinksTold (net .inputs) (net .gates) (net .outs) (net .delays) (net .outputs) (c .roots) (c .sizes) (c .nodes) (c .backs) (c .lags) (c .luts) (c .period) r ⌝ }
+fn judge_links(z: NetSizes, net: &[usize], tables: &[u64], c: Candidate, k: usize) -> usize
+    requires { ⌜ HeldFor k z (now net) (now tables) c ⌝ }
+    ensures { λ r. ⌜ LinksToldOf z (now (net .entry)) c r ⌝ }
 {
-    let outs = net.outs;
-    let delays = net.delays;
+    let o = outs_at(z, net);
+    let d = delays_at(z, net);
     let roots = c.roots;
     let sizes = c.sizes;
     let nodes = c.nodes;
     let backs = c.backs;
     let lags = c.lags;
     check_links(
-        net.inputs,
-        net.gates,
-        &outs,
-        &delays,
-        net.outputs,
+        z.inputs,
+        z.gates,
+        &net[o..],
+        &net[d..],
+        z.outputs,
         &roots,
         &sizes,
         &nodes,
@@ -85,17 +93,25 @@ fn judge_links(net: Wiring, c: Candidate, k: usize) -> usize
 }
 
 // Checks 14 to 18 of a record that keeps the layout, and its excess over the least period.
-fn judge_read(net: Wiring, c: Candidate, k: usize, least: usize, work: &mut [u8]) -> Grade
-    requires { ⌜ Judging k net least × HeldFor k net c ⌝ }
+fn judge_read(
+    z: NetSizes,
+    net: &[usize],
+    tables: &[u64],
+    c: Candidate,
+    k: usize,
+    least: usize,
+    work: &mut [u8],
+) -> Grade
+    requires { ⌜ Judging k z (now net) (now tables) least × HeldFor k z (now net) (now tables) c ⌝ }
     requires { ⌜ (mostTable ≤ length (now work)) × Clear (now work) ⌝ }
-    ensures { λ r. ⌜ MarksRead k net c (answerOf r) ⌝ }
+    ensures { λ r. ⌜ MarksRead k (netIn (arraysOf z (now (net .entry)) (now (tables .entry)))) c (answerOf r) ⌝ }
     ensures { λ _. ⌜ Clear (now (work .exit)) ⌝ }
 {
-    let l = judge_luts(net, c, k, work);
+    let l = judge_luts(z, net, tables, c, k, work);
     if l > 0 {
         return Grade::Refused(narrow(l));
     }
-    let q = judge_links(net, c, k);
+    let q = judge_links(z, net, tables, c, k);
     if q > 0 {
         return Grade::Refused(narrow(q));
     }
@@ -104,7 +120,9 @@ fn judge_read(net: Wiring, c: Candidate, k: usize, least: usize, work: &mut [u8]
 
 // Checks 13 to 18 of a record, and its excess over the least period.
 pub fn judge(
-    net: Wiring,
+    z: NetSizes,
+    net: &[usize],
+    tables: &[u64],
     k: usize,
     cover: &[u8],
     least: usize,
@@ -112,14 +130,14 @@ pub fn judge(
     work: &mut [u8],
 ) -> Grade
     requires { ⌜ Offered rules ⌝ }
-    requires { ⌜ Judging k net least ⌝ }
+    requires { ⌜ Judging k z (now net) (now tables) least ⌝ }
     requires { ⌜ (mostTable ≤ length (now work)) × Clear (now work) ⌝ }
-    ensures { λ r. ⌜ MarksNet rules k net (now (cover .entry)) (answerOf r) ⌝ }
+    ensures { λ r. ⌜ MarksNet rules k (netIn (arraysOf z (now (net .entry)) (now (tables .entry)))) (now (cover .entry)) (answerOf r) ⌝ }
     ensures { λ _. ⌜ Clear (now (work .exit)) ⌝ }
 {
-    let c = read_cover(cover, net.inputs, net.gates, k, rules);
+    let c = read_cover(cover, z.inputs, z.gates, k, rules);
     if c.fine {
-        return judge_read(net, c, k, least, work);
+        return judge_read(z, net, tables, c, k, least, work);
     }
     Grade::Refused(13)
 }

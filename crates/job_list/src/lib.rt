@@ -7,20 +7,25 @@ use job_sizes::check_sizes;
 use limits::AREA;
 use limits::GATES;
 use limits::NODES;
+use limits::PACKED;
 use limits::PLACES;
 use limits::SCRATCH;
 use limits::TABLE;
 use limits::TEXT;
 use limits::long_course;
 use net_fields::Verdict;
-use net_reader::Wiring;
+use net_reader::NetSizes;
+use net_reader::delays_at;
+use net_reader::outs_at;
 use net_reader::read_net;
 use text_digits::write_refusal;
 use text_listing::write_text;
 ghost use mathlib.Core.Path.{_≡_};
 ghost use Prim.Native.Nat.{_≤_, _<_};
 ghost use lib.ListN.{length, getD, drop};
+ghost use Rattle.net_model.specs.Arrays.{netIn};
 ghost use Rattle.net_bytes.specs.Walk.{rest};
+ghost use Rattle.net_reader.specs.ReadAnswer.{arraysOf};
 ghost use Rattle.cover_records.specs.Outcomes.{checkNet};
 ghost use Rattle.cover_records.specs.Program.{listChecked, listing, listingProgram};
 ghost use Rattle.cover_writer.specs.Writing.{Wrote};
@@ -30,19 +35,32 @@ ghost use Rattle.job_sizes.specs.Sizes.{Fit};
 ghost use Rattle.job_list.specs.Asked.{Listing, ListsNet};
 
 // Checks 9 to 12 and the cover of a net read.
-fn list_read(net: Wiring, k: usize, target: usize, out: &mut [u8]) -> usize
-    requires { ⌜ Listing k target net (now out) ⌝ }
-    ensures { λ r. ⌜ ListsNet k target net (now (out .entry)) (now (out .exit)) r ⌝ }
+fn list_read(
+    z: NetSizes,
+    net: &mut [usize],
+    tables: &[u64],
+    k: usize,
+    target: usize,
+    out: &mut [u8],
+) -> usize
+    requires { ⌜ Listing k target z (now net) (now tables) (now out) ⌝ }
+    ensures { λ r. ⌜ ListsNet k target (netIn (arraysOf z (now (net .entry)) (now (tables .entry)))) (now (out .entry)) (now (out .exit)) r ⌝ }
 {
     let mut work = [0u8; TABLE];
+    let mut seen = [0usize; GATES];
+    let mut noted = [0usize; GATES];
     let mut labels = [0i64; NODES];
     let mut marks = [0usize; GATES];
     let mut sizes = [0usize; GATES];
     let mut nodes = [0usize; PLACES];
     let mut backs = [0usize; PLACES];
-    let mut tables = [0u64; GATES];
+    let mut luts = [0u64; GATES];
     let s = settle(
+        z,
         net,
+        tables,
+        &mut seen,
+        &mut noted,
         k,
         target,
         &mut work,
@@ -51,42 +69,45 @@ fn list_read(net: Wiring, k: usize, target: usize, out: &mut [u8]) -> usize
         &mut sizes,
         &mut nodes,
         &mut backs,
-        &mut tables,
+        &mut luts,
     );
     let refusal = s.refusal;
     if refusal > 0 {
         return write_refusal(refusal, out);
     }
-    let outs = net.outs;
-    let delays = net.delays;
+    let held = &net[..];
+    let o = outs_at(z, held);
+    let d = delays_at(z, held);
     write_text(
-        net.inputs,
-        net.gates,
+        z.inputs,
+        z.gates,
         s.period,
         &labels,
         &marks,
         &sizes,
         &nodes,
         &backs,
-        &tables,
-        &outs,
-        &delays,
-        net.outputs,
+        &luts,
+        &held[o..],
+        &held[d..],
+        z.outputs,
         out,
     )
 }
 
-// Checks 4 to 12 and the cover.
-fn list_net(net: &[u8], k: u32, target: u32, out: &mut [u8]) -> usize
+// Checks 4 to 12 and the cover, with arrays for a net within the limits.
+fn list_net(bytes: &[u8], k: u32, target: u32, out: &mut [u8]) -> usize
     requires { ⌜ Fit long k target coverArea scratchArea × (textRoom ≤ length (now out)) ⌝ }
-    ensures { λ r. ⌜ Wrote (listChecked k target (checkNet long k (now (net .entry)))) (now (out .entry)) (now (out .exit)) r ⌝ }
+    ensures { λ r. ⌜ Wrote (listChecked k target (checkNet long k (now (bytes .entry)))) (now (out .entry)) (now (out .exit)) r ⌝ }
 {
-    let w = read_net(net, k, long_course());
-    let v = w.verdict;
+    let mut net = [0usize; PACKED];
+    let mut tables = [0u64; GATES];
+    let read = read_net(bytes, k, long_course(), &mut net, &mut tables);
+    let v = read.verdict;
     if let Verdict::Refused(n) = v {
         return write_refusal(wide(n), out);
     }
-    list_read(w.net, word(k), word(target), out)
+    list_read(read.sizes, &mut net, &tables, word(k), word(target), out)
 }
 
 // All checks and the cover.

@@ -5,6 +5,7 @@ use Prim.Native.Nat.{ℕ, _<_}
 use lib.ListN.{length}
 use Rattle.net_model.specs.Net.{Net}
 use Rattle.net_model.specs.Arrays.{netIn}
+use Rattle.limits.specs.Limits.{mostGates, mostPacked}
 use Rattle.limits.specs.Courses.{Offered}
 use Rattle.limits.specs.CourseLaws.{offered-within}
 use Rattle.limits.specs.declared.Rules.{Rules}
@@ -17,28 +18,34 @@ use Rattle.net_fields.specs.declared.Verdict.{Verdict}
 use Rattle.net_fields.specs.declared.Verdict.the-variants.{Read, Refused}
 use Rattle.net_reader.specs.ReadAnswer.{arraysOf, resultOf}
 use Rattle.net_reader.specs.WalkFacts.{read-gives, read-facts}
-use Rattle.net_reader.specs.declared.Walk.{Walk}
+use Rattle.net_reader.specs.ReadWires.{room-read}
+use Rattle.net_reader.specs.declared.NetRead.{NetRead}
 use Rattle.job_sizes.specs.Sizes.{Fit}
 use Rattle.job_sizes.specs.SizeLaws.{fit-within}
 use Rattle.job_settle.specs.Settling.{Settling}
 use Rattle.job_record.specs.Mapping.{Mapping, MapsTo, MapsNet}
 use Rattle.job_record.specs.MapOutcomeLaws.{maps-refused}
 
-module _ (R : Rules) (k target : ℕ) (net : List ℕ) (r : Walk) (e : netReader R k net ≡ resultOf r) where
+module _ (R : Rules) (k target : ℕ) (bytes : List ℕ) (r : NetRead) (net ts : List ℕ) (e : netReader R k bytes ≡ resultOf r net ts) where
+  abbrev N : Net
+  N = netIn (arraysOf (r .sizes) net ts)
+
   -- **refusals 4 to 8**
-  pub walk-refused : (area : List ℕ) {n : ℕ} → n < 256 → r .verdict ≡ Refused n → MapsTo R k target net area area (turnedBack n)
-  walk-refused area {n} h v = maps-refused R k target n net area h (e ∙ ap (λ (x : Verdict). outcome x (netIn (arraysOf (r .net))) []) v)
+  pub walk-refused : (area : List ℕ) {n : ℕ} → n < 256 → r .verdict ≡ Refused n → MapsTo R k target bytes area area (turnedBack n)
+  walk-refused area {n} h v = maps-refused R k target n bytes area h (e ∙ ap (λ (x : Verdict). outcome x N []) v)
 
   module _ (offered : Offered R) (v : r .verdict ≡ Read) {k′ target′ : ℕ} (a : k′ ≡ k) (b : target′ ≡ target) where
-    pub walk-mapping : {area work : List ℕ} → Fit R k target (length area) (length work) → Mapping k′ target′ (r .net) area work
-    walk-mapping {area} {work} fit =
+    pub walk-mapping : {area work : List ℕ} → length net ≡ mostPacked → length ts ≡ mostGates → Fit R k target (length area) (length work) → Mapping k′ target′ (r .sizes) net ts area work
+    walk-mapping {area} {work} ln lt fit =
         let f = fit-within (offered-within offered) fit in
-        let gives = read-gives R k net r e v in
-        subst₂ (λ (x y : ℕ). Mapping x y (r .net) area work) (sym a) (sym b) (record {
+        let gives = read-gives R k bytes r net ts e v in
+        let facts = read-facts R k bytes r net ts e v offered in
+        subst₂ (λ (x y : ℕ). Mapping x y (r .sizes) net ts area work) (sym a) (sym b) (record {
           settling = record {
-            facts = read-facts R k net r e v offered;
-            sound = walk-sound R k net (netIn (arraysOf (r .net))) [] gives;
-            fits = walk-fits R k net (netIn (arraysOf (r .net))) [] gives;
+            facts = facts;
+            room = room-read facts ln lt;
+            sound = walk-sound R k bytes N [] gives;
+            fits = walk-fits R k bytes N [] gives;
             low = f .low;
             high = f .high;
             near = f .near;
@@ -47,5 +54,5 @@ module _ (R : Rules) (k target : ℕ) (net : List ℕ) (r : Walk) (e : netReader
           space = f .space;
         })
 
-    pub walk-maps : {area area′ : List ℕ} {answer : Answer} → MapsNet k′ target′ (r .net) area area′ answer → MapsTo R k target net area area′ answer
-    walk-maps {area} {area′} {answer} m = subst₂ (λ (x y : ℕ). MapsNet x y (r .net) area area′ answer) a b m .maps R offered net (read-gives R k net r e v)
+    pub walk-maps : {area area′ : List ℕ} {answer : Answer} → MapsNet k′ target′ N area area′ answer → MapsTo R k target bytes area area′ answer
+    walk-maps {area} {area′} {answer} m = subst₂ (λ (x y : ℕ). MapsNet x y N area area′ answer) a b m .maps R offered bytes (read-gives R k bytes r net ts e v)

@@ -4,6 +4,8 @@ use job_record::Answer;
 use job_record::map_read;
 use job_scratch::clear_first;
 use job_sizes::check_sizes;
+use limits::GATES;
+use limits::PACKED;
 use limits::Rules;
 use limits::long_course;
 use limits::short_course;
@@ -17,9 +19,9 @@ ghost use Rattle.job_sizes.specs.Sizes.{Fit};
 ghost use Rattle.job_record.specs.MapAnswers.{answerOf, InRange};
 ghost use Rattle.job_record.specs.Mapping.{MapsTo};
 
-// Checks 4 to 12 and the cover.
+// Checks 4 to 12 and the cover, with arrays for a net within the limits.
 fn map_bytes(
-    net: &[u8],
+    bytes: &[u8],
     k: u32,
     target: u32,
     area: &mut [u8],
@@ -28,14 +30,24 @@ fn map_bytes(
 ) -> Answer
     requires { ⌜ Offered rules ⌝ }
     requires { ⌜ Fit rules k target (length (now area)) (length (now work)) ⌝ }
-    ensures { λ r. ⌜ MapsTo rules k target (now (net .entry)) (now (area .entry)) (now (area .exit)) (answerOf r) ⌝ }
+    ensures { λ r. ⌜ MapsTo rules k target (now (bytes .entry)) (now (area .entry)) (now (area .exit)) (answerOf r) ⌝ }
 {
-    let w = read_net(net, k, rules);
-    let v = w.verdict;
+    let mut net = [0usize; PACKED];
+    let mut tables = [0u64; GATES];
+    let read = read_net(bytes, k, rules, &mut net, &mut tables);
+    let v = read.verdict;
     if let Verdict::Refused(n) = v {
         return Answer::Refused(n);
     }
-    map_read(w.net, word(k), word(target), area, work)
+    map_read(
+        read.sizes,
+        &mut net,
+        &tables,
+        word(k),
+        word(target),
+        area,
+        work,
+    )
 }
 
 // Map under rules, for every input.

@@ -9,35 +9,46 @@ use job_settle::settle;
 use job_sizes::check_sizes;
 use limits::GATES;
 use limits::NODES;
+use limits::PACKED;
 use limits::PLACES;
 use limits::Rules;
 use limits::TABLE;
 use limits::long_course;
 use limits::short_course;
 use net_fields::Verdict;
-use net_reader::Wiring;
+use net_reader::NetSizes;
 use net_reader::read_net;
 ghost use mathlib.Core.Path.{_≡_};
 ghost use lib.ListN.{length};
 ghost use Rattle.limits.specs.Courses.{long, short, Offered};
+ghost use Rattle.net_model.specs.Arrays.{netIn};
+ghost use Rattle.net_model.specs.PackedNet.{NetKept};
+ghost use Rattle.net_reader.specs.ReadAnswer.{arraysOf};
 ghost use Rattle.cover_records.specs.Outcomes.{markOutcome};
 ghost use Rattle.job_sizes.specs.Sizes.{Fit};
 ghost use Rattle.job_judge.specs.MarkAnswers.{answerOf, InRange};
 ghost use Rattle.job_judge.specs.JudgeMarking.{Marking, MarksTo, MarksNet, LeastOf};
 
 // Checks 9 to 11 and the least period of a net read, with the engine's table in work.
-fn least_of(net: Wiring, k: usize, work: &mut [u8]) -> Settled
-    requires { ⌜ Marking k net (now work) ⌝ }
-    ensures { λ r. ⌜ LeastOf k net r ⌝ }
+fn least_of(z: NetSizes, net: &mut [usize], tables: &[u64], k: usize, work: &mut [u8]) -> Settled
+    requires { ⌜ Marking k z (now net) (now tables) (now work) ⌝ }
+    ensures { λ r. ⌜ LeastOf k (netIn (arraysOf z (now (net .entry)) (now (tables .entry)))) r ⌝ }
+    ensures { λ _. ⌜ NetKept (z .inputs) (z .gates) (now (net .entry)) (now (net .exit)) ⌝ }
 {
+    let mut seen = [0usize; GATES];
+    let mut noted = [0usize; GATES];
     let mut labels = [0i64; NODES];
     let mut marks = [0usize; GATES];
     let mut sizes = [0usize; GATES];
     let mut nodes = [0usize; PLACES];
     let mut backs = [0usize; PLACES];
-    let mut tables = [0u64; GATES];
+    let mut luts = [0u64; GATES];
     settle(
+        z,
         net,
+        tables,
+        &mut seen,
+        &mut noted,
         k,
         0,
         work,
@@ -46,38 +57,48 @@ fn least_of(net: Wiring, k: usize, work: &mut [u8]) -> Settled
         &mut sizes,
         &mut nodes,
         &mut backs,
-        &mut tables,
+        &mut luts,
     )
 }
 
 // Checks 9 to 18 of a net read.
-fn mark_read(net: Wiring, k: usize, cover: &[u8], work: &mut [u8], rules: Rules) -> Grade
+fn mark_read(
+    z: NetSizes,
+    net: &mut [usize],
+    tables: &[u64],
+    k: usize,
+    cover: &[u8],
+    work: &mut [u8],
+    rules: Rules,
+) -> Grade
     requires { ⌜ Offered rules ⌝ }
-    requires { ⌜ Marking k net (now work) ⌝ }
-    ensures { λ r. ⌜ MarksNet rules k net (now (cover .entry)) (answerOf r) ⌝ }
+    requires { ⌜ Marking k z (now net) (now tables) (now work) ⌝ }
+    ensures { λ r. ⌜ MarksNet rules k (netIn (arraysOf z (now (net .entry)) (now (tables .entry)))) (now (cover .entry)) (answerOf r) ⌝ }
 {
-    let s = least_of(net, k, work);
+    let s = least_of(z, net, tables, k, work);
     let refusal = s.refusal;
     if refusal > 0 {
         return Grade::Refused(narrow(refusal));
     }
     let end = TABLE;
     clear_first(work, end);
-    judge(net, k, cover, s.period, rules, &mut work[..end])
+    judge(z, net, tables, k, cover, s.period, rules, &mut work[..end])
 }
 
-// Checks 4 to 18.
-fn mark_bytes(net: &[u8], k: u32, cover: &[u8], work: &mut [u8], rules: Rules) -> Grade
+// Checks 4 to 18, with arrays for a net within the limits.
+fn mark_bytes(bytes: &[u8], k: u32, cover: &[u8], work: &mut [u8], rules: Rules) -> Grade
     requires { ⌜ Offered rules ⌝ }
     requires { ⌜ Fit rules k 0 (rules .area) (length (now work)) ⌝ }
-    ensures { λ r. ⌜ MarksTo rules k (now (net .entry)) (now (cover .entry)) (answerOf r) ⌝ }
+    ensures { λ r. ⌜ MarksTo rules k (now (bytes .entry)) (now (cover .entry)) (answerOf r) ⌝ }
 {
-    let w = read_net(net, k, rules);
-    let v = w.verdict;
+    let mut net = [0usize; PACKED];
+    let mut tables = [0u64; GATES];
+    let read = read_net(bytes, k, rules, &mut net, &mut tables);
+    let v = read.verdict;
     if let Verdict::Refused(n) = v {
         return Grade::Refused(n);
     }
-    mark_read(w.net, word(k), cover, work, rules)
+    mark_read(read.sizes, &mut net, &tables, word(k), cover, work, rules)
 }
 
 // Mark under rules, for every input.

@@ -29,17 +29,17 @@ use Rattle.cover_roots.specs.Choosing.{Keyed, RootsTold}
 use Rattle.cone_luts.specs.Luts.{Tabulated}
 use Rattle.job_plan.specs.Found.{PeriodFound}
 use Rattle.job_plan.specs.Entries.{rootsFrom, entries-roots, roots-in, in-roots, roots-rising}
-use Rattle.job_plan.specs.Planned.{Covered, Planned, CoverTold}
+use Rattle.job_plan.specs.Planned.{Covered, Planned, topsOf, outsOf, delaysOf, CoverTold}
 
 -- the labels of a key are those that it was made of
 key-label : {N : Net} {k φ : ℕ} (P : Passed N k) (r : Reachable N k φ) (u : ℕ) → keyOf P r .label u ≡ r .label u
 unfolding keyOf
 key-label P r u = refl
 
-module _ {s : Extent} {net ts os oc : List ℕ} {n : ℕ} {tops : List ℕ} {k target : ℕ} {ls : List ℤ} {marks sizes nodes backs luts : List ℕ} where
+module _ {s : Extent} {n : ℕ} {net ts : List ℕ} {k target : ℕ} {ls : List ℤ} {marks sizes nodes backs luts : List ℕ} where
   -- the target is not reachable
-  pub told-none : {r : ℕ} → PeriodFound (wiring s net) k target tops os oc n ls r → r ≡ 0
-      → CoverTold s net ts os oc n tops k target (kept (s .inputs) (s .gates) 0 ls marks sizes nodes backs luts)
+  pub told-none : {r : ℕ} → PeriodFound (wiring s net) k target (topsOf s net) (outsOf s net) (delaysOf s n net) n ls r → r ≡ 0
+      → CoverTold s n net ts k target (kept (s .inputs) (s .gates) 0 ls marks sizes nodes backs luts)
   told-none f e = record {
     cover = λ N S P T o. record {
       none = λ z. (f .none e .0, f .none e .1 N S o);
@@ -148,13 +148,14 @@ module _ {s : Extent} {net os oc : List ℕ} {n : ℕ} {tops : List ℕ} {k targ
         few = few-leaves;
       }
 
-  -- **the cover**
-  pub told-cover : {ts luts : List ℕ} {r : ℕ} → k ≤ stride → PeriodFound (wiring s net) k target tops os oc n ls r → ¬ (r ≡ 0)
-      → RootsTold (wiring s net) ls os n r k marks sizes nodes backs → Tabulated (s .inputs) (s .gates) net (drop (sourcesAt (s .gates)) net) (drop (countsAt (s .gates)) net) ts marks sizes nodes backs luts (s .gates)
-      → CoverTold s net ts os oc n tops k target (kept (s .inputs) (s .gates) r ls marks sizes nodes backs luts)
-  told-cover {luts = luts} six f z told tab = record {
-    cover = λ N S P T o. record {
-      none = λ e. absurd (z e);
-      some = λ h. covered six f h told N S P o luts tab T;
-    };
-  }
+-- **the cover**
+pub told-cover : {s : Extent} {n : ℕ} {net ts : List ℕ} {k target : ℕ} {ls : List ℤ} {marks sizes nodes backs luts : List ℕ} {r : ℕ} → k ≤ stride
+    → PeriodFound (wiring s net) k target (topsOf s net) (outsOf s net) (delaysOf s n net) n ls r → ¬ (r ≡ 0) → RootsTold (wiring s net) ls (outsOf s net) n r k marks sizes nodes backs
+    → Tabulated (s .inputs) (s .gates) net (drop (sourcesAt (s .gates)) net) (drop (countsAt (s .gates)) net) ts marks sizes nodes backs luts (s .gates)
+    → CoverTold s n net ts k target (kept (s .inputs) (s .gates) r ls marks sizes nodes backs luts)
+told-cover {luts = luts} six f z told tab = record {
+  cover = λ N S P T o. record {
+    none = λ e. absurd (z e);
+    some = λ h. covered six f h told N S P o luts tab T;
+  };
+}

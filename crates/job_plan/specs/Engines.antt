@@ -12,14 +12,13 @@ use Rattle.limits.specs.Limits.{mostCopies, mostNodes, mostTable, mostList, mos
 use Rattle.cone_descent.specs.Descent.{Clear}
 use Rattle.cut_circuit.specs.Circuit.{Circuit, total}
 use Rattle.cut_circuit.specs.Packed.{packedOf, sourcesAt, countsAt}
-use Rattle.cut_circuit.specs.PackedLaws.{behind}
 use Rattle.cut_circuit.specs.declared.Extent.{Extent}
 use Rattle.cut_question.specs.Separating.{AtRest}
 use Rattle.label_visit.specs.LabelVisits.{wiring}
 use Rattle.cover_roots.specs.Choosing.{Chooses, RootsTold}
 use Rattle.cone_luts.specs.Luts.{Tabulates}
 use Rattle.job_plan.specs.Found.{PeriodFound}
-use Rattle.job_plan.specs.Planned.{Engine, Roomy}
+use Rattle.job_plan.specs.Planned.{Engine, Roomy, topsOf, outsOf, delaysOf}
 use Rattle.job_plan.specs.Covering.{few-leaves, rising-leaves}
 
 -- ---- the first bytes of a table
@@ -38,21 +37,11 @@ clear-behind (y ∷ x) t n a b (suc q) = clear-behind x t n (λ i. a (suc i)) b 
 pub length-behind : (x t : List ℕ) (n : ℕ) → n ≤ length t → length x ≡ length (take n t) → length (x ++ drop n t) ≡ length t
 length-behind x t n h e = omega (arith, length-append x (drop n t), length-drop n t, length-take-le n t h)
 
--- two parts of the packed slice up to its end
-module _ (P : List ℕ → List ℕ → Type 0) (net : List ℕ) (a b : ℕ) where
-  pub two-parts : P (drop a net) (drop b net) → P (take (length net - a) (drop a net)) (take (length net - b) (drop b net))
-  two-parts h =
-      subst (λ (l : List ℕ). P l (take (length net - b) (drop b net))) (sym (behind net a)) (subst (λ (l : List ℕ). P (drop a net) l) (sym (behind net b)) h)
-
-  pub two-wholes : P (take (length net - a) (drop a net)) (take (length net - b) (drop b net)) → P (drop a net) (drop b net)
-  two-wholes h = subst (λ (l : List ℕ). P l (drop b net)) (behind net a) (subst (λ (l : List ℕ). P (take (length net - a) (drop a net)) l) (behind net b) h)
-
 -- the questions' part, found again
 pub rest-part : {C : Circuit} {x l stk cnt members : List ℕ} (y : List ℕ) → AtRest C x l stk cnt members → AtRest C (take (total C) (x ++ y)) l stk cnt members
 rest-part {C} {x} {l} {stk} {cnt} {members} y r = subst (λ (z : List ℕ). AtRest C z l stk cnt members) (sym (take-at x y (total C) (r .sized .room))) r
 
-module _ {s : Extent} {net ts os oc : List ℕ} {n : ℕ} {tops order : List ℕ} {k target : ℕ} {t : List ℕ} {ls : List ℤ}
-    (e : Engine s net ts os oc n tops order k target t ls) where
+module _ {s : Extent} {n : ℕ} {net ts : List ℕ} {k target : ℕ} {t : List ℕ} {ls : List ℤ} (e : Engine s n net ts k target t ls) where
   -- the questions' part of the table
   part-size : length (take ((s .inputs + s .gates) * s .width) t) ≡ (s .inputs + s .gates) * s .width
   part-size = length-take-le ((s .inputs + s .gates) * s .width) t (let a = e .size in let b = e .fits in omega arith)
@@ -76,8 +65,8 @@ module _ {s : Extent} {net ts os oc : List ℕ} {n : ℕ} {tops order : List ℕ
     cleared = record { zero = clear-take ((s .inputs + s .gates) * s .width) t (e .clear); empty = zeros mostList 0 };
   }
 
-  pub engine-chooses : {marks sizes nodes backs luts : List ℕ} {ls′ : List ℤ} {r : ℕ} → Roomy (s .gates) marks sizes nodes backs luts → PeriodFound (wiring s net) k target tops os oc n ls′ r
-      → Chooses (wiring s net) ls′ os n r k marks sizes nodes backs
+  pub engine-chooses : {marks sizes nodes backs luts : List ℕ} {ls′ : List ℤ} {r : ℕ} → Roomy (s .gates) marks sizes nodes backs luts → PeriodFound (wiring s net) k target (topsOf s net) (outsOf s net) (delaysOf s n net) n ls′ r
+      → Chooses (wiring s net) ls′ (outsOf s net) n r k marks sizes nodes backs
   engine-chooses {r = r} room f = record {
     asking = record {
       labels = f .fine .size;
@@ -98,7 +87,7 @@ module _ {s : Extent} {net ts os oc : List ℕ} {n : ℕ} {tops order : List ℕ
 
   pub engine-tabulates : {marks₀ sizes₀ nodes₀ backs₀ luts₀ marks sizes nodes backs : List ℕ} {ls′ : List ℤ} {r : ℕ} → Roomy (s .gates) marks₀ sizes₀ nodes₀ backs₀ luts₀
       → length marks ≡ length marks₀ → length sizes ≡ length sizes₀ → length nodes ≡ length nodes₀ → length backs ≡ length backs₀
-      → PeriodFound (wiring s net) k target tops os oc n ls′ r → ¬ (r ≡ 0) → RootsTold (wiring s net) ls′ os n r k marks sizes nodes backs
+      → PeriodFound (wiring s net) k target (topsOf s net) (outsOf s net) (delaysOf s n net) n ls′ r → ¬ (r ≡ 0) → RootsTold (wiring s net) ls′ (outsOf s net) n r k marks sizes nodes backs
       → Tabulates (s .inputs) (s .gates) net (drop (sourcesAt (s .gates)) net) (drop (countsAt (s .gates)) net) ts marks sizes nodes backs
   engine-tabulates room a b c d f z told = record {
     wires = e .wires;

@@ -6,5 +6,6 @@ pub mod Planned
 pub mod Entries
 pub mod Covering
 pub mod Engines
+pub mod Lent
 pub mod Ready
 pub mod Mapped

@@ -7,41 +7,41 @@ use native.Mathlib.Decide.{decLt}
 use native.Mathlib.Omega.{arith}
 use lib.IntN.{ℤ, pos}
 use lib.ListN.{length, getD, take, drop, replicate, length-replicate, List·getD-append}
-use lib.Seq.{length-take-le, take-at, getD-take}
+use lib.Seq.{take-at, getD-drop}
 use Rattle.net_model.specs.Net.{Net, Gate}
 use Rattle.net_model.specs.Arrays.{Arrays, stride, pinsIn, gatesIn, netIn}
 use Rattle.net_model.specs.ArrayLaws.{gate-netIn, gateAt, outputs-netIn}
 use Rattle.net_model.specs.Wired.{Wired}
 use Rattle.net_model.specs.WiredLaws.{netIn-wired}
 use Rattle.net_model.specs.Checks.{Passed}
-use Rattle.limits.specs.Limits.{mostBeyond, mostCount, mostGates, mostNodes, mostPeriod, mostPins, mostPlaces, mostReach, mostTable, mostHeld, mostPacked}
+use Rattle.net_model.specs.PackedNet.{firstAt, sourcesAt, countsAt, orderAt, topsAt, outsAt, delaysAt, packedRoom, NetKept}
+use Rattle.net_model.specs.PackedNetLaws.{length-part, kept-between, kept-net}
+use Rattle.label_theory.specs.Pins.{OutPath}
+use Rattle.limits.specs.Limits.{mostBeyond, mostCount, mostGates, mostNodes, mostPeriod, mostPins, mostPlaces, mostReach, mostTable, mostHeld}
 use Rattle.cone_theory.specs.Ranks.{ranked}
 use Rattle.cone_theory.specs.Reach.{reachOf}
 use Rattle.cover_records.specs.Kept.{Kept, kept, entriesIn}
 use Rattle.cover_records.specs.Outcomes.{cleared}
 use Rattle.signed.specs.Range.{room, Small}
 use Rattle.net_reader.specs.ReadAnswer.{arraysOf}
-use Rattle.net_reader.specs.ReadWires.{read-wires}
+use Rattle.net_reader.specs.Rooms.{NetRoom}
+use Rattle.net_reader.specs.ReadWires.{read-wires, kept-facts, kept-room}
 use Rattle.net_reader.specs.WalkFacts.{WalkFacts}
-use Rattle.net_reader.specs.declared.Wiring.{Wiring}
+use Rattle.net_reader.specs.declared.NetSizes.{NetSizes}
+use Rattle.net_checks.specs.Graphs.{Graph}
 use Rattle.cone_copies.specs.CopyLists.{SmallWires}
 use Rattle.cone_table.specs.ConeWords.{Tabled}
-use Rattle.cut_circuit.specs.Circuit.{Circuit, circuit, Layout}
-use Rattle.cut_circuit.specs.Packed.{packedOf, sourcesAt, countsAt}
-use Rattle.cut_circuit.specs.Packing.{PackAsked, Packs}
-use Rattle.cut_circuit.specs.PackingLaws.{layout-packed, chains-packed, holds-packed}
+use Rattle.cut_circuit.specs.Circuit.{Layout}
+use Rattle.cut_circuit.specs.Packed.{packedOf}
 use Rattle.cut_circuit.specs.declared.Extent.{Extent}
-use Rattle.cut_circuit.specs.Chains.{Chains}
-use Rattle.cut_circuit.specs.PinLinks.{LinkAsked, Linked}
+use Rattle.cut_circuit.specs.PinLinks.{LinkAsked, LinkedIn, Links}
 use Rattle.cut_circuit.specs.PinLinksLaws.{chains}
-use Rattle.cut_circuit.specs.Bridge.{Holds}
 use Rattle.label_sweep.specs.Sweeps.{Sized, Ordered}
 use Rattle.label_visit.specs.LabelVisits.{Suits, wiring, Ceilings}
-use Rattle.job_plan.specs.Counts.{Counted, SumCounts}
+use Rattle.job_plan.specs.Counts.{Counted, SumCounts, Extending, extentBy, ExtentOf}
 use Rattle.job_plan.specs.CountLaws.{sum-reach}
 use Rattle.job_plan.specs.Found.{PeriodAsked}
 use Rattle.job_plan.specs.Planned.{Covered, Planned, Planning, Roomy, Engine, CoverTold}
-use Rattle.net_reader.specs.Lengths.{Lengths}
 use Rattle.job_plan.specs.Entries.{withLabels, entries-in}
 use Rattle.sequences.specs.Zeros.{zeros}
 
@@ -72,49 +72,98 @@ unfolding cleared
 cleared-part n s = take-at (replicate n 0) (drop n s) n (length-replicate n 0)
 
 -- the wiring of a net read
-pub net-wires : {k : ℕ} {w : Wiring} → WalkFacts k w → Lengths w → SmallWires (w .inputs) (w .gates) (w .pins) (w .sources) (w .counts)
-net-wires f l = record { wires = read-wires f l; inputs = f .inputs-high; gates = f .gates-high; count = f .count }
+pub net-wires : {k : ℕ} {z : NetSizes} {net ts : List ℕ} → WalkFacts k (arraysOf z net ts) → NetRoom z net ts
+    → SmallWires (z .inputs) (z .gates) net (drop (sourcesAt (z .gates)) net) (drop (countsAt (z .gates)) net)
+net-wires f r = record { wires = read-wires f r; inputs = f .inputs-high; gates = f .gates-high; count = f .count }
 
-module _ {k target : ℕ} {w : Wiring} {first tops order : List ℕ} (p : Planning k target w first tops order) (l : Lengths w) where
+-- ---- the net with its chains made
+module _ {k target : ℕ} {z : NetSizes} {net ts net′ : List ℕ} (p : Planning k target z net ts) (l : Links (z .inputs + z .gates) (z .gates) net net′) where
+  pub linked-kept : NetKept (z .inputs) (z .gates) net net′
+  linked-kept = kept-between (omega arith) (omega arith) (l .apart)
+
+  pub linked-net : netIn (arraysOf z net′ ts) ≡ netIn (arraysOf z net ts)
+  linked-net = kept-net linked-kept (p .facts .pins-high) (z .outputs) ts
+
+  behind-same : (i : ℕ) → orderAt (z .inputs) (z .gates) ≤ i → getD net′ i 0 ≡ getD net i 0
+  behind-same = l .apart .above
+
+  pub linked-planning : Planning k target z net′ ts
+  linked-planning = record {
+    facts = kept-facts (p .facts) linked-kept;
+    room = kept-room linked-kept (p .room);
+    low = p .low;
+    high = p .high;
+    near = p .near;
+    passed = subst (λ (N : Net). Passed N k) (sym linked-net) (p .passed);
+    graph = record {
+      ordered = record {
+        inOrder = λ i h. omega (arith, behind-same (orderAt (z .inputs) (z .gates) + i) (omega arith), p .graph .ordered .inOrder i h);
+        ordered = λ g h. let t = p .graph .ordered .ordered g h in (t .0, t .1, behind-same (orderAt (z .inputs) (z .gates) + t .0) (omega arith) ∙ t .2);
+      };
+      firsts = λ g h. omega (arith, p .graph .firsts g h, l .apart .below g (omega (arith, h)), l .apart .below (firstAt (z .gates) + g) (omega (arith, h)));
+      topped = record {
+        low = λ g h. omega (arith, behind-same (topsAt (z .inputs) (z .gates) + g) (omega arith), p .graph .topped .low g h);
+        high = λ g h. omega (arith, behind-same (topsAt (z .inputs) (z .gates) + g) (omega arith), p .graph .topped .high g h);
+      };
+      paths = λ g h.
+          subst (λ (N : Net). OutPath N (z .inputs + g) (getD net′ (topsAt (z .inputs) (z .gates) + g) 0 - 1)) (sym linked-net)
+          (rw (behind-same (topsAt (z .inputs) (z .gates) + g) (omega arith)) (p .graph .paths g h));
+    };
+  }
+
+module _ {k target : ℕ} {z : NetSizes} {net ts : List ℕ} (p : Planning k target z net ts) where
   abbrev I : ℕ
-  I = w .inputs
+  I = z .inputs
 
   abbrev G : ℕ
-  G = w .gates
+  G = z .gates
 
   abbrev N : Net
-  N = netIn (arraysOf w)
+  N = netIn (arraysOf z net ts)
 
-  pub plan-counted : Counted G (w .pins) (w .counts)
-  plan-counted = record {
-    gates = let a = p .facts .gates-high in omega arith;
-    atPins = let a = p .facts .gates-high in let b = l .atPins in omega arith;
-    atCounts = let a = p .facts .gates-high in let b = l .atCounts in omega arith;
-    few = p .facts .pins-high;
-    count = p .facts .count;
+  abbrev so : List ℕ
+  so = drop (sourcesAt G) net
+
+  abbrev co : List ℕ
+  co = drop (countsAt G) net
+
+  abbrev tops : List ℕ
+  tops = drop (topsAt I G) net
+
+  -- a part is long enough
+  long : (a n : ℕ) → a + n ≤ packedRoom I G (z .outputs) → n ≤ length (drop a net)
+  long a n h = length-part net a n (omega (arith, h, p .room .packed))
+
+  pub plan-extending : Extending z net k
+  plan-extending = record {
+    counted = record {
+      gates = p .facts .gates-high;
+      atPins = omega (arith, p .room .packed);
+      atCounts = long (countsAt G) (stride * G) (omega arith);
+      few = p .facts .pins-high;
+      count = p .facts .count;
+    };
+    parts = omega (arith, p .room .packed);
+    high = p .high;
   }
 
-  pub plan-link : (heads nexts : List ℕ) → length heads ≡ mostNodes → length nexts ≡ mostPlaces → LinkAsked (I + G) G (w .pins) (w .sources) heads nexts
-  plan-link heads nexts a b = record {
-    pin = let c = p .facts .gates-high in let d = l .atPins in omega arith;
-    source = let c = p .facts .gates-high in let d = l .atSources in omega arith;
-    head = let c = p .facts .gates-high in let d = p .facts .inputs-high in omega arith;
-    next = let c = p .facts .gates-high in omega arith;
-    few = p .facts .pins-high;
-    node = p .facts .source;
-  }
+  pub plan-link : LinkAsked (I + G) G net
+  plan-link = record { room = omega (arith, p .room .packed); few = p .facts .pins-high; node = p .facts .source }
 
-  wired : Wired N I G (w .pins) (w .sources) (w .counts)
-  wired = netIn-wired (arraysOf w)
+  wired : Wired N I G net so co
+  wired = netIn-wired (arraysOf z net ts)
 
-  module _ {m : ℕ} (s : SumCounts G (w .pins) (w .counts) 0 m) where
-    pub border-small : k * m ≤ mostReach
+  top-at : (g : ℕ) → getD tops g 0 ≡ getD net (topsAt I G + g) 0
+  top-at g = getD-drop (topsAt I G) net g 0
+
+  module _ {m : ℕ} (s : SumCounts G net co 0 m) where
+    border-small : k * m ≤ mostReach
     border-small =
         let a : m ≤ mostGates * mostCount = let b = s .small in let c = p .facts .gates-high in omega arith in
         let d = mul-le-mul (p .high) a in
         omega arith
 
-    pub table-small : (I + G) * (k * m + mostBeyond) ≤ mostTable
+    table-small : (I + G) * (k * m + mostBeyond) ≤ mostTable
     table-small =
         let a : I + G ≤ mostNodes = let b = p .facts .inputs-high in let c = p .facts .gates-high in omega arith in
         let b : k * m + mostBeyond ≤ mostReach + mostBeyond = let c = border-small in omega arith in
@@ -124,68 +173,45 @@ module _ {k target : ℕ} {w : Wiring} {first tops order : List ℕ} (p : Planni
     border-enough : k * reachOf N ≤ k * m
     border-enough = mul-le-mul-left k (sum-reach s N wired)
 
-    -- the sizes of the circuit
-    abbrev pub extent : Extent
-    extent = record { inputs = I; gates = G; width = k * m + mostBeyond; border = k * m }
+    abbrev extent : Extent
+    extent = extentBy z k m
 
-    abbrev apart : List ℕ → List ℕ → Circuit
-    apart hs ns = circuit I G (k * m + mostBeyond) (k * m) (w .pins) first (w .sources) (w .counts) hs ns (replicate mostHeld 0)
-
-    layout : (hs ns : List ℕ) → Layout (apart hs ns)
-    layout hs ns = record {
+    layout : Layout (packedOf extent net (replicate mostHeld 0))
+    layout = record {
       wide = omega arith;
-      pins = let c = p .facts .gates-high in let d = l .atPins in omega arith;
-      sources = let c = p .facts .gates-high in let d = l .atSources in omega arith;
-      counts = let c = p .facts .gates-high in let d = l .atCounts in omega arith;
-      firsts = p .firsts;
+      pins = omega (arith, p .room .packed);
+      sources = long (sourcesAt G) (stride * G) (omega arith);
+      counts = long (countsAt G) (stride * G) (omega arith);
+      firsts = long (firstAt G) G (omega arith);
       slots = let a = p .facts .gates-high in let b = length-replicate {A = ℕ} mostHeld 0 in omega arith;
-      held = λ g h. let z = zeros mostHeld g in omega arith;
-      first = p .pin;
+      held = λ g h. let q = zeros mostHeld g in omega arith;
+      first = λ g h. omega (arith, p .graph .firsts g h, getD-drop (firstAt G) net g 0);
       few = p .facts .pins-high;
       source = p .facts .source;
       count = λ g j h i. let a = p .facts .count g j h i in omega arith;
     }
 
-    pub plan-pack : (hs ns net : List ℕ) → length hs ≡ mostNodes → length ns ≡ mostPlaces → length net ≡ mostPacked → PackAsked extent (w .pins) first (w .sources) (w .counts) hs ns net
-    plan-pack hs ns net a b e = record {
-      pin = let c = p .facts .gates-high in let d = l .atPins in omega arith;
-      firsts = p .firsts;
-      source = let c = p .facts .gates-high in let d = l .atSources in omega arith;
-      count = let c = p .facts .gates-high in let d = l .atCounts in omega arith;
-      head = let c = p .facts .gates-high in let d = p .facts .inputs-high in omega arith;
-      next = let c = p .facts .gates-high in omega arith;
-      room = let c = p .facts .gates-high in let d = p .facts .inputs-high in omega arith;
+    suits : Suits (wiring extent net) k tops N
+    suits = record {
+      holds = record { inputs = wired .inputs; gates = wired .gates; lists = wired .wiring };
+      ranked = ranked (p .passed .reached);
+      loopless = p .passed .loopless;
+      sound = p .passed .sound;
+      fits = p .passed .fits;
+      border = border-enough;
+      path = λ g h. rw (top-at g) (p .graph .topped .low g h, p .graph .paths g h);
     }
-
-    module _ {hs ns net : List ℕ} (K : Packs extent (w .pins) first (w .sources) (w .counts) hs ns net) where
-      packed : Layout (packedOf extent net (replicate mostHeld 0))
-      packed = layout-packed K (layout hs ns)
-
-      pub suits : Suits (wiring extent net) k tops N
-      suits = record {
-        holds = let h = holds-packed K (layout hs ns) (record { inputs = wired .inputs; gates = wired .gates; lists = wired .wiring }) in record { inputs = h .inputs; gates = h .gates; lists = h .lists };
-        ranked = ranked (p .passed .reached);
-        loopless = p .passed .loopless;
-        sound = p .passed .sound;
-        fits = p .passed .fits;
-        border = border-enough;
-        path = p .path;
-      }
-
-      wires : SmallWires I G net (drop (sourcesAt G) net) (drop (countsAt G) net)
-      wires = record {
-        wires = record { sizes = packed .pins; room = packed .sources; room′ = packed .counts; pins = packed .few; node = packed .source };
-        inputs = p .facts .inputs-high;
-        gates = p .facts .gates-high;
-        count = λ g j h i. let a = packed .count g j h i in omega arith;
-      }
 
     -- what 32 times a small number is
     far : (x : ℕ) → x ≤ 100000 → mostPeriod * x ≤ room
     far x h = let a = mul-le-mul-left mostPeriod h in omega arith
 
-    period : (net : List ℕ) (ls : List ℤ) → length ls ≡ I + G → PeriodAsked extent net ls tops order (w .outs) (w .delays) (w .outputs) target k
-    period net ls e = record {
+    order-at : (i : ℕ) → getD (drop (orderAt I G) net) i 0 ≡ getD net (orderAt I G + i) 0
+    order-at i = getD-drop (orderAt I G) net i 0
+
+    period : (ls : List ℤ) → length ls ≡ I + G
+        → PeriodAsked extent net ls tops (drop (orderAt I G) net) (drop (outsAt I G) net) (drop (delaysAt I G (z .outputs)) net) (z .outputs) target k
+    period ls e = record {
       sized = record {
         size = e;
         shift = far (k * m + mostBeyond) (let a = border-small in omega arith);
@@ -193,57 +219,86 @@ module _ {k target : ℕ} {w : Wiring} {first tops order : List ℕ} (p : Planni
         least = let a = p .low in omega arith;
         limit = p .high;
         fits = let a = table-small in omega arith;
-        sources = let a = p .facts .outputs-high in let b = l .atOuts in omega arith;
-        counts = let a = p .facts .outputs-high in let b = l .atDelays in omega arith;
+        sources = long (outsAt I G) (z .outputs) (omega arith);
+        counts = long (delaysAt I G (z .outputs)) (z .outputs) (omega arith);
         node = p .facts .out-source;
-        count = λ i h. far (getD (w .delays) i 0) (let a = p .facts .out-count i h in omega arith);
+        count = λ i h. far (getD (drop (delaysAt I G (z .outputs)) net) i 0) (let a = p .facts .out-count i h in omega arith);
       };
-      ordered = record { room = p .orders; gate = p .inOrder; all = p .ordered };
-      ceilings = record { size = p .atTops; top = λ g h. let a = mul-le-mul-left mostPeriod (p .top g h) in omega arith };
+      ordered = record {
+        room = long (orderAt I G) G (omega arith);
+        gate = λ i h. omega (arith, order-at i, p .graph .ordered .inOrder i h);
+        all = λ g h. let t = p .graph .ordered .ordered g h in (t .0, t .1, order-at (t .0) ∙ t .2);
+      };
+      ceilings = record {
+        size = long (topsAt I G) G (omega arith);
+        top = λ g h.
+            let a = far (getD tops g 0) (omega (arith, top-at g, p .graph .topped .high g h, p .facts .gates-high)) in
+            let b = mul-le-mul-left mostPeriod (small-top g h) in
+            omega arith;
+      };
       some = p .facts .gates-low;
       few = p .facts .gates-high;
       near = p .near;
     }
+      where
+        small-top : (g : ℕ) → g < G → getD tops g 0 ≤ 100000
+        small-top g h = omega (arith, top-at g, p .graph .topped .high g h, p .facts .gates-high)
 
-    outputs-are : N .outputs ≡ pinsIn (w .outs) (w .delays) 0 (w .outputs)
-    outputs-are = outputs-netIn (arraysOf w)
+    outputs-are : N .outputs ≡ pinsIn (drop (outsAt I G) net) (drop (delaysAt I G (z .outputs)) net) 0 (z .outputs)
+    outputs-are = outputs-netIn (arraysOf z net ts)
 
     -- the tables of the net are those of the arrays
-    tabled : Tabled N I G (w .tables)
-    tabled = tabled-netIn (arraysOf w)
+    tabled : Tabled N I G ts
+    tabled = tabled-netIn (arraysOf z net ts)
 
     -- **the engine's arrays**
-    pub plan-engine : (hs ns net : List ℕ) → length hs ≡ mostNodes → length ns ≡ mostPlaces → Linked (I + G) G (w .pins) (w .sources) hs ns (mostPins * G)
-        → Packs extent (w .pins) first (w .sources) (w .counts) hs ns net → (t : List ℕ) → t ≡ replicate mostTable 0 → (ls : List ℤ) → length ls ≡ I + G
-        → Engine extent net (w .tables) (w .outs) (w .delays) (w .outputs) tops order k target t ls
-    plan-engine hs ns net a b linked K t e ls f = record {
+    plan-engine : LinkedIn (I + G) G net (mostPins * G) → (t : List ℕ) → t ≡ replicate mostTable 0 → (ls : List ℤ) → length ls ≡ I + G
+        → Engine extent (z .outputs) net ts k target t ls
+    plan-engine linked t e ls f = record {
       model = N;
-      suits = suits K;
+      suits = suits;
       passed = p .passed;
       ended = outputs-are;
-      layout = packed K;
-      chains = chains-packed K (layout hs ns) (chains (plan-link hs ns a b) linked);
+      layout = layout;
+      chains = chains extent net (replicate mostHeld 0) plan-link linked;
       size = ap length e ∙ length-replicate {A = ℕ} mostTable 0;
       fits = table-small;
       clear = λ c. ap (λ (x : List ℕ). getD x c 0) e ∙ zeros mostTable c;
-      period = period net ls f;
-      wires = wires K;
-      parts = let h = K .room in omega arith;
-      tables = let c = p .facts .gates-high in let d = l .atTables in omega arith;
+      period = period ls f;
+      wires = net-wires (p .facts) (p .room);
+      parts = p .room .packed;
+      tables = p .room .tabled;
       few = p .high;
     }
 
     -- **the cover, with its labels in front of a longer array**
-    pub plan-planned : {hs ns net : List ℕ} → Packs extent (w .pins) first (w .sources) (w .counts) hs ns net → {ls : List ℤ} {marks sizes nodes backs luts : List ℕ} {r : ℕ} (rest : List ℤ) → length ls ≡ I + G
-        → CoverTold extent net (w .tables) (w .outs) (w .delays) (w .outputs) tops k target (kept I G r ls marks sizes nodes backs luts)
+    plan-planned : {ls : List ℤ} {marks sizes nodes backs luts : List ℕ} {r : ℕ} (rest : List ℤ) → length ls ≡ I + G
+        → CoverTold extent (z .outputs) net ts k target (kept I G r ls marks sizes nodes backs luts)
         → Planned N k target (kept I G r (ls ++ rest) marks sizes nodes backs luts)
-    plan-planned K {ls} {marks} {sizes} {nodes} {backs} {luts} {r} rest e told = relabel (told .cover N (suits K) (p .passed) tabled outputs-are)
+    plan-planned {ls} {marks} {sizes} {nodes} {backs} {luts} {r} rest e told = relabel (told .cover N suits (p .passed) tabled outputs-are)
       where
         same : (u : ℕ) → u < I + G → getD ls u (pos 0) ≡ getD (ls ++ rest) u (pos 0)
         same u h = sym (List·getD-append ls rest (pos 0) u (omega (arith, e, h)))
 
         relabel : Planned N k target (kept I G r ls marks sizes nodes backs luts) → Planned N k target (kept I G r (ls ++ rest) marks sizes nodes backs luts)
         relabel q = record { none = q .none; some = λ h. covered-with same (q .some h) (wired .inputs) (wired .gates) }
+
+-- ---- the same for the extent that the program makes
+module _ {k target : ℕ} {z : NetSizes} {net ts : List ℕ} (p : Planning k target z net ts) {s : Extent} (x : ExtentOf z net k s) where
+  pub planned-engine : LinkedIn (z .inputs + z .gates) (z .gates) net (mostPins * z .gates) → (t : List ℕ) → t ≡ replicate mostTable 0 → (ls : List ℤ) → length ls ≡ z .inputs + z .gates
+      → Engine s (z .outputs) net ts k target t ls
+  planned-engine linked t e ls f = subst (λ (y : Extent). Engine y (z .outputs) net ts k target t ls) (sym (x .is)) (plan-engine p (x .sum) linked t e ls f)
+
+  pub planned-room : {marks sizes nodes backs luts : List ℕ} → Roomy (z .gates) marks sizes nodes backs luts → Roomy (s .gates) marks sizes nodes backs luts
+  planned-room {marks} {sizes} {nodes} {backs} {luts} r = subst (λ (y : Extent). Roomy (y .gates) marks sizes nodes backs luts) (sym (x .is)) r
+
+  pub planned-cover : {N : Net} → netIn (arraysOf z net ts) ≡ N → {ls : List ℤ} {marks sizes nodes backs luts : List ℕ} {r : ℕ} (rest : List ℤ) → length ls ≡ z .inputs + z .gates
+      → CoverTold s (z .outputs) net ts k target (kept (s .inputs) (s .gates) r ls marks sizes nodes backs luts)
+      → Planned N k target (kept (z .inputs) (z .gates) r (ls ++ rest) marks sizes nodes backs luts)
+  planned-cover same {ls} {marks} {sizes} {nodes} {backs} {luts} {r} rest e told =
+      subst (λ (N : Net). Planned N k target (kept (z .inputs) (z .gates) r (ls ++ rest) marks sizes nodes backs luts)) same
+      (plan-planned p (x .sum) rest e
+      (subst (λ (y : Extent). CoverTold y (z .outputs) net ts k target (kept (y .inputs) (y .gates) r ls marks sizes nodes backs luts)) (x .is) told))
 
 -- arrays of zeros have room for a cover
 pub zero-room : (G : ℕ) → G ≤ mostGates → Roomy G (replicate mostGates 0) (replicate mostGates 0) (replicate mostPlaces 0) (replicate mostPlaces 0) (replicate mostGates 0)

@@ -3,7 +3,6 @@ use cone_luts::tabulate;
 use cover_roots::choose;
 use cut_circuit::Extent;
 use cut_circuit::link;
-use cut_circuit::pack;
 use job_scratch::clear_first;
 use label_period::least_period;
 use label_sweep::reach;
@@ -12,26 +11,28 @@ use limits::COPIES;
 use limits::HELD;
 use limits::LIST;
 use limits::NODES;
-use limits::PACKED;
 use limits::PINS;
-use limits::PLACES;
 use limits::STACK;
 use limits::TABLE;
-use net_reader::Wiring;
+use net_reader::NetSizes;
+use net_reader::delays_at;
+use net_reader::order_at;
+use net_reader::outs_at;
+use net_reader::tops_at;
 ghost use mathlib.Core.Path.{_≡_};
 ghost use Prim.Native.Nat.{max, _+_, _-_, _*_, _≤_, _<_};
-ghost use lib.ListN.{length};
+ghost use lib.ListN.{length, drop};
 ghost use Rattle.net_model.specs.Arrays.{netIn};
-ghost use Rattle.limits.specs.Limits.{mostNodes, mostTable};
+ghost use Rattle.limits.specs.Limits.{mostTable};
+ghost use Rattle.net_model.specs.PackedNet.{outsAt, delaysAt, topsAt, orderAt, packedRoom, NetKept};
 ghost use Rattle.net_reader.specs.ReadAnswer.{arraysOf};
 ghost use Rattle.cut_circuit.specs.Packed.{packedOf};
 ghost use Rattle.cut_question.specs.Separating.{AtRest};
 ghost use Rattle.label_visit.specs.LabelVisits.{wiring};
-ghost use Rattle.job_plan.specs.Counts.{MostCount, Counted, SumCounts};
+ghost use Rattle.job_plan.specs.Counts.{MostCount, Counted, SumCounts, Extending, ExtentOf};
 ghost use Rattle.cover_records.specs.Kept.{kept};
 ghost use Rattle.job_plan.specs.Found.{PeriodAsked, PeriodFound};
-ghost use Rattle.job_plan.specs.Planned.{Planned, Planning, Roomy, Engine, CoverTold, asWiring};
-ghost use Rattle.net_reader.specs.Lengths.{Lengths};
+ghost use Rattle.job_plan.specs.Planned.{Planned, Planning, Roomy, Engine, CoverTold};
 
 fn larger(a: usize, b: usize) -> usize
     ensures { λ r. ⌜ r ≡ max a b ⌝ }
@@ -67,6 +68,22 @@ fn sum_counts(gates: usize, pins: &[usize], counts: &[usize]) -> usize
         sum += c;
     }
     sum
+}
+
+// The extent of the net's circuit: the border is k times M.
+fn extent(z: NetSizes, net: &[usize], k: usize) -> Extent
+    requires { ⌜ Extending z (now net) k ⌝ }
+    ensures { λ r. ⌜ ExtentOf z (now (net .entry)) k r ⌝ }
+{
+    let a = (2 + PINS) * z.gates;
+    let m = sum_counts(z.gates, net, &net[a..]);
+    let border = k * m;
+    Extent {
+        inputs: z.inputs,
+        gates: z.gates,
+        width: border + BEYOND,
+        border: border,
+    }
 }
 
 // The target where it is reachable, or the least period for target 0, with the least labelling left in labels. 0: the target is not reachable.
@@ -135,16 +152,12 @@ fn find_period(
     0
 }
 
-// Period, labels, chosen roots, cuts and tables, with the engine's table lent, whose first bytes the questions take; the period is 0 where the target is not reachable.
+// Period, labels, chosen roots, cuts and tables of a net with n outputs, with the engine's table lent, whose first bytes the questions take; the period is 0 where the target is not reachable.
 fn cover(
     s: Extent,
+    n: usize,
     net: &[usize],
     tables: &[u64],
-    outs: &[usize],
-    delays: &[usize],
-    n: usize,
-    tops: &[usize],
-    order: &[usize],
     k: usize,
     target: usize,
     table: &mut [u8],
@@ -155,10 +168,19 @@ fn cover(
     backs: &mut [usize],
     luts: &mut [u64],
 ) -> usize
-    requires { ⌜ Engine s (now net) (now tables) (now outs) (now delays) n (now tops) (now order) k target (now table) (now labels) ⌝ }
+    requires { ⌜ Engine s n (now net) (now tables) k target (now table) (now labels) ⌝ }
     requires { ⌜ Roomy (s .gates) (now marks) (now sizes) (now nodes) (now backs) (now luts) ⌝ }
-    ensures { λ r. ⌜ CoverTold s (now (net .entry)) (now (tables .entry)) (now (outs .entry)) (now (delays .entry)) n (now (tops .entry)) k target (kept (s .inputs) (s .gates) r (now (labels .exit)) (now (marks .exit)) (now (sizes .exit)) (now (nodes .exit)) (now (backs .exit)) (now (luts .exit))) ⌝ }
+    ensures { λ r. ⌜ CoverTold s n (now (net .entry)) (now (tables .entry)) k target (kept (s .inputs) (s .gates) r (now (labels .exit)) (now (marks .exit)) (now (sizes .exit)) (now (nodes .exit)) (now (backs .exit)) (now (luts .exit))) ⌝ }
 {
+    let z = NetSizes {
+        inputs: s.inputs,
+        gates: s.gates,
+        outputs: n,
+    };
+    let t = tops_at(z, net);
+    let o = order_at(z, net);
+    let y = outs_at(z, net);
+    let d = delays_at(z, net);
     let end = (s.inputs + s.gates) * s.width;
     let mut slots = [0u32; HELD];
     let mut list = [0u32; LIST];
@@ -175,10 +197,10 @@ fn cover(
         &mut counts,
         &mut members,
         labels,
-        tops,
-        order,
-        outs,
-        delays,
+        &net[t..],
+        &net[o..],
+        &net[y..],
+        &net[d..],
         n,
         target,
         k,
@@ -196,7 +218,7 @@ fn cover(
         &mut counts,
         &mut members,
         labels,
-        outs,
+        &net[y..],
         n,
         phi,
         k,
@@ -224,20 +246,11 @@ fn cover(
     phi
 }
 
-// The same for a net read and checked, with the engine's tables laid out. The first bytes of work are its table.
-fn fit(
-    inputs: usize,
-    gates: usize,
-    n: usize,
-    pins: &[usize],
-    first: &[usize],
-    sources: &[usize],
-    counts: &[usize],
+// The same for a net read and checked, with its chains made. The first bytes of work are the engine's table.
+pub fn plan(
+    z: NetSizes,
+    net: &mut [usize],
     tables: &[u64],
-    outs: &[usize],
-    delays: &[usize],
-    tops: &[usize],
-    order: &[usize],
     k: usize,
     target: usize,
     work: &mut [u8],
@@ -248,91 +261,25 @@ fn fit(
     backs: &mut [usize],
     luts: &mut [u64],
 ) -> usize
-    requires { ⌜ Planning k target (asWiring inputs gates n (now pins) (now sources) (now counts) (now tables) (now outs) (now delays)) (now first) (now tops) (now order) ⌝ }
-    requires { ⌜ Lengths (asWiring inputs gates n (now pins) (now sources) (now counts) (now tables) (now outs) (now delays)) × (mostTable ≤ length (now work)) × (mostNodes ≤ length (now labels)) × Roomy gates (now marks) (now sizes) (now nodes) (now backs) (now luts) ⌝ }
-    ensures { λ r. ⌜ Planned (netIn (arraysOf (asWiring inputs gates n (now (pins .entry)) (now (sources .entry)) (now (counts .entry)) (now (tables .entry)) (now (outs .entry)) (now (delays .entry))))) k target (kept inputs gates r (now (labels .exit)) (now (marks .exit)) (now (sizes .exit)) (now (nodes .exit)) (now (backs .exit)) (now (luts .exit))) ⌝ }
+    requires { ⌜ Planning k target z (now net) (now tables) ⌝ }
+    requires { ⌜ (mostTable ≤ length (now work)) × (z .inputs + z .gates ≤ length (now labels)) × Roomy (z .gates) (now marks) (now sizes) (now nodes) (now backs) (now luts) ⌝ }
+    ensures { λ r. ⌜ Planned (netIn (arraysOf z (now (net .entry)) (now (tables .entry)))) k target (kept (z .inputs) (z .gates) r (now (labels .exit)) (now (marks .exit)) (now (sizes .exit)) (now (nodes .exit)) (now (backs .exit)) (now (luts .exit))) ⌝ }
+    ensures { λ _. ⌜ NetKept (z .inputs) (z .gates) (now (net .entry)) (now (net .exit)) ⌝ }
 {
-    let m = sum_counts(gates, pins, counts);
-    let border = k * m;
-    let width = border + BEYOND;
-    let all = inputs + gates;
-    let s = Extent {
-        inputs: inputs,
-        gates: gates,
-        width: width,
-        border: border,
-    };
-    let mut heads = [0usize; NODES];
-    let mut nexts = [0usize; PLACES];
-    link(all, gates, pins, sources, &mut heads, &mut nexts);
-    let mut net = [0usize; PACKED];
-    pack(s, pins, first, sources, counts, &heads, &nexts, &mut net);
+    let all = z.inputs + z.gates;
+    link(all, z.gates, net);
+    let s = extent(z, net, k);
     let end = TABLE;
     clear_first(work, end);
     cover(
         s,
-        &net,
+        z.outputs,
+        net,
         tables,
-        outs,
-        delays,
-        n,
-        tops,
-        order,
         k,
         target,
         &mut work[..end],
         &mut labels[..all],
-        marks,
-        sizes,
-        nodes,
-        backs,
-        luts,
-    )
-}
-
-// The same, with the wiring as it was read.
-pub fn plan(
-    net: Wiring,
-    first: &[usize],
-    tops: &[usize],
-    order: &[usize],
-    k: usize,
-    target: usize,
-    work: &mut [u8],
-    labels: &mut [i64],
-    marks: &mut [usize],
-    sizes: &mut [usize],
-    nodes: &mut [usize],
-    backs: &mut [usize],
-    luts: &mut [u64],
-) -> usize
-    requires { ⌜ Planning k target net (now first) (now tops) (now order) ⌝ }
-    requires { ⌜ (mostTable ≤ length (now work)) × (mostNodes ≤ length (now labels)) × Roomy (net .gates) (now marks) (now sizes) (now nodes) (now backs) (now luts) ⌝ }
-    ensures { λ r. ⌜ Planned (netIn (arraysOf net)) k target (kept (net .inputs) (net .gates) r (now (labels .exit)) (now (marks .exit)) (now (sizes .exit)) (now (nodes .exit)) (now (backs .exit)) (now (luts .exit))) ⌝ }
-{
-    let pins = net.pins;
-    let sources = net.sources;
-    let counts = net.counts;
-    let tables = net.tables;
-    let outs = net.outs;
-    let delays = net.delays;
-    fit(
-        net.inputs,
-        net.gates,
-        net.outputs,
-        &pins,
-        first,
-        &sources,
-        &counts,
-        &tables,
-        &outs,
-        &delays,
-        tops,
-        order,
-        k,
-        target,
-        work,
-        labels,
         marks,
         sizes,
         nodes,

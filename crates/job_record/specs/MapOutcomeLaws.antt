@@ -5,7 +5,6 @@ use Prim.Native.Nat.{ℕ, zero, suc, _+_, _≤_, _<_, suc-le-suc, zero-le}
 use native.Mathlib.Omega.{arith}
 use lib.ListN.{length, drop, replicate}
 use Rattle.net_model.specs.Net.{Net}
-use Rattle.net_model.specs.Arrays.{netIn}
 use Rattle.net_model.specs.Checks.{Passed}
 use Rattle.limits.specs.Limits.{coverArea}
 use Rattle.limits.specs.Courses.{long, Offered, is-long, is-short}
@@ -20,8 +19,6 @@ use Rattle.cover_theory.specs.Period.{leastPeriod, leastKey, leastPeriod-is, le
 use Rattle.cover_records.specs.CoverBytes.{coverBytes}
 use Rattle.cover_records.specs.Kept.{Kept, entriesIn}
 use Rattle.cover_records.specs.Outcomes.{Answer, accepted, turnedBack, MapOutcome, Checked, passes, fails, checkNet, Mapped, covered, unreachable, forTarget, mapped, mapWritten, mapChecked, cleared, written}
-use Rattle.net_reader.specs.ReadAnswer.{arraysOf}
-use Rattle.net_reader.specs.declared.Wiring.{Wiring}
 use Rattle.cover_records.specs.CheckLaws.{check-refused, check-loop, check-unreached, check-unled, check-passes}
 use Rattle.job_plan.specs.Planned.{Covered}
 use Rattle.job_plan.specs.Mapped.{mapped-none, mapped-some}
@@ -76,22 +73,19 @@ passes-as R k target net area N P e f s = ap (λ (c : Checked k). mapChecked R k
 refused-as : {R : Rules} {k target n r : ℕ} {net area : List ℕ} → r ≡ n → MapsTo R k target net area area (turnedBack n) → MapsTo R k target net area area (turnedBack r)
 refused-as {R} {k} {target} {net = net} {area = area} e m = subst (λ (x : ℕ). MapsTo R k target net area area (turnedBack x)) (sym e) m
 
-abbrev net-of : Wiring → Net
-net-of w = netIn (arraysOf w)
-
-module _ {k target : ℕ} {w : Wiring} (area : List ℕ) where
+module _ {k target : ℕ} {N : Net} (area : List ℕ) where
   -- **a refusal**
-  pub net-refused : {a : Kept} {r : ℕ} → SettledAs k target w a r → 0 < r → MapsNet k target w area area (turnedBack r)
+  pub net-refused : {a : Kept} {r : ℕ} → SettledAs k target N a r → 0 < r → MapsNet k target N area area (turnedBack r)
   net-refused (settling.loops e n) h =
-      record { maps = λ R o net q. refused-as e (maps-fails R k target 9 net area (omega arith) (check-loop R k net (net-of w) [] q n)) }
+      record { maps = λ R o net q. refused-as e (maps-fails R k target 9 net area (omega arith) (check-loop R k net N [] q n)) }
   net-refused (settling.cutOff e l n) h =
-      record { maps = λ R o net q. refused-as e (maps-fails R k target 10 net area (omega arith) (check-unreached R k net (net-of w) [] q l n)) }
+      record { maps = λ R o net q. refused-as e (maps-fails R k target 10 net area (omega arith) (check-unreached R k net N [] q l n)) }
   net-refused (settling.idle e l t n) h =
-      record { maps = λ R o net q. refused-as e (maps-fails R k target 11 net area (omega arith) (check-unled R k net (net-of w) [] q l t n)) }
+      record { maps = λ R o net q. refused-as e (maps-fails R k target 11 net area (omega arith) (check-unled R k net N [] q l t n)) }
   net-refused (settling.unreachable e P h′ n) h = record {
     maps = λ R o net q.
-        let t = check-passes R k net (net-of w) [] q (P .loopless) (P .reached) (P .leading) in
-        refused-as e (record { small = omega arith; outcome = passes-as R k target net area (net-of w) (t .0) (t .1) (written-none R (t .0) target h′ n area) });
+        let t = check-passes R k net N [] q (P .loopless) (P .reached) (P .leading) in
+        refused-as e (record { small = omega arith; outcome = passes-as R k target net area N (t .0) (t .1) (written-none R (t .0) target h′ n area) });
   }
   net-refused (settling.covered e P c) h = absurd (none e h)
     where
@@ -99,19 +93,19 @@ module _ {k target : ℕ} {w : Wiring} (area : List ℕ) where
       none e h = omega arith
 
   -- its number as a byte
-  pub net-refused-as : {a : Kept} {r n : ℕ} → SettledAs k target w a r → 0 < r → n ≡ r → MapsNet k target w area area (turnedBack n)
-  net-refused-as t h e = subst (λ (x : ℕ). MapsNet k target w area area (turnedBack x)) (sym e) (net-refused t h)
+  pub net-refused-as : {a : Kept} {r n : ℕ} → SettledAs k target N a r → 0 < r → n ≡ r → MapsNet k target N area area (turnedBack n)
+  net-refused-as t h e = subst (λ (x : ℕ). MapsNet k target N area area (turnedBack x)) (sym e) (net-refused t h)
 
   -- **a cover**
-  pub net-covered : {a : Kept} {area′ : List ℕ} {n : ℕ} → CoverSettled k target w a → length (coverBytes long (a .period) (entriesIn a)) ≤ coverArea
-      → n ≡ length (coverBytes long (a .period) (entriesIn a)) → area′ ≡ written (coverBytes long (a .period) (entriesIn a)) area → MapsNet k target w area area′ (accepted n)
+  pub net-covered : {a : Kept} {area′ : List ℕ} {n : ℕ} → CoverSettled k target N a → length (coverBytes long (a .period) (entriesIn a)) ≤ coverArea
+      → n ≡ length (coverBytes long (a .period) (entriesIn a)) → area′ ≡ written (coverBytes long (a .period) (entriesIn a)) area → MapsNet k target N area area′ (accepted n)
   net-covered {a} {area′} {n} u few d e = record {
     maps = λ R o net q.
         let P = u .passed in
-        let t = check-passes R k net (net-of w) [] q (P .loopless) (P .reached) (P .leading) in
+        let t = check-passes R k net N [] q (P .loopless) (P .reached) (P .leading) in
         record {
           small = omega arith;
-          outcome = λ s. passes-as R k target net area (net-of w) (t .0) (t .1) (written-cover R (t .0) target (u .cover) area) s
+          outcome = λ s. passes-as R k target net area N (t .0) (t .1) (written-cover R (t .0) target (u .cover) area) s
               ∙ ap (λ (bytes : List ℕ). writing R bytes area s) (offered-bytes o (a .period) (entriesIn a))
               ∙ ap₂ (λ (m : ℕ) (l : List ℕ). record { answer = accepted m; area = l; scratch = cleared (R .scratch) s }) (sym d) (sym e);
         };

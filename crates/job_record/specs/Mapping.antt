@@ -3,21 +3,20 @@ use mathlib.Core.Path.{_≡_}
 use mathlib.Core.List.{List, []}
 use Prim.Native.Nat.{ℕ, _≤_}
 use lib.ListN.{length}
-use Rattle.net_model.specs.Arrays.{netIn}
+use Rattle.net_model.specs.Net.{Net}
 use Rattle.limits.specs.Limits.{coverArea, scratchArea}
 use Rattle.limits.specs.Courses.{Offered}
 use Rattle.limits.specs.declared.Rules.{Rules}
 use Rattle.net_bytes.specs.Reading.{got}
 use Rattle.net_bytes.specs.Walk.{netReader}
 use Rattle.cover_records.specs.Outcomes.{Answer, MapOutcome, checkNet, mapChecked, cleared}
-use Rattle.net_reader.specs.ReadAnswer.{arraysOf}
-use Rattle.net_reader.specs.declared.Wiring.{Wiring}
+use Rattle.net_reader.specs.declared.NetSizes.{NetSizes}
 use Rattle.job_settle.specs.Settling.{Settling}
 use Rattle.job_record.specs.MapAnswers.{InRange}
 
 -- a net read, with room for its cover
-pub record Mapping (k target : ℕ) (w : Wiring) (area work : List ℕ) : Type 0 where
-  pub settling : Settling k target w
+pub record Mapping (k target : ℕ) (z : NetSizes) (net ts area work : List ℕ) : Type 0 where
+  pub settling : Settling k target z net ts
   pub room : coverArea ≤ length area
   pub space : scratchArea ≤ length work
 
@@ -27,5 +26,5 @@ pub record MapsTo (R : Rules) (k target : ℕ) (net area area′ : List ℕ) (an
   pub outcome : (s : List ℕ) → mapChecked R k target (checkNet R k net) area s ≡ record { answer = answer; area = area′; scratch = cleared (R .scratch) s }
 
 -- the same, for all rules that are offered and all bytes that hold the net read under them
-pub record MapsNet (k target : ℕ) (w : Wiring) (area area′ : List ℕ) (answer : Answer) : Type 0 where
-  pub maps : (R : Rules) → Offered R → (net : List ℕ) → netReader R k net ≡ got (netIn (arraysOf w)) [] → MapsTo R k target net area area′ answer
+pub record MapsNet (k target : ℕ) (N : Net) (area area′ : List ℕ) (answer : Answer) : Type 0 where
+  pub maps : (R : Rules) → Offered R → (net : List ℕ) → netReader R k net ≡ got N [] → MapsTo R k target net area area′ answer

@@ -8,7 +8,7 @@ use native.Mathlib.Omega.{arith}
 use borrow.Author.Tests.{eqb-true, eqb-false}
 use lib.Dec.{eqb}
 use lib.IntN.{ℤ, pos}
-use lib.ListN.{length, getD}
+use lib.ListN.{length, getD, drop}
 use Rattle.integers.specs.Lag.{lag}
 use Rattle.sequences.specs.Member.{_∈_, here, there, not-in-nil}
 use Rattle.net_model.specs.Net.{Net, Pin, IsGate, pins, size}
@@ -17,6 +17,7 @@ use Rattle.net_model.specs.ArrayLaws.{in-copiesFrom, pinAt}
 use Rattle.net_model.specs.Wired.{Wired}
 use Rattle.net_model.specs.WiredLaws.{netIn-wired, wired-gate, gate-wired, pin-wired}
 use Rattle.net_model.specs.Checks.{Passed}
+use Rattle.net_model.specs.PackedNet.{sourcesAt, countsAt}
 use Rattle.limits.specs.Limits.{mostNodes, mostGates, mostPlaces, mostPeriod, coverArea}
 use Rattle.limits.specs.Courses.{long, is-long}
 use Rattle.cover_theory.specs.Key.{Entry, entries}
@@ -27,7 +28,7 @@ use Rattle.cover_records.specs.RoundTrip.{SmallLag, AllWritable, none, next}
 use Rattle.cover_records.specs.RoundTrip as trip
 use Rattle.cover_records.specs.KeyRecord.{WithinLimits, roomy, key-lag, key-writable, key-length}
 use Rattle.net_reader.specs.ReadAnswer.{arraysOf}
-use Rattle.net_reader.specs.declared.Wiring.{Wiring}
+use Rattle.net_reader.specs.declared.NetSizes.{NetSizes}
 use Rattle.cover_writer.specs.Writing.{ArraysHeld, Below, LutHeld, LutsHeld, Writable}
 use Rattle.job_plan.specs.Planned.{Covered}
 use Rattle.job_settle.specs.Settling.{Settling}
@@ -63,13 +64,13 @@ pub record Long (a : Kept) : Type 0 where
   pub atBacks : length (a .backs) ≡ mostPlaces
   pub atTables : length (a .tables) ≡ mostGates
 
-module _ {k target : ℕ} {w : Wiring} (s : Settling k target w) {a : Kept} (i : a .inputs ≡ w .inputs) (g : a .gates ≡ w .gates) (l : Long a)
-    (P : Passed (netIn (arraysOf w)) k) (c : Covered (netIn (arraysOf w)) k target a) where
+module _ {k target : ℕ} {z : NetSizes} {net ts : List ℕ} (s : Settling k target z net ts) {a : Kept} (i : a .inputs ≡ z .inputs) (g : a .gates ≡ z .gates) (l : Long a)
+    (P : Passed (netIn (arraysOf z net ts)) k) (c : Covered (netIn (arraysOf z net ts)) k target a) where
   abbrev N : Net
-  N = netIn (arraysOf w)
+  N = netIn (arraysOf z net ts)
 
-  wired : Wired N (w .inputs) (w .gates) (w .pins) (w .sources) (w .counts)
-  wired = netIn-wired (arraysOf w)
+  wired : Wired N (z .inputs) (z .gates) net (drop (sourcesAt (z .gates)) net) (drop (countsAt (z .gates)) net)
+  wired = netIn-wired (arraysOf z net ts)
 
   pub within : WithinLimits long N k
   within = record {
@@ -118,10 +119,10 @@ module _ {k target : ℕ} {w : Wiring} (s : Settling k target w) {a : Kept} (i :
       = λ j q. in-copiesFrom (a .nodes) (a .backs) (stride * x) (getD (a .sizes) x 0) (stride * x + j) (omega arith) (omega (arith, q)) in
       record {
         few = c .few x h m;
-        nodes = record { each = λ j q. let b = t .inside (copyAt (a .nodes) (a .backs) (stride * x + j)) (in-at j q) in let e = wired .gates in let d = wired .inputs in let y = s .facts .gates-high in let z = s .facts .inputs-high in omega arith };
+        nodes = record { each = λ j q. let b = t .inside (copyAt (a .nodes) (a .backs) (stride * x + j)) (in-at j q) in let e = wired .gates in let d = wired .inputs in let y = s .facts .gates-high in let x = s .facts .inputs-high in omega arith };
         backs = record { each = λ j q. t .depth (copyAt (a .nodes) (a .backs) (stride * x + j)) (in-at j q) };
         label = c .small x h;
-        smallLag = subst (λ (z : ℤ). SmallLag false (lag (a .period) z)) (c .labels (a .inputs + x) v) (key-lag (roomy is-long) P within (c .positive) (c .key) (a .inputs + x) v);
+        smallLag = subst (λ (l : ℤ). SmallLag false (lag (a .period) l)) (c .labels (a .inputs + x) v) (key-lag (roomy is-long) P within (c .positive) (c .key) (a .inputs + x) v);
       }
 
   pub cover-small : length (coverBytes long (a .period) (entriesIn a)) ≤ coverArea

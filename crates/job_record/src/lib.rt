@@ -5,7 +5,9 @@ use job_settle::settle;
 use limits::GATES;
 use limits::NODES;
 use limits::PLACES;
-use net_reader::Wiring;
+use net_reader::NetSizes;
+ghost use Rattle.net_model.specs.Arrays.{netIn};
+ghost use Rattle.net_reader.specs.ReadAnswer.{arraysOf};
 ghost use Rattle.job_record.specs.MapAnswers.{answerOf};
 ghost use Rattle.job_record.specs.Mapping.{Mapping, MapsNet};
 
@@ -16,18 +18,32 @@ pub enum Answer {
 }
 
 // Checks 9 to 12 and the cover of a net read, with the engine's table in work.
-pub fn map_read(net: Wiring, k: usize, target: usize, area: &mut [u8], work: &mut [u8]) -> Answer
-    requires { ⌜ Mapping k target net (now area) (now work) ⌝ }
-    ensures { λ r. ⌜ MapsNet k target net (now (area .entry)) (now (area .exit)) (answerOf r) ⌝ }
+pub fn map_read(
+    z: NetSizes,
+    net: &mut [usize],
+    tables: &[u64],
+    k: usize,
+    target: usize,
+    area: &mut [u8],
+    work: &mut [u8],
+) -> Answer
+    requires { ⌜ Mapping k target z (now net) (now tables) (now area) (now work) ⌝ }
+    ensures { λ r. ⌜ MapsNet k target (netIn (arraysOf z (now (net .entry)) (now (tables .entry)))) (now (area .entry)) (now (area .exit)) (answerOf r) ⌝ }
 {
+    let mut seen = [0usize; GATES];
+    let mut noted = [0usize; GATES];
     let mut labels = [0i64; NODES];
     let mut marks = [0usize; GATES];
     let mut sizes = [0usize; GATES];
     let mut nodes = [0usize; PLACES];
     let mut backs = [0usize; PLACES];
-    let mut tables = [0u64; GATES];
+    let mut luts = [0u64; GATES];
     let s = settle(
+        z,
         net,
+        tables,
+        &mut seen,
+        &mut noted,
         k,
         target,
         work,
@@ -36,22 +52,22 @@ pub fn map_read(net: Wiring, k: usize, target: usize, area: &mut [u8], work: &mu
         &mut sizes,
         &mut nodes,
         &mut backs,
-        &mut tables,
+        &mut luts,
     );
     let refusal = s.refusal;
     if refusal > 0 {
         return Answer::Refused(narrow(refusal));
     }
     let n = write_cover(
-        net.inputs,
-        net.gates,
+        z.inputs,
+        z.gates,
         s.period,
         &labels,
         &marks,
         &sizes,
         &nodes,
         &backs,
-        &tables,
+        &luts,
         area,
     );
     Answer::Length(n)

@@ -1,104 +1,103 @@
 -- Laws of checks 9 to 12 and the cover: from what the graph checks and the plan tell.
-use mathlib.Core.Path.{_≡_, refl, sym, ap, _∙_}
+use mathlib.Core.Path.{_≡_, refl, sym, subst}
 use mathlib.Core.List.{List}
-use Prim.Native.Nat.{ℕ, _+_, _-_, _≤_, _<_}
-use native.Mathlib.Nat.{not-suc-le-zero}
-use native.Mathlib.Decide.{ℕ-discrete}
+use Prim.Native.Nat.{ℕ, _≤_, _<_}
 use native.Mathlib.Omega.{arith}
-use lib.ListN.{length, getD, set, length-set}
-use lib.Seq.{getD-set-same, getD-set-other}
 use Rattle.net_model.specs.Net.{Net}
 use Rattle.net_model.specs.Arrays.{netIn}
 use Rattle.net_model.specs.ArrayLaws.{outputs-netIn}
-use Rattle.net_model.specs.Wired.{Wired}
 use Rattle.net_model.specs.WiredLaws.{netIn-wired}
 use Rattle.net_model.specs.Checks.{Passed}
+use Rattle.net_model.specs.PackedNet.{NetKept}
+use Rattle.net_model.specs.PackedNetLaws.{kept-net}
 use Rattle.cover_records.specs.Kept.{Kept}
 use Rattle.net_reader.specs.ReadAnswer.{arraysOf}
-use Rattle.net_reader.specs.declared.Wiring.{Wiring}
-use Rattle.net_leading.specs.Heading.{Ended}
-use Rattle.net_checks.specs.Graphs.{Readable, Graph, GraphTold, passed, loop, unreached, unled}
+use Rattle.net_reader.specs.ReadWires.{kept-facts, kept-room}
+use Rattle.net_reader.specs.declared.NetSizes.{NetSizes}
+use Rattle.net_checks.specs.Graphs.{NetOf, Graph, Says, passed, loop, unreached, unled, GraphTold}
 use Rattle.job_plan.specs.Planned.{Planned, Planning}
-use Rattle.job_settle.specs.Settling.{Settling, SettledAs, CoverSettled, loops, cutOff, idle, unreachable, covered, Counting, Lowered}
+use Rattle.job_settle.specs.Settling.{Settling, SettledAs, CoverSettled, loops, cutOff, idle, unreachable, covered}
 
-module _ {k target : ℕ} {w : Wiring} (s : Settling k target w) where
-  abbrev N : Net
-  N = netIn (arraysOf w)
+-- a net settled stays one where other parts of its slice are written
+module _ {k target : ℕ} {z : NetSizes} {net ts net′ : List ℕ} (s : Settling k target z net ts) (q : NetKept (z .inputs) (z .gates) net net′) where
+  pub settling-same : netIn (arraysOf z net′ ts) ≡ netIn (arraysOf z net ts)
+  settling-same = kept-net q (s .facts .pins-high) (z .outputs) ts
 
-  wired : Wired N (w .inputs) (w .gates) (w .pins) (w .sources) (w .counts)
-  wired = netIn-wired (arraysOf w)
-
-  ended : Ended N (w .outputs) (w .outs) (w .delays)
-  ended = outputs-netIn (arraysOf w)
-
-  pub settling-readable : Readable w
-  settling-readable = record { k = k; facts = s .facts }
-
-  -- a check failed
-  pub settled-check : {order first tops : List ℕ} {a : Kept} {r : ℕ}
-      → GraphTold (w .inputs) (w .gates) (w .outputs) (w .pins) (w .sources) (w .counts) (w .outs) (w .delays) order first tops r → 0 < r → SettledAs k target w a r
-  settled-check (passed e f g) h = absurd (none e h)
-    where
-      none : {r : ℕ} → r ≡ 0 → 0 < r → ⊥
-      none e h = omega arith
-  settled-check (loop e f) h = loops e (f N wired)
-  settled-check (unreached e f) h = let t = f N wired in cutOff e (t .0) (t .1)
-  settled-check (unled e f) h = let t = f N wired ended in idle e (t .0) (t .1) (t .2)
-
-  -- all passed
-  pub record Sure (order first tops : List ℕ) : Type 0 where
-    pub passes : Passed N k
-    pub graph : Graph (w .inputs) (w .gates) (w .outputs) (w .pins) (w .sources) (w .counts) (w .outs) (w .delays) order first tops
-
-  pub settled-passed : {order first tops : List ℕ} {r : ℕ}
-      → GraphTold (w .inputs) (w .gates) (w .outputs) (w .pins) (w .sources) (w .counts) (w .outs) (w .delays) order first tops r → r ≤ 0 → Sure order first tops
-  settled-passed (passed e f g) h = let t = f N wired ended in record { passes = record { sound = s .sound; fits = s .fits; loopless = t .0; reached = t .1; leading = t .2 }; graph = g }
-  settled-passed (loop e f) h = absurd (none e h)
-    where
-      none : {r : ℕ} → r ≡ 9 → r ≤ 0 → ⊥
-      none e h = omega arith
-  settled-passed (unreached e f) h = absurd (none e h)
-    where
-      none : {r : ℕ} → r ≡ 10 → r ≤ 0 → ⊥
-      none e h = omega arith
-  settled-passed (unled e f) h = absurd (none e h)
-    where
-      none : {r : ℕ} → r ≡ 11 → r ≤ 0 → ⊥
-      none e h = omega arith
-
-  pub settled-counting : {order first tops : List ℕ} → Sure order first tops → length first ≡ w .gates → Counting first
-  settled-counting u e = record { low = λ g h. u .graph .least g (omega arith) }
-
-  -- what the plan asks
-  pub settled-planning : {order first tops first′ : List ℕ} → Sure order first tops → length first ≡ w .gates → length order ≡ w .gates → length tops ≡ w .gates
-      → Lowered first first′ (length first) → Planning k target w first′ tops order
-  settled-planning {first = first} {first′ = first′} u e d c low = record {
-    facts = s .facts;
+  pub settling-kept : Settling k target z net′ ts
+  settling-kept = record {
+    facts = kept-facts (s .facts) q;
+    room = kept-room q (s .room);
+    sound = rw settling-same (s .sound);
+    fits = rw settling-same (s .fits);
     low = s .low;
     high = s .high;
     near = s .near;
-    passed = u .passes;
-    firsts = let a = low .size in omega arith;
-    pin = λ g h.
-        let a = low .less g (omega arith) in
-        let b = u .graph .least g h in
-        let q = u .graph .pin g h in
-        omega arith;
-    orders = omega arith;
-    inOrder = u .graph .inOrder;
-    ordered = u .graph .ordered;
-    atTops = omega arith;
-    top = λ g h. let a = u .graph .top g h .1 in let b = s .facts .gates-high in omega arith;
-    path = λ g h. (u .graph .top g h .0, u .graph .path N wired ended g h);
   }
 
-  pub settled-none : {order first tops : List ℕ} {a : Kept} → Sure order first tops → Planned N k target a → a .period ≡ 0 → {b : Kept} → SettledAs k target w b 12
-  settled-none u q e = let t = q .none e in unreachable refl (u .passes) (t .0) (t .1)
+module _ {k target : ℕ} {z : NetSizes} {net ts net′ : List ℕ} {r : ℕ} (s : Settling k target z net ts) (t : GraphTold z net net′ r) where
+  abbrev N : Net
+  N = netIn (arraysOf z net ts)
 
-  pub settled-cover : {order first tops : List ℕ} {a : Kept} → Sure order first tops → Planned N k target a → ¬ (a .period ≡ 0) → SettledAs k target w a 0
-  settled-cover u q n = covered refl (u .passes) (q .some (omega arith))
+  says : Says z net′ N r
+  says = t .says N (record { wired = netIn-wired (arraysOf z net ts); ended = outputs-netIn (arraysOf z net ts) })
 
-pub cover-settled : {k target : ℕ} {w : Wiring} {a : Kept} {r : ℕ} → SettledAs k target w a r → r ≤ 0 → CoverSettled k target w a
+  -- a check failed
+  pub settled-check : {a : Kept} → 0 < r → SettledAs k target N a r
+  settled-check h = go says
+    where
+      none : r ≡ 0 → ⊥
+      none e = omega (arith, e, h)
+
+      go : {a : Kept} → Says z net′ N r → SettledAs k target N a r
+      go (passed e a b c g) = absurd (none e)
+      go (loop e f) = loops e f
+      go (unreached e a f) = cutOff e a f
+      go (unled e a b f) = idle e a b f
+
+  -- all passed
+  record Sure : Type 0 where
+    pub passes : Passed N k
+    pub graph : Graph z net′ N
+
+  module _ (h : r ≤ 0) where
+    sure : Sure
+    sure = go says
+      where
+        none : {n : ℕ} → r ≡ n → 0 < n → ⊥
+        none e l = omega (arith, e, l, h)
+
+        go : Says z net′ N r → Sure
+        go (passed e a b c g) = record { passes = record { sound = s .sound; fits = s .fits; loopless = a; reached = b; leading = c }; graph = g }
+        go (loop e f) = absurd (none e (omega arith))
+        go (unreached e a f) = absurd (none e (omega arith))
+        go (unled e a b f) = absurd (none e (omega arith))
+
+    same : netIn (arraysOf z net′ ts) ≡ N
+    same = settling-same s (t .kept)
+
+    -- what the plan asks
+    pub settled-planning : Planning k target z net′ ts
+    settled-planning = record {
+      facts = kept-facts (s .facts) (t .kept);
+      room = kept-room (t .kept) (s .room);
+      low = s .low;
+      high = s .high;
+      near = s .near;
+      passed = subst (λ (M : Net). Passed M k) (sym same) (sure .passes);
+      graph = subst (Graph z net′) (sym same) (sure .graph);
+    }
+
+    module _ {a : Kept} (q : Planned (netIn (arraysOf z net′ ts)) k target a) where
+      planned : Planned N k target a
+      planned = subst (λ (M : Net). Planned M k target a) same q
+
+      pub settled-none : {b : Kept} → a .period ≡ 0 → SettledAs k target N b 12
+      settled-none e = let u = planned .none e in unreachable refl (sure .passes) (u .0) (u .1)
+
+      pub settled-cover : ¬ (a .period ≡ 0) → SettledAs k target N a 0
+      settled-cover n = covered refl (sure .passes) (planned .some (omega arith))
+
+pub cover-settled : {k target : ℕ} {N : Net} {a : Kept} {r : ℕ} → SettledAs k target N a r → r ≤ 0 → CoverSettled k target N a
 cover-settled (covered e P c) h = record { passed = P; cover = c }
 cover-settled (loops e n) h = absurd (none e h)
   where
@@ -118,31 +117,9 @@ cover-settled (unreachable e P h′ n) h = absurd (none e h)
     none e h = omega arith
 
 -- the number of a refusal is small
-pub settled-small : {k target : ℕ} {w : Wiring} {a : Kept} {r : ℕ} → SettledAs k target w a r → r < 256
+pub settled-small : {k target : ℕ} {N : Net} {a : Kept} {r : ℕ} → SettledAs k target N a r → r < 256
 settled-small (loops e n) = omega arith
 settled-small (cutOff e l n) = omega arith
 settled-small (idle e l t n) = omega arith
 settled-small (unreachable e P h n) = omega arith
 settled-small (covered e P c) = omega arith
-
--- ---- pins from 0 on
-
-pub lowered-none : (m : List ℕ) → Lowered m m 0
-lowered-none m = record { size = refl; less = λ g h. absurd (not-suc-le-zero h); rest = λ g h. refl }
-
-pub lowered-next : (m m′ : List ℕ) (n : ℕ) → n < length m′ → Lowered m m′ n → Lowered m (set m′ n (getD m′ n 0 - 1)) (n + 1)
-lowered-next m m′ n room l = record {
-  size = length-set m′ n (getD m′ n 0 - 1) ∙ l .size;
-  less = λ g h. go g h (ℕ-discrete g n);
-  rest = λ g h. getD-set-other m′ n g (getD m′ n 0 - 1) 0 (apart g h) ∙ l .rest g (omega arith);
-}
-  where
-    apart : (g : ℕ) → n + 1 ≤ g → ¬ (g ≡ n)
-    apart g h e = omega arith
-
-    go : (g : ℕ) → g < n + 1 → Dec (g ≡ n) → getD (set m′ n (getD m′ n 0 - 1)) g 0 ≡ getD m g 0 - 1
-    go g h (yes e) = ap (λ (x : ℕ). getD (set m′ n (getD m′ n 0 - 1)) x 0) e ∙ getD-set-same m′ n (getD m′ n 0 - 1) 0 room ∙ ap (λ (x : ℕ). x - 1) (l .rest n (omega arith)) ∙ ap (λ (x : ℕ). getD m x 0 - 1) (sym e)
-    go g h (no d) = getD-set-other m′ n g (getD m′ n 0 - 1) 0 d ∙ l .less g (omega arith)
-
-pub lowered-all : {m m′ : List ℕ} {n k : ℕ} → n ≤ k → k ≤ n → Lowered m m′ n → Lowered m m′ k
-lowered-all h k l = record { size = l .size; less = λ g a. l .less g (omega arith); rest = λ g a. l .rest g (omega arith) }

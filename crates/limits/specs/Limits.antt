@@ -92,7 +92,7 @@ abbrev pub mostHeld : ℕ
 mostHeld = suc mostK * mostGates
 
 abbrev pub mostPacked : ℕ
-mostPacked = (2 + 3 * mostPins) * mostGates + mostNodes
+mostPacked = (4 + 3 * mostPins) * mostGates + mostNodes + 2 * mostOutputs
 
 -- "for each bit its d, two bytes": a stored d is below
 abbrev pub depthRoom : ℕ

@@ -56,7 +56,7 @@ pub const STACK: usize = 28 * GATES + 7;
 
 pub const HELD: usize = (1 + SLOTS) * GATES;
 
-pub const PACKED: usize = (2 + 3 * PINS) * GATES + NODES;
+pub const PACKED: usize = (4 + 3 * PINS) * GATES + NODES + 2 * OUTPUTS;
 
 pub const INPUT: usize = 65536;
 

@@ -1,8 +1,9 @@
-// Marks on gates, shared by the checks 9, 10 and 11: a mark is a number other than 0.
+// Numbers of gates in arrays, shared by the reader and the checks 9, 10 and 11: marks, which are numbers other than 0, and numbers stored in a row.
 ghost use mathlib.Core.Path.{_≡_};
 ghost use mathlib.Core.Bool.{true, false};
 ghost use Prim.Native.Nat.{ℕ, _+_, _-_, _≤_, _<_};
 ghost use lib.ListN.{length, getD};
+ghost use Rattle.sequences.specs.Stored.{Stored};
 ghost use Rattle.sequences.specs.Tests.{Tells};
 ghost use Rattle.net_marks.specs.Marks.{Marked, Known};
 
@@ -41,5 +42,18 @@ pub fn zero(seen: &mut [usize])
     while g < seen.len() {
         seen[g] = 0;
         g += 1;
+    }
+}
+
+// Stores the first n numbers of `from` at place `at`.
+pub fn store(from: &[usize], n: usize, net: &mut [usize], at: usize)
+    requires { do ⌜ n ≤ (← ⟦from.len()⟧) ⌝ }
+    requires { do ⌜ at + n ≤ (← ⟦net.len()⟧) ⌝ }
+    ensures { λ _. ⌜ Stored (now (net .entry)) at (now (from .entry)) n (now (net .exit)) ⌝ }
+{
+    let mut i = 0;
+    while i < n {
+        net[at + i] = from[i];
+        i += 1;
     }
 }

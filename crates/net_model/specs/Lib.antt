@@ -8,3 +8,5 @@ pub mod Arrays
 pub mod ArrayLaws
 pub mod Wired
 pub mod WiredLaws
+pub mod PackedNet
+pub mod PackedNetLaws

@@ -1,15 +1,15 @@
 -- Laws of reading the head, the numbers of the body and the whole net, one for each way out.
-use mathlib.Core.Path.{_≡_, refl, sym, ap, ap₂, _∙_}
+use mathlib.Core.Path.{_≡_, refl, sym, ap, _∙_}
 use mathlib.Core.List.{List, []}
 use Prim.Native.Nat.{ℕ, _+_, _≤_, _<_}
 use native.Mathlib.Omega.{arith}
 use lib.ListN.{length, drop}
 use Rattle.limits.specs.Limits.{mostOutputs}
-use Rattle.limits.specs.Courses.{Offered}
-use Rattle.limits.specs.CourseLaws.{offered-within}
 use Rattle.limits.specs.declared.Rules.{Rules}
 use Rattle.net_model.specs.Net.{Net, Gate, Pin}
-use Rattle.net_model.specs.Arrays.{netIn, gatesIn}
+use Rattle.net_model.specs.Arrays.{netIn}
+use Rattle.net_model.specs.PackedNet.{sourcesAt, countsAt}
+use Rattle.net_model.specs.PackedNetLaws.{gates-same}
 use Rattle.net_bytes.specs.Reading.{andThen, times, atEnd, between, got, refused}
 use Rattle.net_bytes.specs.Walk.{netReader, headReader, bodyReader, outputReader, netNumber}
 use Rattle.net_bytes.specs.Readers.{then-goes, then-stops, byte-got, number-got}
@@ -22,11 +22,11 @@ use Rattle.net_fields.specs.declared.Verdict.the-variants.{Read, Refused}
 use Rattle.net_fields.specs.Fields.{fieldByte}
 use Rattle.net_fields.specs.FieldLaws.{went, stopped, onward-stopping, end-done, end-over}
 use Rattle.net_fields.specs.Verdicts.{outcome}
-use Rattle.net_reader.specs.declared.Wiring.{Wiring}
+use Rattle.net_reader.specs.declared.NetSizes.{NetSizes}
 use Rattle.net_reader.specs.declared.BodySizes.{BodySizes}
 use Rattle.net_reader.specs.declared.Part.{Part}
 use Rattle.net_reader.specs.ReadAnswer.{arraysOf}
-use Rattle.net_reader.specs.NetStored.{gatesOf, outputsOf, GatesRead, OutputsRead, SizesRead, BodyRead}
+use Rattle.net_reader.specs.NetStored.{gatesOf, outputsOf, GatesRead, OutputsRead, SizesRead}
 
 -- the numbers of the body, where G is tested as the rules say
 module _ (R : Rules) (s : List ℕ) (at : ℕ) where
@@ -51,63 +51,43 @@ module _ (R : Rules) (s : List ℕ) (at : ℕ) where
     outputs-number-stops r f v =
         stop-sizes r (λ k i. body-stages R k i (drop at s) ∙ then-goes (fromGates (R .wide) k i) e ∙ then-stops (fromSizes (R .wide) k i g) f) v
 
-    pub sizes-go : Offered R → (o behind : ℕ) → fieldByte (OfNet Outputs) 0 t ≡ got o (drop behind s)
+    pub sizes-go : (o behind : ℕ) → fieldByte (OfNet Outputs) 0 t ≡ got o (drop behind s)
         → SizesRead R s at (record { verdict = Read; at = behind; gates = g; outputs = o })
-    sizes-go offered o behind f =
+    sizes-go o behind f =
         let few = between-true 1 (R .gates) g (number-got (R .wide) 4 5 (between 1 (R .gates)) (drop at s) g t e) .1 in
-        let most = offered-within offered .gates in
         record {
           result = λ k i. body-stages R k i (drop at s) ∙ then-goes (fromGates (R .wide) k i) e ∙ then-goes (fromSizes (R .wide) k i g) f;
-          gates = omega arith;
+          gates = few;
           outputs = between-true 1 mostOutputs o (byte-got 4 5 (between 1 mostOutputs) t o (drop behind s) f) .1;
         }
 
--- the arrays have the three numbers
-pub start-body : (R : Rules) (k i g o : ℕ) (s t : List ℕ) (w : Wiring) → bodyReader R k i s ≡ fromSizes (R .wide) k i g o t → w .inputs ≡ i → w .gates ≡ g → w .outputs ≡ o
-    → bodyReader R k i s ≡ fromSizes (R .wide) k (w .inputs) (w .gates) (w .outputs) t
-start-body R k i g o s t w e ei eg eo =
-    e ∙ ap (λ (x : ℕ). fromSizes (R .wide) k x g o t) (sym ei) ∙ ap₂ (λ (x y : ℕ). fromSizes (R .wide) k (w .inputs) x y t) (sym eg) (sym eo)
-
--- the whole body, from the arrays with its three numbers
-module _ (R : Rules) (k i : ℕ) (s : List ℕ) (start at : ℕ) (w : Wiring)
-    (e : bodyReader R k i (drop start s) ≡ fromSizes (R .wide) k (w .inputs) (w .gates) (w .outputs) (drop at s)) (y : Part) (gr : GatesRead (R .wide) s at k w y) where
-  pub gates-refused : {n : ℕ} → y .verdict ≡ Refused n → bodyReader R k i (drop start s) ≡ refused n
+-- the whole body, behind its numbers
+module _ (R : Rules) (k : ℕ) (s : List ℕ) (start at : ℕ) (z : NetSizes) (net ts : List ℕ)
+    (e : bodyReader R k (z .inputs) (drop start s) ≡ fromSizes (R .wide) k (z .inputs) (z .gates) (z .outputs) (drop at s)) (y : Part) (gr : GatesRead (R .wide) s at k z net ts y) where
+  pub gates-refused : {n : ℕ} → y .verdict ≡ Refused n → bodyReader R k (z .inputs) (drop start s) ≡ refused n
   gates-refused v =
-      e ∙ then-stops (fromGateList (R .wide) (w .inputs) (w .gates) (w .outputs)) (stopped (gatesOf (y .net) (w .gates)) (drop (y .at) s) (gr .result) v)
+      e ∙ then-stops (fromGateList (R .wide) (z .inputs) (z .gates) (z .outputs)) (stopped (gatesOf (z .gates) net ts (z .gates)) (drop (y .at) s) (gr .result) v)
 
-  module _ (v : y .verdict ≡ Read) (x : Part) (or : OutputsRead (R .wide) s (y .at) (y .net) x) where
-    gates-read : bodyReader R k i (drop start s) ≡ andThen (times (y .net .outputs) (outputReader (R .wide) (y .net .inputs + y .net .gates)) (drop (y .at) s))
-        (fromOutputList (y .net .inputs) (gatesOf (y .net) (y .net .gates)))
-    gates-read =
-        let out : ℕ → ℕ → ℕ → _ = λ i g o. andThen (times o (outputReader (R .wide) (i + g)) (drop (y .at) s)) (fromOutputList i (gatesOf (y .net) g)) in
-        e ∙ then-goes (fromGateList (R .wide) (w .inputs) (w .gates) (w .outputs)) (went (gatesOf (y .net) (w .gates)) (drop (y .at) s) (gr .result) v)
-        ∙ ap (λ (i : ℕ). out i (w .gates) (w .outputs)) (sym (gr .same .inputs)) ∙ ap₂ (out (y .net .inputs)) (sym (gr .same .gates)) (sym (gr .same .outputs))
+  module _ (v : y .verdict ≡ Read) (net′ : List ℕ) (x : Part) (or : OutputsRead (R .wide) s (y .at) z net net′ x) where
+    abbrev gs : List Gate
+    gs = gatesOf (z .gates) net ts (z .gates)
 
-    -- the arrays hold the gates that were read first
-    same-gates : gatesOf (y .net) (y .net .gates) ≡ gatesOf (x .net) (x .net .gates)
-    same-gates =
-        let q = or .kept in
-        ap₂ (λ (a : List ℕ) (b : List ℕ). gatesIn a b (y .net .counts) (y .net .tables) 0 (y .net .gates)) (sym (q .pins)) (sym (q .sources))
-        ∙ ap₂ (λ (a : List ℕ) (b : List ℕ). gatesIn (x .net .pins) (x .net .sources) a b 0 (y .net .gates)) (sym (q .counts)) (sym (q .tables))
-        ∙ ap (gatesOf (x .net)) (sym (q .same .gates))
-
-    same-net : record { inputs = y .net .inputs; gates = gatesOf (y .net) (y .net .gates); outputs = outputsOf (x .net) (y .net .outputs) } ≡ netIn (arraysOf (x .net))
+    -- the outputs leave the gates
+    same-net : record { inputs = z .inputs; gates = gs; outputs = outputsOf z net′ (z .outputs) } ≡ netIn (arraysOf z net′ ts)
     unfolding netIn
-    same-net =
-        let q = or .kept .same in
-        ap₂ (λ (i : ℕ) (g : List Gate). record { inputs = i; gates = g; outputs = outputsOf (x .net) (y .net .outputs) }) (sym (q .inputs)) same-gates
-        ∙ ap (λ (o : ℕ). record { inputs = x .net .inputs; gates = gatesOf (x .net) (x .net .gates); outputs = outputsOf (x .net) o }) (sym (q .outputs))
+    same-net = ap (λ (l : List Gate). record { inputs = z .inputs; gates = l; outputs = outputsOf z net′ (z .outputs) })
+        (sym (gates-same (z .gates) (z .gates) net net′ (gr .few v) (λ i h. or .below i (omega (arith, h))) (λ m h. or .below (sourcesAt (z .gates) + m) (omega (arith, h)))
+        (λ m h. or .below (countsAt (z .gates) + m) (omega (arith, h))) ts ts (λ i h. refl)))
 
-    listed : (i : ℕ) (gs : List Gate) (os : List Pin) (v : Verdict) (t : List ℕ)
-        → andThen (outcome v os t) (fromOutputList i gs) ≡ outcome v (record { inputs = i; gates = gs; outputs = os }) t
-    listed i gs os Read t = refl
-    listed i gs os (Refused n) t = refl
+    listed : (v : Verdict) (os : List Pin) (t : List ℕ)
+        → andThen (outcome v os t) (fromOutputList (z .inputs) gs) ≡ outcome v (record { inputs = z .inputs; gates = gs; outputs = os }) t
+    listed Read os t = refl
+    listed (Refused n) os t = refl
 
-    pub body-read : BodyRead R s start k i x
+    pub body-read : bodyReader R k (z .inputs) (drop start s) ≡ outcome (x .verdict) (netIn (arraysOf z net′ ts)) (drop (x .at) s)
     body-read =
-        let gs : List Gate = gatesOf (y .net) (y .net .gates) in
-        gates-read ∙ ap (λ r. andThen r (fromOutputList (y .net .inputs) gs)) (or .result)
-        ∙ listed (y .net .inputs) gs (outputsOf (x .net) (y .net .outputs)) (x .verdict) (drop (x .at) s)
+        e ∙ then-goes (fromGateList (R .wide) (z .inputs) (z .gates) (z .outputs)) (went gs (drop (y .at) s) (gr .result) v)
+        ∙ ap (λ r. andThen r (fromOutputList (z .inputs) gs)) (or .result) ∙ listed (x .verdict) (outputsOf z net′ (z .outputs)) (drop (x .at) s)
         ∙ ap (λ (N : Net). outcome (x .verdict) N (drop (x .at) s)) same-net
 
 -- the whole net, behind its head

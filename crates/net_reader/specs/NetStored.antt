@@ -1,109 +1,70 @@
--- Definitions: what the functions of the walk promise.
+-- Definitions: what the functions of the walk ask and promise.
 use mathlib.Core.Path.{_≡_}
 use mathlib.Core.Bool.{Bool}
 use mathlib.Core.List.{List, [], _∷_, _++_}
 use Prim.Native.Nat.{ℕ, _+_, _*_, _≤_, _<_}
-use lib.ListN.{getD, drop, set}
-use Rattle.limits.specs.Limits.{mostInputs, mostGates, mostOutputs}
+use lib.ListN.{length, getD, drop, set}
+use Rattle.limits.specs.Limits.{mostInputs, mostOutputs}
 use Rattle.limits.specs.declared.Rules.{Rules}
-use Rattle.sequences.specs.Stored.{Stored}
 use Rattle.net_model.specs.Net.{Gate, Pin}
 use Rattle.net_model.specs.Arrays.{netIn, pinsIn, gatesIn, stride}
+use Rattle.net_model.specs.PackedNet.{sourcesAt, countsAt, nextsAt, outsAt, delaysAt}
 use Rattle.net_bytes.specs.Reading.{times}
 use Rattle.net_bytes.specs.Walk.{headReader, bodyReader, gateReader, outputReader}
 use Rattle.net_bytes.specs.Stages.{fromSizes}
+use Rattle.net_fields.specs.declared.Verdict.the-variants.{Read}
 use Rattle.net_fields.specs.Verdicts.{outcome, onward}
 use Rattle.net_rows.specs.declared.GateRow.{GateRow}
 use Rattle.net_rows.specs.RowParts.{rowGate}
-use Rattle.net_reader.specs.declared.Wiring.{Wiring}
+use Rattle.net_reader.specs.declared.NetSizes.{NetSizes}
 use Rattle.net_reader.specs.declared.NetHead.{NetHead}
 use Rattle.net_reader.specs.declared.BodySizes.{BodySizes}
 use Rattle.net_reader.specs.declared.Part.{Part}
+use Rattle.net_reader.specs.declared.Body.{Body}
 use Rattle.net_reader.specs.ReadAnswer.{arraysOf}
 
--- the arrays with one more pin
-abbrev pub withPin : Wiring → ℕ → ℕ → ℕ → Wiring
-withPin w at source count = record {
-  inputs = w .inputs;
-  gates = w .gates;
-  outputs = w .outputs;
-  pins = w .pins;
-  sources = set (w .sources) at source;
-  counts = set (w .counts) at count;
-  tables = w .tables;
-  outs = w .outs;
-  delays = w .delays;
-}
-
--- the arrays with one more output
-abbrev pub withOutput : Wiring → ℕ → ℕ → ℕ → Wiring
-withOutput w o source count = record {
-  inputs = w .inputs;
-  gates = w .gates;
-  outputs = w .outputs;
-  pins = w .pins;
-  sources = w .sources;
-  counts = w .counts;
-  tables = w .tables;
-  outs = set (w .outs) o source;
-  delays = set (w .delays) o count;
-}
-
--- the first n gates
-abbrev pub gatesOf : Wiring → ℕ → List Gate
-gatesOf w n = gatesIn (w .pins) (w .sources) (w .counts) (w .tables) 0 n
+-- the first n gates of slices with places for so many
+abbrev pub gatesOf : ℕ → List ℕ → List ℕ → ℕ → List Gate
+gatesOf gates net tables n = gatesIn net (drop (sourcesAt gates) net) (drop (countsAt gates) net) tables 0 n
 
 -- the first n outputs
-abbrev pub outputsOf : Wiring → ℕ → List Pin
-outputsOf w n = pinsIn (w .outs) (w .delays) 0 n
-
--- the three numbers are the same
-pub record Same (w z : Wiring) : Type 0 where
-  pub inputs : z .inputs ≡ w .inputs
-  pub gates : z .gates ≡ w .gates
-  pub outputs : z .outputs ≡ w .outputs
-
--- the first j pins of gate g are stored
-pub record PinsStored (w : Wiring) (g : ℕ) (S C : List ℕ) (j : ℕ) (z : Wiring) : Type 0 where
-  pub same : Same w z
-  pub pins : z .pins ≡ w .pins
-  pub tables : z .tables ≡ w .tables
-  pub sources : Stored (w .sources) (stride * g) S j (z .sources)
-  pub counts : Stored (w .counts) (stride * g) C j (z .counts)
+abbrev pub outputsOf : NetSizes → List ℕ → ℕ → List Pin
+outputsOf s net n = pinsIn (drop (outsAt (s .inputs) (s .gates)) net) (drop (delaysAt (s .inputs) (s .gates) (s .outputs)) net) 0 n
 
 -- none of the first g gates has more pins than there are places
-abbrev pub narrow : Wiring → ℕ → Type 0
-narrow w g = (i : ℕ) → i < g → getD (w .pins) i 0 ≤ stride
+abbrev pub narrow : List ℕ → ℕ → Type 0
+narrow net g = (i : ℕ) → i < g → getD net i 0 ≤ stride
+
+-- a row can be stored as gate g
+pub record GateAsked (net tables : List ℕ) (gates g : ℕ) (row : GateRow) : Type 0 where
+  pub gate : g < gates
+  pub room : nextsAt gates ≤ length net
+  pub tabled : gates ≤ length tables
+  pub most : row .pins ≤ stride
+  pub few : narrow net g
 
 -- gate g is stored behind the gates below it, which stay
-pub record GateStored (w : Wiring) (g : ℕ) (row : GateRow) (z : Wiring) : Type 0 where
-  pub same : Same w z
-  pub gates : gatesOf z (g + 1) ≡ gatesOf w g ++ (rowGate row ∷ [])
-  pub few : narrow z (g + 1)
+pub record GateStored (net tables : List ℕ) (gates g : ℕ) (row : GateRow) (net′ tables′ : List ℕ) : Type 0 where
+  pub list : gatesOf gates net′ tables′ (g + 1) ≡ gatesOf gates net tables g ++ (rowGate row ∷ [])
+  pub few : narrow net′ (g + 1)
 
 -- all gates are read and stored
-pub record GatesRead (wide : Bool) (s : List ℕ) (at k : ℕ) (w : Wiring) (r : Part) : Type 0 where
-  pub result : times (w .gates) (gateReader wide k (w .inputs + w .gates)) (drop at s) ≡ outcome (r .verdict) (gatesOf (r .net) (w .gates)) (drop (r .at) s)
-  pub same : Same w (r .net)
+pub record GatesRead (wide : Bool) (s : List ℕ) (at k : ℕ) (z : NetSizes) (net tables : List ℕ) (r : Part) : Type 0 where
+  pub result : times (z .gates) (gateReader wide k (z .inputs + z .gates)) (drop at s) ≡ outcome (r .verdict) (gatesOf (z .gates) net tables (z .gates)) (drop (r .at) s)
+  pub few : r .verdict ≡ Read → narrow net (z .gates)
 
--- all but the outputs is the same
-pub record Kept (w z : Wiring) : Type 0 where
-  pub same : Same w z
-  pub pins : z .pins ≡ w .pins
-  pub sources : z .sources ≡ w .sources
-  pub counts : z .counts ≡ w .counts
-  pub tables : z .tables ≡ w .tables
+-- the slice with one more output
+abbrev pub withOutput : List ℕ → NetSizes → ℕ → ℕ → ℕ → List ℕ
+withOutput net s o source count = set (set net (outsAt (s .inputs) (s .gates) + o) source) (delaysAt (s .inputs) (s .gates) (s .outputs) + o) count
 
--- all outputs are read and stored, and the gates stay
-pub record OutputsRead (wide : Bool) (s : List ℕ) (at : ℕ) (w : Wiring) (r : Part) : Type 0 where
-  pub result : times (w .outputs) (outputReader wide (w .inputs + w .gates)) (drop at s) ≡ outcome (r .verdict) (outputsOf (r .net) (w .outputs)) (drop (r .at) s)
-  pub kept : Kept w (r .net)
+-- all below the outputs stays
+abbrev pub Below : NetSizes → List ℕ → List ℕ → Type 0
+Below z net net′ = (i : ℕ) → i < outsAt (z .inputs) (z .gates) → getD net′ i 0 ≡ getD net i 0
 
--- the numbers are in their ranges
-pub record Sized (w : Wiring) : Type 0 where
-  pub inputs : w .inputs ≤ mostInputs
-  pub gates : w .gates ≤ mostGates
-  pub outputs : w .outputs ≤ mostOutputs
+-- all outputs are read and stored
+pub record OutputsRead (wide : Bool) (s : List ℕ) (at : ℕ) (z : NetSizes) (net net′ : List ℕ) (r : Part) : Type 0 where
+  pub result : times (z .outputs) (outputReader wide (z .inputs + z .gates)) (drop at s) ≡ outcome (r .verdict) (outputsOf z net′ (z .outputs)) (drop (r .at) s)
+  pub below : Below z net net′
 
 -- the head is read
 pub record HeadRead (s : List ℕ) (r : NetHead) : Type 0 where
@@ -113,9 +74,9 @@ pub record HeadRead (s : List ℕ) (r : NetHead) : Type 0 where
 -- the numbers of gates and outputs are read: the body is what the readers behind them make of it
 pub record SizesRead (R : Rules) (s : List ℕ) (at : ℕ) (r : BodySizes) : Type 0 where
   pub result : (k i : ℕ) → bodyReader R k i (drop at s) ≡ onward (r .verdict) (fromSizes (R .wide) k i (r .gates) (r .outputs) (drop (r .at) s))
-  pub gates : r .gates ≤ mostGates
+  pub gates : r .gates ≤ R .gates
   pub outputs : r .outputs ≤ mostOutputs
 
 -- the body is read and stored
-abbrev pub BodyRead : Rules → List ℕ → ℕ → ℕ → ℕ → Part → Type 0
-BodyRead R s at k i r = bodyReader R k i (drop at s) ≡ outcome (r .verdict) (netIn (arraysOf (r .net))) (drop (r .at) s)
+abbrev pub BodyRead : Rules → List ℕ → ℕ → ℕ → ℕ → List ℕ → List ℕ → Body → Type 0
+BodyRead R s at k i net tables r = bodyReader R k i (drop at s) ≡ outcome (r .verdict) (netIn (arraysOf (r .sizes) net tables)) (drop (r .at) s)

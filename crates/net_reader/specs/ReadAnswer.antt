@@ -1,26 +1,18 @@
 -- Definitions: the walk's answer as the reader's result.
-use mathlib.Core.List.{[]}
+use mathlib.Core.List.{List, []}
+use Prim.Native.Nat.{ℕ}
 use Rattle.net_model.specs.Net.{Net}
 use Rattle.net_model.specs.Arrays.{Arrays, netIn}
+use Rattle.net_model.specs.PackedNet.{packedNet}
 use Rattle.net_bytes.specs.Reading.{Result}
 use Rattle.net_fields.specs.Verdicts.{outcome}
-use Rattle.net_reader.specs.declared.Wiring.{Wiring}
-use Rattle.net_reader.specs.declared.Walk.{Walk}
+use Rattle.net_reader.specs.declared.NetSizes.{NetSizes}
+use Rattle.net_reader.specs.declared.NetRead.{NetRead}
 
--- the arrays of a net as the walk keeps it
-abbrev pub arraysOf : Wiring → Arrays
-arraysOf w = record {
-  inputs = w .inputs;
-  gates = w .gates;
-  outputs = w .outputs;
-  pins = w .pins;
-  sources = w .sources;
-  counts = w .counts;
-  tables = w .tables;
-  outSources = w .outs;
-  outCounts = w .delays;
-}
+-- the arrays of a net of these sizes in the slices
+abbrev pub arraysOf : NetSizes → List ℕ → List ℕ → Arrays
+arraysOf s net tables = packedNet (s .inputs) (s .gates) (s .outputs) net tables
 
 -- the net and no byte left, or the number of the refusal
-abbrev pub resultOf : Walk → Result Net
-resultOf w = outcome (w .verdict) (netIn (arraysOf (w .net))) []
+abbrev pub resultOf : NetRead → List ℕ → List ℕ → Result Net
+resultOf r net tables = outcome (r .verdict) (netIn (arraysOf (r .sizes) net tables)) []

@@ -1,9 +1,6 @@
-// The byte walk over a net record under rules: one pass over any bytes, head, body and end, each byte tested when read.
+// The byte walk over a net record under rules: one pass over any bytes, head, body and end, each byte tested when read. The net is stored in one slice of numbers and one of tables.
 use inputs::wide;
-use limits::GATES;
-use limits::OUTPUTS;
 use limits::PINS;
-use limits::PLACES;
 use limits::Rules;
 use net_fields::Field;
 use net_fields::NetField;
@@ -11,34 +8,33 @@ use net_fields::Verdict;
 use net_fields::gates_field;
 use net_fields::read_byte;
 use net_fields::read_number;
+use net_marks::store;
 use net_rows::GateRow;
 use net_rows::read_gate;
 use net_rows::read_output;
 ghost use mathlib.Core.Path.{_≡_};
-ghost use Prim.Native.Nat.{_≤_, _<_};
-ghost use Rattle.limits.specs.Limits.{mostGates, mostInputs, mostOutputs, mostPins};
+ghost use Prim.Native.Nat.{_+_, _≤_, _<_};
+ghost use lib.ListN.{length};
+ghost use Rattle.limits.specs.Limits.{mostInputs, mostPins};
 ghost use Rattle.limits.specs.Courses.{Offered};
+ghost use Rattle.sequences.specs.Stored.{Stored};
+ghost use Rattle.net_model.specs.PackedNet.{orderAt, topsAt, outsAt, delaysAt, packedRoom};
 ghost use Rattle.net_bytes.specs.Walk.{netReader};
 ghost use Rattle.net_reader.specs.ReadAnswer.{resultOf};
-ghost use Rattle.net_reader.specs.NetStored.{PinsStored, narrow, GateStored, GatesRead, OutputsRead, HeadRead, SizesRead, BodyRead, Sized, withOutput};
+ghost use Rattle.net_reader.specs.Rooms.{NetRoom, ReadRoom};
+ghost use Rattle.net_reader.specs.NetStored.{GateAsked, GateStored, GatesRead, OutputsRead, HeadRead, SizesRead, BodyRead, withOutput};
 
-// A net as arrays: gate g has pins[g] pins, and pin j of gate g stands at 6g + j.
-pub struct Wiring {
+// The numbers of inputs, gates and outputs of a net.
+pub struct NetSizes {
     pub inputs: usize,
     pub gates: usize,
     pub outputs: usize,
-    pub pins: [usize; GATES],
-    pub sources: [usize; PLACES],
-    pub counts: [usize; PLACES],
-    pub tables: [u64; GATES],
-    pub outs: [usize; OUTPUTS],
-    pub delays: [usize; OUTPUTS],
 }
 
-// The verdict and, where it is Read, the net.
-pub struct Walk {
+// The verdict and, where it is Read, the sizes of the net in the slices.
+pub struct NetRead {
     pub verdict: Verdict,
-    pub net: Wiring,
+    pub sizes: NetSizes,
 }
 
 // The number of inputs, and the place behind it.
@@ -56,118 +52,152 @@ struct BodySizes {
     outputs: usize,
 }
 
-// The net so far, and the place behind what was read.
+// The place behind what was read.
 struct Part {
     verdict: Verdict,
     at: usize,
-    net: Wiring,
 }
 
-// The pins of a row are stored as those of gate g.
-fn store_pins(net: Wiring, g: usize, row: GateRow) -> Wiring
-    requires { ⌜ g < mostGates ⌝ }
-    ensures { λ r. ⌜ PinsStored net g (row .sources) (row .counts) mostPins r ⌝ }
+// The sizes, and the place behind the body.
+struct Body {
+    verdict: Verdict,
+    at: usize,
+    sizes: NetSizes,
+}
+
+// ---- where the parts stand behind pins and chains
+
+// The gates in order.
+pub fn order_at(s: NetSizes, net: &[usize]) -> usize
+    requires { ⌜ packedRoom (s .inputs) (s .gates) (s .outputs) ≤ length (now net) ⌝ }
+    ensures { λ r. ⌜ r ≡ orderAt (s .inputs) (s .gates) ⌝ }
 {
-    let sources = row.sources;
-    let counts = row.counts;
-    let mut out = net;
+    (2 + 3 * PINS) * s.gates + (s.inputs + s.gates)
+}
+
+pub fn tops_at(s: NetSizes, net: &[usize]) -> usize
+    requires { ⌜ packedRoom (s .inputs) (s .gates) (s .outputs) ≤ length (now net) ⌝ }
+    ensures { λ r. ⌜ r ≡ topsAt (s .inputs) (s .gates) ⌝ }
+{
+    order_at(s, net) + s.gates
+}
+
+// The sources of the outputs.
+pub fn outs_at(s: NetSizes, net: &[usize]) -> usize
+    requires { ⌜ packedRoom (s .inputs) (s .gates) (s .outputs) ≤ length (now net) ⌝ }
+    ensures { λ r. ⌜ r ≡ outsAt (s .inputs) (s .gates) ⌝ }
+{
+    tops_at(s, net) + s.gates
+}
+
+// The registers of the outputs.
+pub fn delays_at(s: NetSizes, net: &[usize]) -> usize
+    requires { ⌜ packedRoom (s .inputs) (s .gates) (s .outputs) ≤ length (now net) ⌝ }
+    ensures { λ r. ⌜ r ≡ delaysAt (s .inputs) (s .gates) (s .outputs) ⌝ }
+{
+    outs_at(s, net) + s.outputs
+}
+
+// ---- what was read is stored
+
+fn store_counts(counts: &[u8], net: &mut [usize], at: usize)
+    requires { ⌜ (mostPins ≤ length (now counts)) × (at + mostPins ≤ length (now net)) ⌝ }
+    ensures { λ _. ⌜ Stored (now (net .entry)) at (now (counts .entry)) mostPins (now (net .exit)) ⌝ }
+{
     let mut j: usize = 0;
     while j < PINS {
-        let at = PINS * g + j;
-        out.sources[at] = sources[j];
-        out.counts[at] = wide(counts[j]);
+        net[at + j] = wide(counts[j]);
         j += 1;
     }
-    out
 }
 
 // A row is stored as gate g.
-fn store_gate(net: Wiring, g: usize, row: GateRow) -> Wiring
-    requires { ⌜ g < mostGates ⌝ }
-    requires { ⌜ row .pins ≤ mostPins ⌝ }
-    requires { ⌜ narrow net g ⌝ }
-    ensures { λ r. ⌜ GateStored net g row r ⌝ }
+fn store_gate(net: &mut [usize], tables: &mut [u64], gates: usize, g: usize, row: GateRow)
+    requires { ⌜ GateAsked (now net) (now tables) gates g row ⌝ }
+    ensures { λ _. ⌜ GateStored (now (net .entry)) (now (tables .entry)) gates g row (now (net .exit)) (now (tables .exit)) ⌝ }
 {
-    let pins = row.pins;
-    let table = row.table;
-    let mut out = store_pins(net, g, row);
-    out.pins[g] = pins;
-    out.tables[g] = table;
-    out
+    let sources = row.sources;
+    store(&sources, PINS, net, 2 * gates + PINS * g);
+    let counts = row.counts;
+    store_counts(&counts, net, (2 + PINS) * gates + PINS * g);
+    net[g] = row.pins;
+    tables[g] = row.table;
 }
 
 // The gates, each stored as it is read.
-fn read_gates(bytes: &[u8], at: usize, k: u32, net: Wiring, rules: Rules) -> Part
-    requires { ⌜ Sized net ⌝ }
-    ensures { λ r. ⌜ GatesRead (rules .wide) (now (bytes .entry)) at k net r ⌝ }
+fn read_gates(
+    bytes: &[u8],
+    at: usize,
+    k: u32,
+    s: NetSizes,
+    net: &mut [usize],
+    tables: &mut [u64],
+    rules: Rules,
+) -> Part
+    requires { ⌜ NetRoom s (now net) (now tables) ⌝ }
+    ensures { λ r. ⌜ GatesRead (rules .wide) (now (bytes .entry)) at k s (now (net .exit)) (now (tables .exit)) r ⌝ }
 {
-    let gates = net.gates;
-    let nodes = net.inputs + net.gates;
-    let mut out = net;
+    let nodes = s.inputs + s.gates;
     let mut next = at;
     let mut g: usize = 0;
-    while g < gates {
+    while g < s.gates {
         let row = read_gate(bytes, next, k, nodes, rules);
         let v = row.verdict;
         if let Verdict::Refused(n) = v {
             return Part {
                 verdict: Verdict::Refused(n),
                 at: next,
-                net: out,
             };
         }
         next = row.at;
-        out = store_gate(out, g, row);
+        store_gate(net, tables, s.gates, g, row);
         g += 1;
     }
     Part {
         verdict: Verdict::Read,
         at: next,
-        net: out,
     }
 }
 
 // One output is stored.
-fn store_output(net: Wiring, o: usize, source: usize, count: usize) -> Wiring
-    requires { ⌜ o < mostOutputs ⌝ }
-    ensures { λ r. ⌜ r ≡ withOutput net o source count ⌝ }
+fn store_output(net: &mut [usize], s: NetSizes, o: usize, source: usize, count: usize)
+    requires { ⌜ (packedRoom (s .inputs) (s .gates) (s .outputs) ≤ length (now net)) × (o < s .outputs) ⌝ }
+    ensures { λ _. ⌜ now (net .exit) ≡ withOutput (now (net .entry)) s o source count ⌝ }
 {
-    let mut out = net;
-    out.outs[o] = source;
-    out.delays[o] = count;
-    out
+    let a = outs_at(s, net);
+    let b = delays_at(s, net);
+    net[a + o] = source;
+    net[b + o] = count;
 }
 
 // The outputs, each stored as it is read.
-fn read_outputs(bytes: &[u8], at: usize, net: Wiring, rules: Rules) -> Part
-    requires { ⌜ Sized net ⌝ }
-    ensures { λ r. ⌜ OutputsRead (rules .wide) (now (bytes .entry)) at net r ⌝ }
+fn read_outputs(bytes: &[u8], at: usize, s: NetSizes, net: &mut [usize], rules: Rules) -> Part
+    requires { ⌜ packedRoom (s .inputs) (s .gates) (s .outputs) ≤ length (now net) ⌝ }
+    ensures { λ r. ⌜ OutputsRead (rules .wide) (now (bytes .entry)) at s (now (net .entry)) (now (net .exit)) r ⌝ }
 {
-    let outputs = net.outputs;
-    let nodes = net.inputs + net.gates;
-    let mut out = net;
+    let nodes = s.inputs + s.gates;
     let mut next = at;
     let mut o: usize = 0;
-    while o < outputs {
+    while o < s.outputs {
         let row = read_output(bytes, next, nodes, rules);
         let v = row.verdict;
         if let Verdict::Refused(n) = v {
             return Part {
                 verdict: Verdict::Refused(n),
                 at: next,
-                net: out,
             };
         }
-        out = store_output(out, o, row.source, wide(row.count));
+        store_output(net, s, o, row.source, wide(row.count));
         next = row.at;
         o += 1;
     }
     Part {
         verdict: Verdict::Read,
         at: next,
-        net: out,
     }
 }
+
+// ---- head, body and end
 
 // The head: the number of inputs, tested as it is read.
 fn read_head(bytes: &[u8]) -> NetHead
@@ -224,84 +254,99 @@ fn read_sizes(bytes: &[u8], at: usize, rules: Rules) -> BodySizes
     }
 }
 
-// The arrays of a net with these numbers, nothing stored yet.
-fn empty(inputs: usize, gates: usize, outputs: usize) -> Wiring
-    ensures { λ r. ⌜ (r .inputs ≡ inputs) × (r .gates ≡ gates) × (r .outputs ≡ outputs) ⌝ }
-{
-    Wiring {
-        inputs: inputs,
-        gates: gates,
-        outputs: outputs,
-        pins: [0usize; GATES],
-        sources: [0usize; PLACES],
-        counts: [0usize; PLACES],
-        tables: [0u64; GATES],
-        outs: [0usize; OUTPUTS],
-        delays: [0usize; OUTPUTS],
+fn no_net() -> NetSizes {
+    NetSizes {
+        inputs: 0,
+        gates: 0,
+        outputs: 0,
     }
 }
 
-fn no_body(n: u8) -> Part
+fn no_body(n: u8) -> Body
     ensures { λ r. ⌜ r .verdict ≡ Verdict.Refused n ⌝ }
 {
-    Part {
+    Body {
         verdict: Verdict::Refused(n),
         at: 0,
-        net: empty(0, 0, 0),
+        sizes: no_net(),
     }
 }
 
 // The body: the numbers of gates and outputs, the gates, the outputs.
-fn read_body(bytes: &[u8], at: usize, k: u32, inputs: usize, rules: Rules) -> Part
+fn read_body(
+    bytes: &[u8],
+    at: usize,
+    k: u32,
+    inputs: usize,
+    net: &mut [usize],
+    tables: &mut [u64],
+    rules: Rules,
+) -> Body
     requires { ⌜ Offered rules ⌝ }
-    requires { ⌜ inputs ≤ mostInputs ⌝ }
-    ensures { λ r. ⌜ BodyRead rules (now (bytes .entry)) at k inputs r ⌝ }
+    requires { ⌜ (inputs ≤ mostInputs) × ReadRoom rules (now net) (now tables) ⌝ }
+    ensures { λ r. ⌜ BodyRead rules (now (bytes .entry)) at k inputs (now (net .exit)) (now (tables .exit)) r ⌝ }
 {
     let sizes = read_sizes(bytes, at, rules);
     let v = sizes.verdict;
     if let Verdict::Refused(n) = v {
         return no_body(n);
     }
-    let start = empty(inputs, sizes.gates, sizes.outputs);
-    let gates = read_gates(bytes, sizes.at, k, start, rules);
+    let s = NetSizes {
+        inputs: inputs,
+        gates: sizes.gates,
+        outputs: sizes.outputs,
+    };
+    let gates = read_gates(bytes, sizes.at, k, s, net, tables, rules);
     let w = gates.verdict;
     if let Verdict::Refused(n) = w {
         return no_body(n);
     }
-    let placed = gates.net;
-    read_outputs(bytes, gates.at, placed, rules)
-}
-
-fn refused_walk(n: u8) -> Walk
-    ensures { λ r. ⌜ r .verdict ≡ Verdict.Refused n ⌝ }
-{
-    Walk {
-        verdict: Verdict::Refused(n),
-        net: empty(0, 0, 0),
+    let outputs = read_outputs(bytes, gates.at, s, net, rules);
+    let x = outputs.verdict;
+    Body {
+        verdict: x,
+        at: outputs.at,
+        sizes: s,
     }
 }
 
-// The walk: the net of the record, or the number of the first refusal met.
-pub fn read_net(bytes: &[u8], k: u32, rules: Rules) -> Walk
+fn refused_net(n: u8) -> NetRead
+    ensures { λ r. ⌜ r .verdict ≡ Verdict.Refused n ⌝ }
+{
+    NetRead {
+        verdict: Verdict::Refused(n),
+        sizes: no_net(),
+    }
+}
+
+// The walk: the net of the record in the slices, or the number of the first refusal met.
+pub fn read_net(
+    bytes: &[u8],
+    k: u32,
+    rules: Rules,
+    net: &mut [usize],
+    tables: &mut [u64],
+) -> NetRead
     requires { ⌜ Offered rules ⌝ }
-    ensures { λ r. ⌜ netReader rules k (now (bytes .entry)) ≡ resultOf r ⌝ }
+    requires { ⌜ ReadRoom rules (now net) (now tables) ⌝ }
+    ensures { λ r. ⌜ netReader rules k (now (bytes .entry)) ≡ resultOf r (now (net .exit)) (now (tables .exit)) ⌝ }
 {
     let head = read_head(bytes);
     let v = head.verdict;
     if let Verdict::Refused(n) = v {
-        return refused_walk(n);
+        return refused_net(n);
     }
-    let body = read_body(bytes, head.at, k, head.inputs, rules);
+    let body = read_body(bytes, head.at, k, head.inputs, net, tables, rules);
     let w = body.verdict;
     if let Verdict::Refused(n) = w {
-        return refused_walk(n);
+        return refused_net(n);
     }
     if body.at < bytes.len() {
-        return refused_walk(8);
+        return refused_net(8);
     }
-    let net = body.net;
-    Walk {
+    let s = body.sizes;
+    NetRead {
         verdict: Verdict::Read,
-        net: net,
+        sizes: s,
     }
 }

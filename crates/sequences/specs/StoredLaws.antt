@@ -10,7 +10,7 @@ use Rattle.sequences.specs.Stored.{Stored}
 
 module _ (old : List ℕ) (at : ℕ) (given : List ℕ) where
   pub stored-none : Stored old at given 0 old
-  stored-none = record { here = λ m h. absurd (omega arith); below = λ m h. refl; long = refl }
+  stored-none = record { here = λ m h. absurd (omega arith); below = λ m h. refl; above = λ m h. refl; long = refl }
 
   pub stored-one : (j : ℕ) (new : List ℕ) → Stored old at given j new → at + j < length old → Stored old at given (j + 1) (set new (at + j) (getD given j 0))
   stored-one j new so h =
@@ -20,6 +20,7 @@ module _ (old : List ℕ) (at : ℕ) (given : List ℕ) where
       record {
         here = below-more _ _ (λ m l. other (at + m) (omega arith) ∙ so .here m l) (getD-set-same new (at + j) b 0 (omega arith));
         below = λ m l. other m (omega arith) ∙ so .below m l;
+        above = λ m l. other m (omega arith) ∙ so .above m (omega arith);
         long = length-set new (at + j) b ∙ long;
       }
 

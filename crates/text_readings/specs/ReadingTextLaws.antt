@@ -16,7 +16,7 @@ use Rattle.net_fields.specs.Verdicts.{outcome}
 use Rattle.net_fields.specs.declared.Verdict.{Verdict}
 use Rattle.net_fields.specs.declared.Verdict.the-variants.{Read, Refused}
 use Rattle.net_reader.specs.ReadAnswer.{arraysOf, resultOf}
-use Rattle.net_reader.specs.declared.Walk.{Walk}
+use Rattle.net_reader.specs.declared.NetRead.{NetRead}
 use Rattle.cover_writer.specs.Writing.{Wrote}
 use Rattle.text_digits.specs.PutLaws.{wrote-as}
 use Rattle.inputs.specs.InputParts.{Behind}
@@ -29,17 +29,17 @@ pub sizes-text : (inputs gates outputs : ℕ) → (((readWord ++ decimal inputs)
 unfolding sizesText
 sizes-text inputs gates outputs = pairs readWord (decimal inputs) gap (decimal gates) gap (decimal outputs) newline
 
-module _ (k : ℕ) (net : List ℕ) (r : Walk) (e : netReader long k net ≡ resultOf r) where
+module _ (k : ℕ) (net : List ℕ) (r : NetRead) (packed ts : List ℕ) (e : netReader long k net ≡ resultOf r packed ts) where
   pub reading-refused : {n m c : ℕ} {before after : List ℕ} → r .verdict ≡ Refused n → m ≡ n → Wrote (refusalText m) before after c → Wrote (readingText (netReader long k net)) before after c
   unfolding readingText
   reading-refused v d t =
-      wrote-as (ap readingText (e ∙ ap (λ (x : Verdict). outcome x (netIn (arraysOf (r .net))) []) v) ∙ ap refusalText (sym d)) t
+      wrote-as (ap readingText (e ∙ ap (λ (x : Verdict). outcome x (netIn (arraysOf (r .sizes) packed ts)) []) v) ∙ ap refusalText (sym d)) t
 
-  pub reading-read : {c : ℕ} {before after : List ℕ} → r .verdict ≡ Read → Wrote (sizesText (r .net .inputs) (r .net .gates) (r .net .outputs)) before after c
+  pub reading-read : {c : ℕ} {before after : List ℕ} → r .verdict ≡ Read → Wrote (sizesText (r .sizes .inputs) (r .sizes .gates) (r .sizes .outputs)) before after c
       → Wrote (readingText (netReader long k net)) before after c
   unfolding readingText
   reading-read v t =
-      let a = arraysOf (r .net) in
+      let a = arraysOf (r .sizes) packed ts in
       let o : length (netIn a .outputs) ≡ a .outputs = ap length (outputs-netIn a) ∙ length-pinsIn (a .outSources) (a .outCounts) 0 (a .outputs) in
       wrote-as (ap readingText (e ∙ ap (λ (x : Verdict). outcome x (netIn a) []) v)
       ∙ ap (λ (x : ℕ). sizesText x (length (netIn a .gates)) (length (netIn a .outputs))) (inputs-netIn a)

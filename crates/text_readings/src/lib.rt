@@ -3,6 +3,8 @@ use inputs::byte_at;
 use inputs::net_length;
 use inputs::place_behind;
 use inputs::wide;
+use limits::GATES;
+use limits::PACKED;
 use limits::long_course;
 use net_fields::Verdict;
 use net_reader::read_net;
@@ -34,13 +36,15 @@ fn write_reading(net: &[u8], k: u32, out: &mut [u8]) -> usize
     requires { ⌜ lineRoom ≤ length (now out) ⌝ }
     ensures { λ r. ⌜ Wrote (readingText (netReader long k (now (net .entry)))) (now (out .entry)) (now (out .exit)) r ⌝ }
 {
-    let w = read_net(net, k, long_course());
-    let v = w.verdict;
+    let mut packed = [0usize; PACKED];
+    let mut tables = [0u64; GATES];
+    let read = read_net(net, k, long_course(), &mut packed, &mut tables);
+    let v = read.verdict;
     if let Verdict::Refused(n) = v {
         return write_refusal(wide(n), out);
     }
-    let read = w.net;
-    write_sizes(read.inputs, read.gates, read.outputs, out)
+    let z = read.sizes;
+    write_sizes(z.inputs, z.gates, z.outputs, out)
 }
 
 // The line for a case, in front of out; a missing k reads as 0.

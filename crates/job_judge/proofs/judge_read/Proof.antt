@@ -11,51 +11,56 @@ judge-luts-requires : tie.Need-judge-luts-requires
 judge-luts-requires c κs = search needs
 
 narrow-requires : tie.Need-narrow-requires
-narrow-requires c κs = let j = c .before .before .before .before .before .before .pre .0 .0 in let x = c .before .before .before .before .before .before .args .c in cuts-small (recordOf x) (cut-as j x (c .before .before .before .judge-luts .ensures .0))
+narrow-requires c κs =
+    let j = c .before .before .before .before .before .before .before .before .pre .0 .0 in
+    let x = c .before .before .before .before .before .before .before .before .args .c in
+    cuts-small (recordOf x) (cut-as j x (c .before .before .before .judge-luts .ensures .0))
 
 same-length : tie.Need-same-length
 same-length c = search needs
 
 returns : tie.Need-returns
 returns c =
-    let start = c .before .before .before .before .before .before .before in
-    let j = start .pre .0 .0 in let x = start .args .c in (judged-cuts j x (cut-as j x (c .before .before .before .before .judge-luts .ensures .0)) (omega (arith, c .before .if1 .taken)) (c .narrow .ensures), c .before .before .before .before .judge-luts .ensures .1)
+    let j = c .before .before .before .before .before .before .before .before .before .pre .0 .0 in
+    let x = c .before .before .before .before .before .before .before .before .before .args .c in
+    (judged-cuts j x (cut-as j x (c .before .before .before .before .judge-luts .ensures .0)) (omega (arith, c .before .if1 .taken)) (c .narrow .ensures), c .before .before .before .before .judge-luts .ensures .1)
 
 judge-links-requires : tie.Need-judge-links-requires
 judge-links-requires c κs = search needs
 
 narrow-requires-2 : tie.Need-narrow-requires-2
 narrow-requires-2 c κs =
-    let start = c .before .before .before .before .before .before .before .before in
-    let j = start .pre .0 .0 in let x = start .args .c in links-small (recordOf x) (linked-as j x (c .before .judge-links .ensures))
+    let j = c .before .before .before .before .before .before .before .before .before .before .pre .0 .0 in
+    let x = c .before .before .before .before .before .before .before .before .before .before .args .c in
+    links-small (recordOf x) (linked-as j x (c .before .judge-links .ensures))
 
 same-length-2 : tie.Need-same-length-2
 same-length-2 c = search needs
 
 returns-2 : tie.Need-returns-2
 returns-2 c =
-    let start = c .before .before .before .before .before .before .before .before .before in
-    let j = start .pre .0 .0 in let x = start .args .c in (
-      judged-links j x (cut-as j x (c .before .before .before .before .before .before .judge-luts .ensures .0))
-          (omega (arith, c .before .before .before .if1 .left)) (linked-as j x (c .before .before .judge-links .ensures)) (omega (arith, c .before .if2 .taken)) (c .narrow2 .ensures),
+    let j = c .before .before .before .before .before .before .before .before .before .before .before .pre .0 .0 in
+    let x = c .before .before .before .before .before .before .before .before .before .before .before .args .c in
+    (
+      judged-links j x (cut-as j x (c .before .before .before .before .before .before .judge-luts .ensures .0)) (omega (arith, c .before .before .before .if1 .left)) (linked-as j x (c .before .before .judge-links .ensures)) (omega (arith, c .before .if2 .taken)) (c .narrow2 .ensures),
       c .before .before .before .before .before .before .judge-luts .ensures .1,
     )
 
-sub-t13 : tie.Need-sub-t13
-sub-t13 c =
-    let start = c .before .before .before .before .before .before .before .before .before in
-    let j = start .pre .0 .0 in let x = start .args .c in no-less j x (cut-as j x (c .before .before .before .before .before .before .judge-luts .ensures .0))
-    (omega (arith, c .before .before .before .if1 .left)) (linked-as j x (c .before .before .judge-links .ensures)) (omega (arith, c .before .if2 .left)) (start .pre .0 .1 .low)
+sub-t15 : tie.Need-sub-t15
+sub-t15 c =
+    let j = c .before .before .before .before .before .before .before .before .before .before .before .pre .0 .0 in
+    let x = c .before .before .before .before .before .before .before .before .before .before .before .args .c in
+    no-less j x (cut-as j x (c .before .before .before .before .before .before .judge-luts .ensures .0)) (omega (arith, c .before .before .before .if1 .left)) (linked-as j x (c .before .before .judge-links .ensures)) (omega (arith, c .before .if2 .left)) (c .before .before .before .before .before .before .before .before .before .before .before .pre .0 .1 .low)
 
 same-length-3 : tie.Need-same-length-3
 same-length-3 c = search needs
 
 returns-3 : tie.Need-returns-3
 returns-3 c =
-    let start = c .before .before .before .before .before .before .before .before .before in
-    let j = start .pre .0 .0 in let x = start .args .c in (
-      judged-right j x (cut-as j x (c .before .before .before .before .before .before .judge-luts .ensures .0))
-          (omega (arith, c .before .before .before .if1 .left)) (linked-as j x (c .before .before .judge-links .ensures)) (omega (arith, c .before .if2 .left)) (start .pre .0 .1 .high),
+    let j = c .before .before .before .before .before .before .before .before .before .before .before .pre .0 .0 in
+    let x = c .before .before .before .before .before .before .before .before .before .before .before .args .c in
+    (
+      judged-right j x (cut-as j x (c .before .before .before .before .before .before .judge-luts .ensures .0)) (omega (arith, c .before .before .before .if1 .left)) (linked-as j x (c .before .before .judge-links .ensures)) (omega (arith, c .before .if2 .left)) (c .before .before .before .before .before .before .before .before .before .before .before .pre .0 .1 .high),
       c .before .before .before .before .before .before .judge-luts .ensures .1,
     )
 
@@ -71,6 +76,6 @@ judge-read-spec =
     narrow-requires-2
     same-length-2
     returns-2
-    sub-t13
+    sub-t15
     same-length-3
     returns-3)

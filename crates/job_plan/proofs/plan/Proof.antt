@@ -1,104 +1,102 @@
--- `job_plan::plan` meets its contract.
+-- `job_plan::plan` meets its contract: the chains made, the engine's table cleared, and the cover.
+use mathlib.Core.Path.{sym, ap, _∙_}
+use Prim.Native.Nat.{ℕ, _+_, _≤_}
+use native.Mathlib.Omega.{arith}
+use lib.ListN.{length, take, drop}
+use lib.Seq.{length-take-le}
+use Rattle.limits.specs.Limits.{mostTable}
+use Rattle.job_plan.specs.Ready.{cleared-part, linked-kept, linked-net, linked-planning, plan-extending, planned-engine, planned-room, planned-cover}
+use Rattle.job_plan.specs.Engines.{length-behind}
 use borrow.Author.Needs.{needs}
 use Rattle.job_plan.proofs.plan.Statement.{statement}
 use Rattle.job_plan.proofs.plan.Tie as tie
-use Rattle.job_plan.proofs.plan.Reads as reads
-use Rattle.job_plan.proofs.plan.Lts as lts
-use Rattle.job_plan.proofs.fit.Reads as fit-reads
 
--- src/lib.rt:345:9
-slice-aggregate-fit : tie.Need-slice-aggregate-fit
-slice-aggregate-fit c = search needs
+add-all : tie.Need-add-all
+add-all c = search needs
 
--- src/lib.rt:347:9
-slice-aggregate-fit-2 : tie.Need-slice-aggregate-fit-2
-slice-aggregate-fit-2 c = search needs
+link-requires : tie.Need-link-requires
+link-requires c κs = search needs
 
--- src/lib.rt:348:9
-slice-aggregate-fit-3 : tie.Need-slice-aggregate-fit-3
-slice-aggregate-fit-3 c =
-    let good = c .before .before .before .before .before .before .before .before .before .before .before .before .before .before .before .before .before .before .good .0 in search
-    needs
+extent-requires : tie.Need-extent-requires
+extent-requires c κs = plan-extending (linked-planning (c .before .before .before .before .before .before .before .before .before .before .before .before .before .before .pre .0) (c .before .before .before .link .ensures))
 
--- src/lib.rt:349:9
-slice-aggregate-fit-4 : tie.Need-slice-aggregate-fit-4
-slice-aggregate-fit-4 c =
-    let good = c .before .before .before .before .before .before .before .before .before .before .before .before .before .before .before .before .before .before .before .good .0 in
-    search needs
+clear-first-requires : tie.Need-clear-first-requires
+clear-first-requires c κs = search needs
 
--- src/lib.rt:350:9
-slice-aggregate-fit-5 : tie.Need-slice-aggregate-fit-5
-slice-aggregate-fit-5 c =
-    let good = c .before .before .before .before .before .before .before .before .before .before .before .before .before .before .before .before .before .before .before
-    .before .good .0 in search needs
+slice-relend-prefix-cover : tie.Need-slice-relend-prefix-cover
+slice-relend-prefix-cover c = search needs
 
--- src/lib.rt:351:9
-slice-aggregate-fit-6 : tie.Need-slice-aggregate-fit-6
-slice-aggregate-fit-6 c =
-    let good = c .before .before .before .before .before .before .before .before .before .before .before .before .before .before .before .before .before .before .before .before
-    .before .good .0 in search needs
+slice-aggregate-cover : tie.Need-slice-aggregate-cover
+slice-aggregate-cover c =
+    let h : mostTable ≤ length (c .before .before .before .before .clear-first .last .0) = let d = c .before .before .before .before .before .before .before .before .before .before .before .before .before .before .before .before .before .before .before .before .before .pre .1 .0 in let e = c .before .before .before .before .clear-first .kept .0 in omega arith in
+    sym (length-take-le mostTable (c .before .before .before .before .clear-first .last .0) h)
 
--- src/lib.rt:341:5
-fit-requires : tie.Need-fit-requires
-fit-requires c κs =
-    let good = c .before .before .before .before .before .before .before .before .before .before .before .before .before .before .before .before .before .before .before .before
-    .before .before .before .before .before .before .before .before .good .0 in (
-      c .before .before .before .before .before .before .before .before .before .before .before .before .before .before .before .before .before .before .before .before .before
-          .before .before .before .before .before .before .before .pre .0,
-      (
-        record { atPins = search needs; atSources = search needs; atCounts = search needs; atTables = search needs; atOuts = search needs; atDelays = search needs },
-        c .before .before .before .before .before .before .before .before .before .before .before .before .before .before .before .before .before .before .before .before .before
-            .before .before .before .before .before .before .before .pre .1 .0,
-        c .before .before .before .before .before .before .before .before .before .before .before .before .before .before .before .before .before .before .before .before .before
-            .before .before .before .before .before .before .before .pre .1 .1,
-        c .before .before .before .before .before .before .before .before .before .before .before .before .before .before .before .before .before .before .before .before .before
-            .before .before .before .before .before .before .before .pre .1 .2,
-      ),
+slice-relend-prefix-cover-2 : tie.Need-slice-relend-prefix-cover-2
+slice-relend-prefix-cover-2 c = search needs
+
+slice-aggregate-cover-2 : tie.Need-slice-aggregate-cover-2
+slice-aggregate-cover-2 c =
+    let a = c .before .before .before .before .before .before .before .before .before .before .before .before .before .before .before .before .before .before .before .before .before .before .args in
+    sym (length-take-le (a .z .inputs + a .z .gates) (a .labels .now) (c .before .before .before .before .before .before .before .before .before .before .before .before .before .before .before .before .before .before .before .before .before .before .pre .1 .1))
+
+cover-requires : tie.Need-cover-requires
+cover-requires c κs =
+    let a = c .before .before .before .before .before .before .before .before .before .before .before .before .before .before .before .before .before .before .before .before .before .before .before .before .before .before .before .args in
+    let p = (linked-planning (c .before .before .before .before .before .before .before .before .before .before .before .before .before .before .before .before .before .before .before .before .before .before .before .before .before .before .before .pre .0) (c .before .before .before .before .before .before .before .before .before .before .before .before .before .before .before .before .link .ensures)) in
+    let x = c .before .before .before .before .before .before .before .before .before .before .before .before .extent .ensures in (
+      planned-engine p x (c .before .before .before .before .before .before .before .before .before .before .before .before .before .before .before .before .link .ensures .linked) _ (ap (take mostTable) (c .before .before .before .before .before .before .before .before .before .before .clear-first .ensures) ∙ cleared-part mostTable (a .work .now)) _
+          (length-take-le (a .z .inputs + a .z .gates) (a .labels .now) (c .before .before .before .before .before .before .before .before .before .before .before .before .before .before .before .before .before .before .before .before .before .before .before .before .before .before .before .pre .1 .1)),
+      planned-room p x (c .before .before .before .before .before .before .before .before .before .before .before .before .before .before .before .before .before .before .before .before .before .before .before .before .before .before .before .pre .1 .2),
     )
 
--- src/lib.rt:316:1
 same-length : tie.Need-same-length
 same-length c = search needs
 
--- src/lib.rt:316:1
 same-length-2 : tie.Need-same-length-2
-same-length-2 c = search needs
+same-length-2 c =
+    let h : mostTable ≤ length (c .before .before .before .before .before .before .before .before .before .before .before .before .before .before .before .before .before .before .before .before .before .before .before .before .clear-first .last .0) = let d = c .before .before .before .before .before .before .before .before .before .before .before .before .before .before .before .before .before .before .before .before .before .before .before .before .before .before .before .before .before .before .before .before .before .before .before .before .before .before .before .before .before .pre .1 .0 in let e = c .before .before .before .before .before .before .before .before .before .before .before .before .before .before .before .before .before .before .before .before .before .before .before .before .clear-first .kept .0 in omega arith in
+    length-behind (c .before .before .before .before .before .before .before .before .before .before .before .before .before .cover .last .1 .1 .1 .1 .1 .1 .0) (c .before .before .before .before .before .before .before .before .before .before .before .before .before .before .before .before .before .before .before .before .before .before .before .before .clear-first .last .0) mostTable h (c .before .before .before .before .before .before .before .before .before .before .before .before .before .cover .kept .1 .1 .1 .1 .1 .1 .0) ∙ c .before .before .before .before .before .before .before .before .before .before .before .before .before .before .before .before .before .before .before .before .before .before .before .before .clear-first .kept .0
 
--- src/lib.rt:316:1
 same-length-3 : tie.Need-same-length-3
 same-length-3 c = search needs
 
--- src/lib.rt:316:1
 same-length-4 : tie.Need-same-length-4
 same-length-4 c = search needs
 
--- src/lib.rt:316:1
 same-length-5 : tie.Need-same-length-5
 same-length-5 c = search needs
 
--- src/lib.rt:316:1
 same-length-6 : tie.Need-same-length-6
 same-length-6 c = search needs
 
--- src/lib.rt:316:1
 same-length-7 : tie.Need-same-length-7
 same-length-7 c = search needs
 
--- src/lib.rt:316:1
+same-length-8 : tie.Need-same-length-8
+same-length-8 c = search needs
+
 returns : tie.Need-returns
-returns c = search needs
+returns c =
+    let a = c .before .before .before .before .before .before .before .before .before .before .before .before .before .before .before .before .before .before .before .before .before .before .before .before .before .before .before .before .before .before .before .before .before .before .before .before .before .before .before .before .before .args in
+    let p = (linked-planning (c .before .before .before .before .before .before .before .before .before .before .before .before .before .before .before .before .before .before .before .before .before .before .before .before .before .before .before .before .before .before .before .before .before .before .before .before .before .before .before .before .before .pre .0) (c .before .before .before .before .before .before .before .before .before .before .before .before .before .before .before .before .before .before .before .before .before .before .before .before .before .before .before .before .before .before .link .ensures)) in (
+      planned-cover p (c .before .before .before .before .before .before .before .before .before .before .before .before .before .before .before .before .before .before .before .before .before .before .before .before .before .before .extent .ensures) (linked-net (c .before .before .before .before .before .before .before .before .before .before .before .before .before .before .before .before .before .before .before .before .before .before .before .before .before .before .before .before .before .before .before .before .before .before .before .before .before .before .before .before .before .pre .0) (c .before .before .before .before .before .before .before .before .before .before .before .before .before .before .before .before .before .before .before .before .before .before .before .before .before .before .before .before .before .before .link .ensures)) (drop (a .z .inputs + a .z .gates) (a .labels .now))
+          (c .before .before .before .before .before .before .before .before .before .before .before .before .before .cover .kept .1 .1 .1 .1 .1 .1 .1 .0 ∙ length-take-le (a .z .inputs + a .z .gates) (a .labels .now) (c .before .before .before .before .before .before .before .before .before .before .before .before .before .before .before .before .before .before .before .before .before .before .before .before .before .before .before .before .before .before .before .before .before .before .before .before .before .before .before .before .before .pre .1 .1)) (c .before .before .before .before .before .before .before .before .before .before .before .before .before .cover .ensures),
+      linked-kept (c .before .before .before .before .before .before .before .before .before .before .before .before .before .before .before .before .before .before .before .before .before .before .before .before .before .before .before .before .before .before .before .before .before .before .before .before .before .before .before .before .before .pre .0) (c .before .before .before .before .before .before .before .before .before .before .before .before .before .before .before .before .before .before .before .before .before .before .before .before .before .before .before .before .before .before .link .ensures),
+    )
 
 pub plan-spec : {M : Type 1} → statement M
 plan-spec =
     tie.close
     (tie.spec
-    slice-aggregate-fit
-    slice-aggregate-fit-2
-    slice-aggregate-fit-3
-    slice-aggregate-fit-4
-    slice-aggregate-fit-5
-    slice-aggregate-fit-6
-    fit-requires
+    add-all
+    link-requires
+    extent-requires
+    clear-first-requires
+    slice-relend-prefix-cover
+    slice-aggregate-cover
+    slice-relend-prefix-cover-2
+    slice-aggregate-cover-2
+    cover-requires
     same-length
     same-length-2
     same-length-3
@@ -106,4 +104,5 @@ plan-spec =
     same-length-5
     same-length-6
     same-length-7
+    same-length-8
     returns)

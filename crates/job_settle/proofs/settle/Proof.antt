@@ -1,123 +1,154 @@
--- `job_settle::settle` meets its contract.
-use mathlib.Core.Path.{sym, refl}
-use lib.ListN.{length, replicate}
+-- `job_settle::settle` meets its contract: one law for each way out.
+use mathlib.Core.Path.{sym}
 use lib.Seq.{length-take-le}
+use Rattle.net_model.specs.PackedNetLaws.{kept-trans}
+use Rattle.net_checks.specs.GraphLaws.{read-checkable}
+use Rattle.job_settle.specs.SettlingLaws.{settled-check, settled-planning, settled-none, settled-cover}
 use borrow.Author.Needs.{needs}
-use Rattle.limits.specs.Limits.{mostGates}
 use Rattle.job_settle.proofs.settle.Statement.{statement}
 use Rattle.job_settle.proofs.settle.Tie as tie
-use Rattle.job_settle.proofs.settle.Reads as reads
-use Rattle.job_settle.proofs.settle.Lts as lts
-use Rattle.job_settle.proofs.settle_with.Reads as settle-with-reads
 
--- src/lib.rt:512:9
-array-borrow-prefix-placed : tie.Need-array-borrow-prefix-placed
-array-borrow-prefix-placed c = search needs
+slice-relend-prefix-check-graph : tie.Need-slice-relend-prefix-check-graph
+slice-relend-prefix-check-graph c = search needs
 
--- src/lib.rt:512:9
-slice-aggregate-settle-with : tie.Need-slice-aggregate-settle-with
-slice-aggregate-settle-with c =
-    let start = c .before .before .before .before .before .before .before in
-    sym (length-take-le (start .args .net .gates) (replicate mostGates 0) (start .pre .0 .facts .gates-high))
+slice-aggregate-check-graph : tie.Need-slice-aggregate-check-graph
+slice-aggregate-check-graph c = sym (length-take-le (c .before .before .before .before .before .before .before .before .before .before .before .before .args .z .gates) (c .before .before .before .before .before .before .before .before .before .before .before .before .args .seen .now) (c .before .before .before .before .before .before .before .before .before .before .before .before .pre .1 .0 .0))
 
--- src/lib.rt:513:9
-array-borrow-prefix-order : tie.Need-array-borrow-prefix-order
-array-borrow-prefix-order c = search needs
+slice-relend-prefix-check-graph-2 : tie.Need-slice-relend-prefix-check-graph-2
+slice-relend-prefix-check-graph-2 c = search needs
 
--- src/lib.rt:513:9
-slice-aggregate-settle-with-2 : tie.Need-slice-aggregate-settle-with-2
-slice-aggregate-settle-with-2 c =
-    let start = c .before .before .before .before .before .before .before .before in
-    sym (length-take-le (start .args .net .gates) (replicate mostGates 0) (start .pre .0 .facts .gates-high))
+slice-aggregate-check-graph-2 : tie.Need-slice-aggregate-check-graph-2
+slice-aggregate-check-graph-2 c = sym (length-take-le (c .before .before .before .before .before .before .before .before .before .before .before .before .before .args .z .gates) (c .before .before .before .before .before .before .before .before .before .before .before .before .before .args .noted .now) (c .before .before .before .before .before .before .before .before .before .before .before .before .before .pre .1 .0 .1))
 
--- src/lib.rt:514:9
-array-borrow-prefix-first : tie.Need-array-borrow-prefix-first
-array-borrow-prefix-first c = search needs
-
--- src/lib.rt:514:9
-slice-aggregate-settle-with-3 : tie.Need-slice-aggregate-settle-with-3
-slice-aggregate-settle-with-3 c =
-    let start = c .before .before .before .before .before .before .before .before .before in
-    sym (length-take-le (start .args .net .gates) (replicate mostGates 0) (start .pre .0 .facts .gates-high))
-
--- src/lib.rt:515:9
-array-borrow-prefix-tops : tie.Need-array-borrow-prefix-tops
-array-borrow-prefix-tops c = search needs
-
--- src/lib.rt:515:9
-slice-aggregate-settle-with-4 : tie.Need-slice-aggregate-settle-with-4
-slice-aggregate-settle-with-4 c =
-    let start = c .before .before .before .before .before .before .before .before .before .before in
-    sym (length-take-le (start .args .net .gates) (replicate mostGates 0) (start .pre .0 .facts .gates-high))
-
--- src/lib.rt:508:5
-settle-with-requires : tie.Need-settle-with-requires
-settle-with-requires c κs =
-    let start = c .before .before .before .before .before .before .before .before .before .before .before .before .before .before .before .before .before in (
-      start .pre .0,
-      (
-        (
-          length-take-le (start .args .net .gates) (replicate mostGates 0) (start .pre .0 .facts .gates-high),
-          length-take-le (start .args .net .gates)
-              (replicate mostGates 0) (start .pre .0 .facts .gates-high),
-          length-take-le (start .args .net .gates) (replicate mostGates 0) (start .pre .0 .facts .gates-high),
-          length-take-le
-              (start .args .net .gates) (replicate mostGates 0) (start .pre .0 .facts .gates-high),
-        ),
-        start .pre .1,
-      ),
+check-graph-requires : tie.Need-check-graph-requires
+check-graph-requires c κs =
+    let start = c .before .before .before .before .before .before .before .before .before .before .before .before .before in
+    let s = start .pre .0 in (
+      read-checkable (s .facts) (s .room),
+      record {
+        atSeen = length-take-le (start .args .z .gates) (start .args .seen .now) (start .pre .1 .0 .0);
+        atNoted = length-take-le (start .args .z .gates) (start .args .noted .now) (start .pre .1 .0 .1);
+      },
     )
 
--- src/lib.rt:487:1
 same-length : tie.Need-same-length
 same-length c = search needs
 
--- src/lib.rt:487:1
 same-length-2 : tie.Need-same-length-2
 same-length-2 c = search needs
 
--- src/lib.rt:487:1
 same-length-3 : tie.Need-same-length-3
 same-length-3 c = search needs
 
--- src/lib.rt:487:1
+returns : tie.Need-returns
+returns c = (settled-check (c .before .before .before .before .before .before .before .before .before .before .before .before .before .before .before .before .before .before .before .before .before .pre .0) (c .before .before .before .before .before .before .before .check-graph .ensures) (c .if1 .taken), c .before .before .before .before .before .before .before .check-graph .ensures .kept)
+
+plan-requires : tie.Need-plan-requires
+plan-requires c κs = (settled-planning (c .before .before .before .before .before .before .before .before .before .before .before .before .before .before .before .before .before .before .before .before .before .before .before .before .before .before .before .before .before .pre .0) (c .before .before .before .before .before .before .before .before .before .before .before .before .before .before .before .check-graph .ensures) (c .before .before .before .before .before .before .before .before .if1 .left), c .before .before .before .before .before .before .before .before .before .before .before .before .before .before .before .before .before .before .before .before .before .before .before .before .before .before .before .before .before .pre .1 .1)
+
 same-length-4 : tie.Need-same-length-4
 same-length-4 c = search needs
 
--- src/lib.rt:487:1
 same-length-5 : tie.Need-same-length-5
 same-length-5 c = search needs
 
--- src/lib.rt:487:1
 same-length-6 : tie.Need-same-length-6
 same-length-6 c = search needs
 
--- src/lib.rt:487:1
 same-length-7 : tie.Need-same-length-7
 same-length-7 c = search needs
 
--- src/lib.rt:487:1
-returns : tie.Need-returns
-returns c = search needs
+same-length-8 : tie.Need-same-length-8
+same-length-8 c = search needs
+
+same-length-9 : tie.Need-same-length-9
+same-length-9 c = search needs
+
+same-length-10 : tie.Need-same-length-10
+same-length-10 c = search needs
+
+same-length-11 : tie.Need-same-length-11
+same-length-11 c = search needs
+
+same-length-12 : tie.Need-same-length-12
+same-length-12 c = search needs
+
+same-length-13 : tie.Need-same-length-13
+same-length-13 c = search needs
+
+returns-2 : tie.Need-returns-2
+returns-2 c =
+    let g = c .before .before .before .before .before .before .before .before .before .before .before .before .before .before .before .before .before .before .before .before .before .before .before .before .before .before .before .before .before .before .before .before .check-graph .ensures in
+    (settled-none (c .before .before .before .before .before .before .before .before .before .before .before .before .before .before .before .before .before .before .before .before .before .before .before .before .before .before .before .before .before .before .before .before .before .before .before .before .before .before .before .before .before .before .before .before .before .before .pre .0) g (c .before .before .before .before .before .before .before .before .before .before .before .before .before .before .before .before .before .before .before .before .before .before .before .before .before .if1 .left) (c .before .before .before .before .before .before .before .before .before .before .before .before .before .before .before .before .plan .ensures .0) (c .if2 .taken), kept-trans (g .kept) (c .before .before .before .before .before .before .before .before .before .before .before .before .before .before .before .before .plan .ensures .1))
+
+same-length-14 : tie.Need-same-length-14
+same-length-14 c = search needs
+
+same-length-15 : tie.Need-same-length-15
+same-length-15 c = search needs
+
+same-length-16 : tie.Need-same-length-16
+same-length-16 c = search needs
+
+same-length-17 : tie.Need-same-length-17
+same-length-17 c = search needs
+
+same-length-18 : tie.Need-same-length-18
+same-length-18 c = search needs
+
+same-length-19 : tie.Need-same-length-19
+same-length-19 c = search needs
+
+same-length-20 : tie.Need-same-length-20
+same-length-20 c = search needs
+
+same-length-21 : tie.Need-same-length-21
+same-length-21 c = search needs
+
+same-length-22 : tie.Need-same-length-22
+same-length-22 c = search needs
+
+same-length-23 : tie.Need-same-length-23
+same-length-23 c = search needs
+
+returns-3 : tie.Need-returns-3
+returns-3 c =
+    let g = c .before .before .before .before .before .before .before .before .before .before .before .before .before .before .before .before .before .before .before .before .before .before .before .before .before .before .before .before .before .before .before .before .check-graph .ensures in
+    (settled-cover (c .before .before .before .before .before .before .before .before .before .before .before .before .before .before .before .before .before .before .before .before .before .before .before .before .before .before .before .before .before .before .before .before .before .before .before .before .before .before .before .before .before .before .before .before .before .before .pre .0) g (c .before .before .before .before .before .before .before .before .before .before .before .before .before .before .before .before .before .before .before .before .before .before .before .before .before .if1 .left) (c .before .before .before .before .before .before .before .before .before .before .before .before .before .before .before .before .plan .ensures .0) (c .if2 .left), kept-trans (g .kept) (c .before .before .before .before .before .before .before .before .before .before .before .before .before .before .before .before .plan .ensures .1))
 
 pub settle-spec : {M : Type 1} → statement M
 settle-spec =
     tie.close
     (tie.spec
-    array-borrow-prefix-placed
-    slice-aggregate-settle-with
-    array-borrow-prefix-order
-    slice-aggregate-settle-with-2
-    array-borrow-prefix-first
-    slice-aggregate-settle-with-3
-    array-borrow-prefix-tops
-    slice-aggregate-settle-with-4
-    settle-with-requires
+    slice-relend-prefix-check-graph
+    slice-aggregate-check-graph
+    slice-relend-prefix-check-graph-2
+    slice-aggregate-check-graph-2
+    check-graph-requires
     same-length
     same-length-2
     same-length-3
+    returns
+    plan-requires
     same-length-4
     same-length-5
     same-length-6
     same-length-7
-    returns)
+    same-length-8
+    same-length-9
+    same-length-10
+    same-length-11
+    same-length-12
+    same-length-13
+    returns-2
+    same-length-14
+    same-length-15
+    same-length-16
+    same-length-17
+    same-length-18
+    same-length-19
+    same-length-20
+    same-length-21
+    same-length-22
+    same-length-23
+    returns-3)

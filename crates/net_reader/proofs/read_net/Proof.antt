@@ -15,15 +15,15 @@ read-head-requires c κs = search needs
 enum-known-v : tie.Need-enum-known-v
 enum-known-v c = search needs
 
-refused-walk-requires : tie.Need-refused-walk-requires
-refused-walk-requires c κs = search needs
+refused-net-requires : tie.Need-refused-net-requires
+refused-net-requires c κs = search needs
 
 returns : tie.Need-returns
 returns c =
-    let a = c .before .before .before .before .before .before .args in
+    let a = c .before .before .before .before .before .before .before .before .args in
     let s = now (a .bytes) in
     let h = c .before .before .before .before .read-head in
-    stopping _ _ (head-stops (a .rules) (a .k) s (stopped (h .result .inputs) (drop (h .result .at) s) (h .ensures .result) (c .before .before .v .given .1))) (c .refused-walk .ensures)
+    stopping _ _ (head-stops (a .rules) (a .k) s (stopped (h .result .inputs) (drop (h .result .at) s) (h .ensures .result) (c .before .before .v .given .1))) (c .refused-net .ensures)
 
 enum-told : tie.Need-enum-told
 enum-told c = search needs
@@ -34,44 +34,62 @@ read-body-requires c κs = search needs
 enum-known-w : tie.Need-enum-known-w
 enum-known-w c = search needs
 
-refused-walk-requires-2 : tie.Need-refused-walk-requires-2
-refused-walk-requires-2 c κs = search needs
+refused-net-requires-2 : tie.Need-refused-net-requires-2
+refused-net-requires-2 c κs = search needs
+
+same-length : tie.Need-same-length
+same-length c = search needs
+
+same-length-2 : tie.Need-same-length-2
+same-length-2 c = search needs
 
 returns-2 : tie.Need-returns-2
 returns-2 c =
-    let a = c .before .before .before .before .before .before .before .before .before .args in
+    let a = c .before .before .before .before .before .before .before .before .before .before .before .before .before .before .before .before .before .args in
     let s = now (a .bytes) in
-    let h = c .before .before .before .before .before .before .before .read-head in
-    let e = went (h .result .inputs) (drop (h .result .at) s) (h .ensures .result) (c .before .before .before .before .before .enum-told .given .1) in
-    let b = c .before .before .before .before .read-body in
-    let N = netIn (arraysOf (b .result .net)) in
-    stopping _ _ (body-stops (a .rules) (a .k) s (h .result .inputs) (h .result .at) e (stopped N (drop (b .result .at) s) (b .ensures) (c .before .before .w .given .1))) (c .refused-walk2 .ensures)
+    let h = c .before .before .before .before .before .before .before .before .before .before .before .before .before .read-head in
+    let e = went (h .result .inputs) (drop (h .result .at) s) (h .ensures .result) (c .before .before .before .before .before .before .before .before .before .before .before .enum-told .given .1) in
+    let b = c .before .before .before .before .before .before .before .before .read-body in
+    let N = netIn (arraysOf (b .result .sizes) (b .last .1 .1 .1 .1 .0) (b .last .1 .1 .1 .1 .1 .0)) in
+    stopping _ _ (body-stops (a .rules) (a .k) s (h .result .inputs) (h .result .at) e (stopped N (drop (b .result .at) s) (b .ensures) (c .before .before .w .given .1))) (c .refused-net2 .ensures)
 
 enum-told-2 : tie.Need-enum-told-2
 enum-told-2 c = search needs
 
-refused-walk-requires-3 : tie.Need-refused-walk-requires-3
-refused-walk-requires-3 c κs = search needs
+refused-net-requires-3 : tie.Need-refused-net-requires-3
+refused-net-requires-3 c κs = search needs
+
+same-length-3 : tie.Need-same-length-3
+same-length-3 c = search needs
+
+same-length-4 : tie.Need-same-length-4
+same-length-4 c = search needs
 
 returns-3 : tie.Need-returns-3
 returns-3 c =
-    let a = c .before .before .before .before .before .before .before .before .before .before .args in
+    let a = c .before .before .before .before .before .before .before .before .before .before .before .before .before .before .before .before .before .before .args in
     let s = now (a .bytes) in
-    let h = c .before .before .before .before .before .before .before .before .read-head in
-    let e = went (h .result .inputs) (drop (h .result .at) s) (h .ensures .result) (c .before .before .before .before .before .before .enum-told .given .1) in
-    let b = c .before .before .before .before .before .read-body in
-    let N = netIn (arraysOf (b .result .net)) in
+    let h = c .before .before .before .before .before .before .before .before .before .before .before .before .before .before .read-head in
+    let e = went (h .result .inputs) (drop (h .result .at) s) (h .ensures .result) (c .before .before .before .before .before .before .before .before .before .before .before .before .enum-told .given .1) in
+    let b = c .before .before .before .before .before .before .before .before .before .read-body in
+    let N = netIn (arraysOf (b .result .sizes) (b .last .1 .1 .1 .1 .0) (b .last .1 .1 .1 .1 .1 .0)) in
     let f = went N (drop (b .result .at) s) (b .ensures) (c .before .before .before .enum-told2 .given .1) in
-    stopping _ _ (bytes-over (a .rules) (a .k) s (h .result .inputs) (h .result .at) e N (b .result .at) f (c .before .if1 .taken)) (c .refused-walk3 .ensures)
+    stopping _ _ (bytes-over (a .rules) (a .k) s (h .result .inputs) (h .result .at) e N (b .result .at) f (c .before .if1 .taken)) (c .refused-net3 .ensures)
+
+same-length-5 : tie.Need-same-length-5
+same-length-5 c = search needs
+
+same-length-6 : tie.Need-same-length-6
+same-length-6 c = search needs
 
 returns-4 : tie.Need-returns-4
 returns-4 c =
-    let a = c .before .before .before .before .before .before .before .before .before .before .args in
+    let a = c .before .before .before .before .before .before .before .before .before .before .before .before .before .before .before .before .before .before .args in
     let s = now (a .bytes) in
-    let h = c .before .before .before .before .before .before .before .before .read-head in
-    let e = went (h .result .inputs) (drop (h .result .at) s) (h .ensures .result) (c .before .before .before .before .before .before .enum-told .given .1) in
-    let b = c .before .before .before .before .before .read-body in
-    let N = netIn (arraysOf (b .result .net)) in
+    let h = c .before .before .before .before .before .before .before .before .before .before .before .before .before .before .read-head in
+    let e = went (h .result .inputs) (drop (h .result .at) s) (h .ensures .result) (c .before .before .before .before .before .before .before .before .before .before .before .before .enum-told .given .1) in
+    let b = c .before .before .before .before .before .before .before .before .before .read-body in
+    let N = netIn (arraysOf (b .result .sizes) (b .last .1 .1 .1 .1 .0) (b .last .1 .1 .1 .1 .1 .0)) in
     let f = went N (drop (b .result .at) s) (b .ensures) (c .before .before .before .enum-told2 .given .1) in
     net-read (a .rules) (a .k) s (h .result .inputs) (h .result .at) e N (b .result .at) f (c .before .if1 .left)
 
@@ -81,14 +99,20 @@ read-net-spec =
     (tie.spec
     read-head-requires
     enum-known-v
-    refused-walk-requires
+    refused-net-requires
     returns
     enum-told
     read-body-requires
     enum-known-w
-    refused-walk-requires-2
+    refused-net-requires-2
+    same-length
+    same-length-2
     returns-2
     enum-told-2
-    refused-walk-requires-3
+    refused-net-requires-3
+    same-length-3
+    same-length-4
     returns-3
+    same-length-5
+    same-length-6
     returns-4)

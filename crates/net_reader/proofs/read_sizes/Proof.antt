@@ -69,7 +69,7 @@ returns-3 c =
     let o = c .before .before .before .read-byte in
     rw (c .wide .ensures)
     (sizes-go (a .rules) s (a .at) (g .result .value) (drop (g .result .at) s)
-    (went (g .result .value) (drop (g .result .at) s) is (c .before .before .before .before .enum-told .given .1)) (start .pre)
+    (went (g .result .value) (drop (g .result .at) s) is (c .before .before .before .before .enum-told .given .1))
     (o .result .value) (o .result .at) (went (o .result .value) (drop (o .result .at) s) (o .ensures) (c .before .enum-told2 .given .1)))
 
 pub read-sizes-spec : {M : Type 1} → statement M

@@ -1,12 +1,12 @@
--- `cut_circuit::store` meets its contract. The loop's invariant: the first i numbers are stored.
+-- `net_marks::store` meets its contract. The loop's invariant: the first i numbers are stored.
 use mathlib.Core.Path.{subst}
 use Prim.Native.Nat.{ℕ, _-_, _≤_}
 use native.Mathlib.Omega.{arith}
 use lib.ListN.{length}
 use Rattle.sequences.specs.Stored.{Stored}
 use Rattle.sequences.specs.StoredLaws.{stored-none, stored-one}
-use Rattle.cut_circuit.proofs.store.Statement.{statement}
-use Rattle.cut_circuit.proofs.store.Tie as tie
+use Rattle.net_marks.proofs.store.Statement.{statement}
+use Rattle.net_marks.proofs.store.Tie as tie
 
 abbrev Inv-loop : tie.InvT-loop
 Inv-loop from n net₀ at i₀ net i = (i ≤ n) × Stored net₀ at from i net

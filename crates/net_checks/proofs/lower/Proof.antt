@@ -1,16 +1,16 @@
--- `job_settle::lower` meets its contract, one place after the other.
+-- `net_checks::lower` meets its contract, one place after the other.
 use borrow.Author.Needs.{needs}
 use denote.Ref.{now}
 use mathlib.Core.Path.{_≡_, refl, _∙_}
 use Prim.Native.Nat.{ℕ, _-_, _≤_}
 use native.Mathlib.Omega.{arith}
 use lib.ListN.{length, length-set}
-use Rattle.job_settle.specs.Settling.{Lowered}
-use Rattle.job_settle.specs.SettlingLaws.{lowered-none, lowered-next, lowered-all}
-use Rattle.job_settle.proofs.lower.Statement.{statement}
-use Rattle.job_settle.proofs.lower.Tie as tie
-use Rattle.job_settle.proofs.lower.Reads as reads
-use Rattle.job_settle.proofs.lower.Lts as lts
+use Rattle.net_checks.specs.Lowering.{Lowered}
+use Rattle.net_checks.specs.LoweringLaws.{lowered-none, lowered-next, lowered-all}
+use Rattle.net_checks.proofs.lower.Statement.{statement}
+use Rattle.net_checks.proofs.lower.Tie as tie
+use Rattle.net_checks.proofs.lower.Reads as reads
+use Rattle.net_checks.proofs.lower.Lts as lts
 
 abbrev Inv-loop : tie.InvT-loop
 Inv-loop marks₀ g₀ marks g = (g ≤ length marks₀) × Lowered marks₀ marks g
