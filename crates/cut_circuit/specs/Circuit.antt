@@ -54,6 +54,13 @@ ending C x = endingAt (C .inputs) (C .width) (C .border) x + (suc x - total C)
 abbrev pub feedingAt : ℕ → List ℕ → List ℕ → ℕ → ℕ → ℕ
 feedingAt width sources counts x p = getD sources p 0 * width + (x % width + getD counts p 0)
 
+-- the number of pins of copy x, and the copy that feeds it by pin j
+abbrev pub pinsOf : Circuit → ℕ → ℕ
+pinsOf C x = getD (C .pins) (x / C .width - C .inputs) 0
+
+abbrev pub feeder : Circuit → ℕ → ℕ → ℕ
+feeder C x j = feedingAt (C .width) (C .sources) (C .counts) x (place C x j)
+
 -- n where the first number is 0, else 0
 abbrev pub unless : ℕ → ℕ → ℕ
 unless zero n = n

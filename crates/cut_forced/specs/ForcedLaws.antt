@@ -10,12 +10,12 @@ use Rattle.sequences.specs.Decide.{in-upTo}
 use Rattle.net_model.specs.Net.{Net}
 use Rattle.net_model.specs.Copies.{Copy, copy, Feeds, Leads}
 use Rattle.label_theory.specs.Forced.{ForcedSet, Forced}
-use Rattle.cut_circuit.specs.Circuit.{Circuit}
+use Rattle.cut_circuit.specs.Circuit.{Circuit, feeder}
 use Rattle.cut_circuit.specs.CircuitLaws.{wide-positive}
 use Rattle.cut_circuit.specs.Bridge.{Holds, decode, encode, decode-encode}
 use Rattle.cut_forced.specs.Slots.{marked}
 use Rattle.cut_forced.specs.SlotLaws.{marked-inner}
-use Rattle.cut_forced.specs.Forcing.{feeder, Target, LowOf, Ground, Growing, Settled, AllSettled}
+use Rattle.cut_forced.specs.Forcing.{Target, LowOf, Ground, Growing, Settled, AllSettled}
 use Rattle.cut_forced.specs.AddLaws.{copiesOf, copies-in}
 use Rattle.cut_forced.specs.ForcedPinLaws.{feeds-pin}
 

@@ -15,13 +15,13 @@ use Rattle.net_model.specs.Copies.{Copy, copy, Feeds}
 use Rattle.label_theory.specs.Labels.{Low}
 use Rattle.label_theory.specs.Forced.{Forced}
 use Rattle.signed.specs.Range.{room, labelIn}
-use Rattle.cut_circuit.specs.Circuit.{Circuit, total, ending}
+use Rattle.cut_circuit.specs.Circuit.{Circuit, total, ending, feeder, pinsOf}
 use Rattle.cut_circuit.specs.CircuitLaws.{terminal-is, pins-is, pin-below, source-is, wide-positive, place-below, source-below, node-below}
 use Rattle.cut_circuit.specs.Packed.{GateAsked, SourceAsked}
 use Rattle.cut_circuit.specs.Bridge.{Holds, decode, encode, to-feeds, from-feeds}
 use Rattle.cut_forced.specs.Slots.{marked, Inner}
 use Rattle.cut_forced.specs.SlotLaws.{gate-inside}
-use Rattle.cut_forced.specs.Forcing.{filled, pinsAt, feeder, Target, target, LowOf, ForcedAt, Ground, Growing, Told, Settled, Looked, LowAsked, PinAsked, PinTold, leaf, forced}
+use Rattle.cut_forced.specs.Forcing.{filled, Target, target, LowOf, ForcedAt, Ground, Growing, Told, Settled, Looked, LowAsked, PinAsked, PinTold, leaf, forced}
 use Rattle.cut_forced.specs.AddLaws.{grew-trans, told-same, told-added, few-fits, room-for}
 
 -- ---- a leaf low enough
@@ -52,14 +52,14 @@ module _ {W : Circuit} {N : Net} (H : Holds W N) where
     inner-ends : ending C x ≡ 0
     inner-ends = omega (arith, i .below, i .ends)
 
-    pub pin-feeds : {j : ℕ} → j < pinsAt W x → Feeds N (decode W (feeder W x j)) (decode W x)
+    pub pin-feeds : {j : ℕ} → j < pinsOf W x → Feeds N (decode W (feeder W x j)) (decode W x)
     pin-feeds {j} b = to-feeds (B .layout) (holds-filled (B .slots)) (record {
       pin = j;
       below = subst (λ (n : ℕ). j < n) (sym (pins-is C x (terminal-is C x ∙ inner-ends))) b;
       source = source-is C x j;
     })
 
-    pub feeds-pin : {c : Copy} → Feeds N c (decode W x) → (j : ℕ) × (j < pinsAt W x) × (feeder W x j ≡ encode W c) × (c .back < W .width)
+    pub feeds-pin : {c : Copy} → Feeds N c (decode W x) → (j : ℕ) × (j < pinsOf W x) × (feeder W x j ≡ encode W c) × (c .back < W .width)
     feeds-pin {c} f =
         let n = from-feeds (B .layout) (holds-filled (B .slots)) inner-ends f in
         let l = pin-below C x (n .feeding .pin) (n .feeding .below) in
@@ -92,7 +92,7 @@ module _ {W : Circuit} {ls : List ℤ} {φ k : ℕ} (B : Ground W ls φ k) {x : 
   pub gate-asked : GateAsked W (W .pins) x
   gate-asked = record { wide = wide; gate = omega (arith, i .ends); below = omega (arith, gate-inside wide i, B .layout .pins) }
 
-  module _ {j : ℕ} (b : j < pinsAt W x) where
+  module _ {j : ℕ} (b : j < pinsOf W x) where
     pub feeder-below : feeder W x j < total W
     feeder-below = source-below (B .layout) x j (i .below) ground-ends b
 

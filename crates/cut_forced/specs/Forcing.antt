@@ -16,10 +16,10 @@ use Rattle.label_theory.specs.Labels.{Low, Mode, Inside}
 use Rattle.label_theory.specs.Modes.{Bordered}
 use Rattle.label_theory.specs.Forced.{Forced}
 use Rattle.signed.specs.Range.{Small, room, labelIn}
-use Rattle.cut_circuit.specs.Circuit.{Circuit, Layout, total, circuit, place, endingAt, feedingAt, forcedAt}
+use Rattle.cut_circuit.specs.Circuit.{Circuit, Layout, total, circuit, pinsOf, feeder, endingAt, forcedAt}
 use Rattle.cut_circuit.specs.Packed.{SourceAsked}
 use Rattle.cut_circuit.specs.Bridge.{Holds, decode}
-use Rattle.cut_forced.specs.Slots.{marked, gateAt, holding, Slotted, Unmarked}
+use Rattle.cut_forced.specs.Slots.{marked, holding, Slotted, Unmarked}
 
 -- a circuit with other slots
 abbrev pub filled : Circuit → List ℕ → Circuit
@@ -28,13 +28,6 @@ filled W slots = circuit (W .inputs) (W .gates) (W .width) (W .border) (W .pins)
 -- a circuit without slots
 abbrev pub wiresOf : Circuit → Circuit
 wiresOf C = filled C []
-
-abbrev pub pinsAt : Circuit → ℕ → ℕ
-pinsAt W x = getD (W .pins) (gateAt W x) 0
-
--- the copy that feeds x by pin j
-abbrev pub feeder : Circuit → ℕ → ℕ → ℕ
-feeder W x j = feedingAt (W .width) (W .sources) (W .counts) x (place W x j)
 
 -- What is asked: labels, φ, the root and the height.
 pub record Target : Type 0 where
@@ -104,7 +97,7 @@ abbrev pub Settled : Circuit → Target → List ℕ → ℕ → ℕ → Type 0
 Settled W T slots x j = LowOf T (decode W (feeder W x j)) ⊎ (0 < marked W slots (feeder W x j))
 
 abbrev pub AllSettled : Circuit → Target → ℕ → List ℕ → Type 0
-AllSettled W T x slots = (j : ℕ) → j < pinsAt W x → Settled W T slots x j
+AllSettled W T x slots = (j : ℕ) → j < pinsOf W x → Settled W T slots x j
 
 -- the first n pins of x are settled
 abbrev pub Looked : Circuit → Target → ℕ → ℕ → List ℕ → Type 0

@@ -7,9 +7,9 @@ use lib.IntN.{ℤ}
 use lib.ListN.{length, getD}
 use Rattle.limits.specs.Limits.{mostK}
 use Rattle.sequences.specs.Member.{_∈_}
-use Rattle.cut_circuit.specs.Circuit.{Circuit, forcedAt}
+use Rattle.cut_circuit.specs.Circuit.{Circuit, forcedAt, feeder, pinsOf}
 use Rattle.cut_forced.specs.Slots.{marked, Inner}
-use Rattle.cut_forced.specs.Forcing.{pinsAt, feeder, Ground}
+use Rattle.cut_forced.specs.Forcing.{Ground}
 
 -- copy y, forced or one more
 abbrev pub OneMore : ℕ → ℕ → ℕ → ℕ → List ℕ → ℕ → ℕ → ℕ → Type 0
@@ -38,7 +38,7 @@ pub record PinsOutside (W : Circuit) (slots : List ℕ) (x n c r : ℕ) : Type 0
 pub record Outside (W : Circuit) (slots members : List ℕ) (m c : ℕ) : Type 0 where
   pub others : List ℕ
   pub count : c ≡ length others
-  pub all : (a : ℕ) → a < m → (j : ℕ) → j < pinsAt W (getD members a 0) → (0 < marked W slots (feeder W (getD members a 0) j)) ⊎ (feeder W (getD members a 0) j ∈ others)
+  pub all : (a : ℕ) → a < m → (j : ℕ) → j < pinsOf W (getD members a 0) → (0 < marked W slots (feeder W (getD members a 0) j)) ⊎ (feeder W (getD members a 0) j ∈ others)
 
 -- all members read at most k others
 pub record FewTold (W : Circuit) (slots members : List ℕ) (k : ℕ) : Type 0 where

@@ -8,16 +8,15 @@ use native.Mathlib.Decide.{ℕ-discrete}
 use lib.ListN.{getD, length-append}
 use Rattle.limits.specs.Limits.{mostPins}
 use Rattle.sequences.specs.Member.{_∈_, here, there, in-append-left, in-append-right}
-use Rattle.cut_circuit.specs.Circuit.{Circuit}
+use Rattle.cut_circuit.specs.Circuit.{Circuit, feeder, pinsOf}
 use Rattle.cut_circuit.specs.CircuitLaws.{wide-positive}
 use Rattle.cut_forced.specs.Slots.{marked, gateAt}
 use Rattle.cut_forced.specs.SlotLaws.{gate-inside}
-use Rattle.cut_forced.specs.Forcing.{pinsAt, feeder}
 use Rattle.cut_forced.specs.Outside.{OneMore, OutsideAsked, PinsOutside, Outside}
 
 -- ---- what is asked of a pin
 module _ {W : Circuit} {slots : List ℕ} {x : ℕ} (A : OutsideAsked W slots x) where
-  pub asked-few : pinsAt W x ≤ mostPins
+  pub asked-few : pinsOf W x ≤ mostPins
   asked-few = A .ground .layout .few (gateAt W x) (gate-inside (wide-positive (A .ground .layout)) (A .inner))
 
 pub one-more-bound : (inputs gates width border : ℕ) (slots : List ℕ) (y : ℕ) {c r m : ℕ} → OneMore inputs gates width border slots y c r → c ≤ m → r ≤ m + 1
@@ -55,7 +54,7 @@ module _ {W : Circuit} {slots members : List ℕ} where
   pub outside-all : {i n c : ℕ} → i ≡ n → Outside W slots members i c → Outside W slots members n c
   outside-all {c = c} e o = subst (λ (z : ℕ). Outside W slots members z c) e o
 
-  pub outside-more : {i c r : ℕ} → Outside W slots members i c → PinsOutside W slots (getD members i 0) (pinsAt W (getD members i 0)) c r → Outside W slots members (i + 1) r
+  pub outside-more : {i c r : ℕ} → Outside W slots members i c → PinsOutside W slots (getD members i 0) (pinsOf W (getD members i 0)) c r → Outside W slots members (i + 1) r
   outside-more {i} {c} {r} o p = record {
     others = p .others ++ o .others;
     count = omega (arith, p .count, o .count, length-append (p .others) (o .others));
@@ -73,7 +72,7 @@ module _ {W : Circuit} {slots members : List ℕ} where
       right a j (inl h) = inl h
       right a j (inr m) = inr (in-append-right (p .others) m)
 
-      go : (a : ℕ) → a < i + 1 → (j : ℕ) → j < pinsAt W (getD members a 0) → Dec (a ≡ i) → Read a j (p .others ++ o .others)
+      go : (a : ℕ) → a < i + 1 → (j : ℕ) → j < pinsOf W (getD members a 0) → Dec (a ≡ i) → Read a j (p .others ++ o .others)
       go a l j b (yes q) =
-          subst (λ (z : ℕ). Read z j (p .others ++ o .others)) (sym q) (left i j (p .all j (subst (λ (z : ℕ). j < pinsAt W (getD members z 0)) q b)))
+          subst (λ (z : ℕ). Read z j (p .others ++ o .others)) (sym q) (left i j (p .all j (subst (λ (z : ℕ). j < pinsOf W (getD members z 0)) q b)))
       go a l j b (no n) = right a j (o .all a (omega (arith, l, n)) j b)

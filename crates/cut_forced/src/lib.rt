@@ -11,6 +11,7 @@ ghost use mathlib.Core.Path.{_≡_};
 ghost use mathlib.Core.Bool.{true, false};
 ghost use mathlib.Core.List.{[]};
 ghost use Prim.Native.Nat.{_+_, _-_, _*_, _/_, _%_, _≤_, _<_};
+ghost use Rattle.cut_circuit.specs.Circuit.{feeder, pinsOf};
 ghost use Rattle.limits.specs.Limits.{mostK, mostPins};
 ghost use Rattle.net_model.specs.Copies.{copy};
 ghost use Rattle.label_theory.specs.Labels.{Low};
@@ -18,7 +19,7 @@ ghost use Rattle.signed.specs.Range.{labelIn};
 ghost use Rattle.cut_circuit.specs.Packed.{packedOf, SlotAsked};
 ghost use Rattle.cut_forced.specs.Slots.{holding, Unmarked};
 ghost use Rattle.cut_forced.specs.Outside.{OneMore, OutsideAsked, PinsOutside, FewAsked, FewTold};
-ghost use Rattle.cut_forced.specs.Forcing.{pinsAt, feeder, target, HoldAsked, Added, AddAsked, LowAsked, PinAsked, PinTold, MemberAsked, MemberTold, GrowAsked, GrowTold, ForceAsked, ForceTold, Listed};
+ghost use Rattle.cut_forced.specs.Forcing.{target, HoldAsked, Added, AddAsked, LowAsked, PinAsked, PinTold, MemberAsked, MemberTold, GrowAsked, GrowTold, ForceAsked, ForceTold, Listed};
 
 // A question: has the gate a k-cut of at most this height, for period phi?
 pub struct Query {
@@ -201,7 +202,7 @@ fn one_more(s: Extent, slots: &[u32], y: usize, c: usize) -> usize
 fn outside(s: Extent, net: &[usize], slots: &[u32], x: usize, c: usize) -> usize
     requires { ⌜ OutsideAsked (packedOf s (now net) []) (now slots) x ⌝ }
     requires { ⌜ c ≤ mostK ⌝ }
-    ensures { λ r. ⌜ PinsOutside (packedOf s (now (net .entry)) []) (now (slots .entry)) x (pinsAt (packedOf s (now (net .entry)) []) x) c r ⌝ }
+    ensures { λ r. ⌜ PinsOutside (packedOf s (now (net .entry)) []) (now (slots .entry)) x (pinsOf (packedOf s (now (net .entry)) []) x) c r ⌝ }
 {
     let n = pins_of(s, net, x);
     let mut out = c;

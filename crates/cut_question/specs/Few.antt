@@ -12,11 +12,11 @@ use Rattle.net_model.specs.Net.{Net, IsGate}
 use Rattle.net_model.specs.Copies.{Copy, copy, Feeds, Leaf}
 use Rattle.cone_theory.specs.Basics.{leavesOf, leaves-distinct}
 use Rattle.label_theory.specs.Forced.{ForcedSet, Separation, Forced}
-use Rattle.cut_circuit.specs.Circuit.{Circuit}
+use Rattle.cut_circuit.specs.Circuit.{Circuit, feeder, pinsOf}
 use Rattle.cut_circuit.specs.Bridge.{Holds, decode, decode-encode, inner-gate}
 use Rattle.cut_forced.specs.Slots.{marked, Inner}
 use Rattle.cut_forced.specs.SlotLaws.{marked-inner}
-use Rattle.cut_forced.specs.Forcing.{wiresOf, pinsAt, feeder, target, LowOf, Growing, AllSettled}
+use Rattle.cut_forced.specs.Forcing.{wiresOf, target, LowOf, Growing, AllSettled}
 use Rattle.cut_forced.specs.Outside.{FewAsked, FewTold}
 use Rattle.cut_forced.specs.AddLaws.{copiesOf, copies-in}
 use Rattle.cut_forced.specs.ForcedPinLaws.{feeds-pin}
@@ -43,12 +43,12 @@ module _ {C : Circuit} {ls : List ℤ} {φ k g : ℕ} {h : ℤ} {members₀ : Li
   }
 
   module _ (closed : (x : ℕ) → 0 < marked (wiresOf C) slots x → AllSettled (wiresOf C) (target ls φ (C .inputs + g) h) x slots) (f : FewTold (wiresOf C) slots (take m members) k) where
-    read : (x : ℕ) → 0 < marked (wiresOf C) slots x → (j : ℕ) → j < pinsAt (wiresOf C) x → (0 < marked (wiresOf C) slots (feeder (wiresOf C) x j)) ⊎ (feeder (wiresOf C) x j ∈ f .outside .others)
+    read : (x : ℕ) → 0 < marked (wiresOf C) slots x → (j : ℕ) → j < pinsOf (wiresOf C) x → (0 < marked (wiresOf C) slots (feeder (wiresOf C) x j)) ⊎ (feeder (wiresOf C) x j ∈ f .outside .others)
     read x p j b =
         let r = G .all x p in
         let e = part-at G (r .0) (r .1) ∙ r .2 in
         subst (λ (z : ℕ). (0 < marked (wiresOf C) slots (feeder (wiresOf C) z j)) ⊎ (feeder (wiresOf C) z j ∈ f .outside .others)) e
-        (f .outside .all (r .0) (omega (arith, r .1, part-length G)) j (subst (λ (z : ℕ). j < pinsAt (wiresOf C) z) (sym e) b))
+        (f .outside .all (r .0) (omega (arith, r .1, part-length G)) j (subst (λ (z : ℕ). j < pinsOf (wiresOf C) z) (sym e) b))
 
     module _ {N : Net} (H : Holds C N) where
       -- the leaves of the forced set are among the copies read

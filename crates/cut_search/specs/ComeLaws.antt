@@ -14,12 +14,12 @@ use Rattle.cut_flow.specs.Stack.{Frame, frame, Comes, itself, successor, Stacke
 use Rattle.cut_flow.specs.StackLaws.{comes-passed, last-passed, settled}
 use Rattle.cut_flow.specs.StackEnter.{entered-counted, entered-carried, entered-bare, hit}
 use Rattle.cut_flow.specs.StackBounds.{owed}
-use Rattle.cut_circuit.specs.Circuit.{Circuit, graphOf, total, ending, endingAt}
+use Rattle.cut_circuit.specs.Circuit.{Circuit, graphOf, total, ending, endingAt, pinsOf}
 use Rattle.cut_circuit.specs.CircuitLaws.{lawful, terminal-is, node-below, wide-positive}
 use Rattle.cut_search.specs.SearchTable.{viewOf, withIn, withFlow}
 use Rattle.cut_search.specs.SearchTableLaws.{with-in, with-flow, noted-in, noted-flow, live-flagged, left-marked-in, out-below}
 use Rattle.cut_search.specs.SearchParts.{EntryTold}
-use Rattle.cut_search.specs.Stacks.{framesOf, turnsOf, last-is, pinsOf, nodeOf, StackedIn, HangingIn, owing}
+use Rattle.cut_search.specs.Stacks.{framesOf, turnsOf, last-is, nodeOf, StackedIn, HangingIn, owing}
 use Rattle.cut_search.specs.StackParts.{Pushed}
 use Rattle.cut_search.specs.StacksLaws.{length-framesAt, owing-is, owed-more}
 use Rattle.cut_search.specs.CopyLaws.{inner-total, inner-few, comes-inner, stack-few, load-few, seek-next, seek-none}

@@ -13,14 +13,14 @@ use Rattle.cut_flow.specs.State.{Next, State}
 use Rattle.cut_flow.specs.Search.{View, Ready, reached-inner}
 use Rattle.cut_flow.specs.Stack.{Frame, Come, Comes, itself, successor, Core}
 use Rattle.cut_flow.specs.StackBounds.{frames-few, load-grows}
-use Rattle.cut_circuit.specs.Circuit.{Circuit, graphOf, total, place, ending, feedingAt, forcedIn}
+use Rattle.cut_circuit.specs.Circuit.{Circuit, graphOf, total, place, ending, feedingAt, forcedIn, feeder, pinsOf}
 use Rattle.cut_circuit.specs.CircuitLaws.{lawful, wide-positive, gate-below, place-below, source-below, source-back, node-below, copy-parts, terminal-is, pins-is, pin-below, source-is, forced-is}
 use Rattle.cut_circuit.specs.Chains.{Chain}
 use Rattle.cut_circuit.specs.Packed.{SourceAsked, GateAsked}
 use Rattle.cut_search.specs.SearchTable.{viewOf}
 use Rattle.cut_search.specs.SearchTableLaws.{flow-below}
-use Rattle.cut_search.specs.SearchParts.{Behind, SeekAsked, SeekTold, feeder, WayPlace}
-use Rattle.cut_search.specs.Stacks.{nodeOf, turnsOf, pinsOf, firstOf}
+use Rattle.cut_search.specs.SearchParts.{Behind, SeekAsked, SeekTold, WayPlace}
+use Rattle.cut_search.specs.Stacks.{nodeOf, turnsOf, firstOf}
 use Rattle.cut_search.specs.Steps.{Fixed}
 
 -- the gates' nodes

@@ -5,11 +5,11 @@ use Prim.Native.Nat.{ℕ, _+_, _-_, _/_, _%_, _^_, _≤_, _<_}
 use native.Mathlib.Omega.{arith}
 use lib.ListN.{length, getD, set}
 use Rattle.limits.specs.Limits.{mostPins}
-use Rattle.cut_circuit.specs.Circuit.{Circuit}
+use Rattle.cut_circuit.specs.Circuit.{Circuit, pinsOf}
 use Rattle.cut_circuit.specs.Packed.{GateAsked}
 use Rattle.cut_search.specs.SearchTable.{viewOf}
 use Rattle.cut_search.specs.SearchParts.{ListRoom, MarkedOutTold, WayPlace, WayTold}
-use Rattle.cut_search.specs.Stacks.{turnAt, pinsOf, firstOf}
+use Rattle.cut_search.specs.Stacks.{turnAt, firstOf}
 use Rattle.cut_search.specs.StepLaws.{top-inside, top-pins, top-firsts, top-few, top-first, top-way, top-fits, step-popped, step-barred, step-fresh, step-room, step-leave, step-left}
 use Rattle.cut_search.specs.Steps.{LeaveAsked, LeaveTold, StepAsked, StepTold}
 

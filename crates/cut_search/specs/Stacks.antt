@@ -9,7 +9,7 @@ use Rattle.sequences.specs.Member.{_∈_}
 use Rattle.cut_flow.specs.Search.{View}
 use Rattle.cut_flow.specs.Stack.{Frame, frame, Turns, Stacked, Hanging, Unwinding}
 use Rattle.cut_flow.specs.StackBounds.{owed}
-use Rattle.cut_circuit.specs.Circuit.{Circuit, graphOf, unless}
+use Rattle.cut_circuit.specs.Circuit.{Circuit, graphOf, pinsOf, unless}
 use Rattle.cut_circuit.specs.CircuitLaws.{pin-below, unless-zero, unless-positive}
 use Rattle.cut_search.specs.SearchTable.{viewOf, leftIn}
 
@@ -29,9 +29,6 @@ framesOf stk = framesAt stk (getD stk 0 0)
 abbrev pub turnAt : ℕ → ℕ → ℕ → ℕ
 turnAt n f zero = suc f
 turnAt n f (suc i) = unless (suc i - n) (suc i)
-
-abbrev pub pinsOf : Circuit → ℕ → ℕ
-pinsOf C x = getD (C .pins) (x / C .width - C .inputs) 0
 
 abbrev pub firstOf : Circuit → ℕ → ℕ
 firstOf C x = getD (C .first) (x / C .width - C .inputs) 0

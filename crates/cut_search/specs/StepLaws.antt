@@ -15,13 +15,13 @@ use Rattle.cut_flow.specs.Search.{View, MarkedOut, PinPassed}
 use Rattle.cut_flow.specs.Stack.{Frame, frame, Way, by-pin, by-self, WayPassed, Come, Stacked, Hanging, Unwinding}
 use Rattle.cut_flow.specs.StackLaws.{stacked-turned, stacked-popped, hang}
 use Rattle.cut_flow.specs.StackBounds.{owed, touched-few}
-use Rattle.cut_circuit.specs.Circuit.{Circuit, graphOf, total, ending, unless, forcedIn}
+use Rattle.cut_circuit.specs.Circuit.{Circuit, graphOf, total, ending, unless, forcedIn, feeder, pinsOf}
 use Rattle.cut_circuit.specs.CircuitLaws.{lawful, source-is, forced-is, pin-below, unless-zero, unless-positive}
 use Rattle.cut_circuit.specs.Packed.{GateAsked}
 use Rattle.cut_search.specs.SearchTable.{viewOf, Live, listed, listedIn, leftIn}
 use Rattle.cut_search.specs.SearchTableLaws.{left-marked-out}
-use Rattle.cut_search.specs.SearchParts.{ListRoom, MarkedOutTold, feeder, WayPlace, WayTold}
-use Rattle.cut_search.specs.Stacks.{framesAt, framesOf, turnAt, turnsOf, turn-is, last-is, pinsOf, firstOf, nodeOf, StackedIn, HangingIn, owing}
+use Rattle.cut_search.specs.SearchParts.{ListRoom, MarkedOutTold, WayPlace, WayTold}
+use Rattle.cut_search.specs.Stacks.{framesAt, framesOf, turnAt, turnsOf, turn-is, last-is, firstOf, nodeOf, StackedIn, HangingIn, owing}
 use Rattle.cut_search.specs.StacksLaws.{length-framesAt, frames-top, frames-popped, frames-raised, owing-is, owed-more}
 use Rattle.cut_search.specs.CopyLaws.{nodesOf, length-nodesOf, inner-total, inner-pins, inner-few, inner-first, pins-asked, first-asked, way-place, come-ends, come-node, stack-few}
 use Rattle.cut_search.specs.Steps.{Fixed, Load, Won, LeaveAsked, LeaveTold, RunAsked, StepAsked, StepTold, RunTold, Running}

@@ -10,12 +10,12 @@ use Rattle.sequences.specs.Member.{here}
 use Rattle.cut_flow.specs.Search.{View, FlowSet}
 use Rattle.cut_flow.specs.Stack.{Frame, frame, Unwinding}
 use Rattle.cut_flow.specs.Unwind.{unwound, unwinding-in, unwound-all}
-use Rattle.cut_circuit.specs.Circuit.{Circuit, graphOf, ending}
+use Rattle.cut_circuit.specs.Circuit.{Circuit, graphOf, ending, pinsOf}
 use Rattle.cut_circuit.specs.CircuitLaws.{pin-below}
 use Rattle.cut_circuit.specs.Packed.{GateAsked}
 use Rattle.cut_search.specs.SearchTable.{viewOf, Noted, withFlow}
 use Rattle.cut_search.specs.SearchTableLaws.{with-flow, noted-flow, live-flagged, in-below}
-use Rattle.cut_search.specs.Stacks.{frameIn, framesAt, turnAt, turnsOf, turn-is, pinsOf, firstOf, UnwindingIn}
+use Rattle.cut_search.specs.Stacks.{frameIn, framesAt, turnAt, turnsOf, turn-is, firstOf, UnwindingIn}
 use Rattle.cut_search.specs.StacksLaws.{length-framesAt, frames-top, frames-popped}
 use Rattle.cut_search.specs.CopyLaws.{inner-few, inner-first, pins-asked, first-asked}
 use Rattle.cut_search.specs.StepLaws.{turn-few}

@@ -101,7 +101,7 @@ pub record Certificate : Type 0 where
   pub root-place : (g : ℕ) (bytes : List ℕ) (o : ℕ) → findRoot g bytes ≡ found o → (2 ≤ o) × (o ≤ coverArea)
   -- ---- Document 02, E10: two captures of one unit; AlignTold has its sentences
   pub captures : (first second : List ℕ) → AlignTold first second
-  -- ---- Document 02, E2: the register count, fields in `Registers`
+  -- ---- Document 02, E2: the register count, fields in `SharedCount`
   pub shared : SharedCount
   -- ---- Document 02, E3. "that test is to end at the first leaf beyond the copy sought. Yes and no are the same for every copy and rising leaf list, and what stands
   -- behind that first leaf, rising or not, never changes them." The contract of `cone_leaves: seek` equates what it gives, for all leaves and copies, with `seekOf`.

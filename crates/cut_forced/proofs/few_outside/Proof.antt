@@ -5,8 +5,8 @@ use mathlib.Core.Bool.{false≢true}
 use Prim.Native.Nat.{ℕ, _-_, _≤_}
 use native.Mathlib.Omega.{arith}
 use lib.ListN.{length}
+use Rattle.cut_circuit.specs.Circuit.{pinsOf}
 use Rattle.cut_circuit.specs.Packed.{packedOf}
-use Rattle.cut_forced.specs.Forcing.{pinsAt}
 use Rattle.cut_forced.specs.Outside.{OutsideAsked, PinsOutside, Outside}
 use Rattle.cut_forced.specs.OutsideLaws.{outside-none, outside-all, outside-more}
 use Rattle.cut_forced.proofs.few_outside.Statement.{statement}
@@ -48,7 +48,7 @@ loop-again c =
     let W = packedOf (start .args .s) (start .args .net .now) [] in (
       omega (arith, c .before .before .before .loop-test .taken),
       omega (arith, c .if1 .left),
-      outside-more (loop .inv .2) (subst (λ (x : ℕ). PinsOutside W (start .args .slots .now) x (pinsAt W x) (loop .c) (c .before .outside .result))
+      outside-more (loop .inv .2) (subst (λ (x : ℕ). PinsOutside W (start .args .slots .now) x (pinsOf W x) (loop .c) (c .before .outside .result))
           (c .before .before .number-at .ensures) (c .before .outside .ensures)),
     )
 
