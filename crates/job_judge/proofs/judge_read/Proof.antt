@@ -40,8 +40,7 @@ same-length-2 c = search needs
 returns-2 : tie.Need-returns-2
 returns-2 c =
     let j = c .before .before .before .before .before .before .before .before .before .before .before .pre .0 .0 in
-    let x = c .before .before .before .before .before .before .before .before .before .before .before .args .c in
-    (
+    let x = c .before .before .before .before .before .before .before .before .before .before .before .args .c in (
       judged-links j x (cut-as j x (c .before .before .before .before .before .before .judge-luts .ensures .0)) (omega (arith, c .before .before .before .if1 .left)) (linked-as j x (c .before .before .judge-links .ensures)) (omega (arith, c .before .if2 .taken)) (c .narrow2 .ensures),
       c .before .before .before .before .before .before .judge-luts .ensures .1,
     )
@@ -58,8 +57,7 @@ same-length-3 c = search needs
 returns-3 : tie.Need-returns-3
 returns-3 c =
     let j = c .before .before .before .before .before .before .before .before .before .before .before .pre .0 .0 in
-    let x = c .before .before .before .before .before .before .before .before .before .before .before .args .c in
-    (
+    let x = c .before .before .before .before .before .before .before .before .before .before .before .args .c in (
       judged-right j x (cut-as j x (c .before .before .before .before .before .before .judge-luts .ensures .0)) (omega (arith, c .before .before .before .if1 .left)) (linked-as j x (c .before .before .judge-links .ensures)) (omega (arith, c .before .if2 .left)) (c .before .before .before .before .before .before .before .before .before .before .before .pre .0 .1 .high),
       c .before .before .before .before .before .before .judge-luts .ensures .1,
     )
