@@ -2,3 +2,4 @@ pub mod MarkAnswers
 pub mod JudgeMarking
 pub mod Judged
 pub mod MarkOutcomeLaws
+pub mod JudgeLent

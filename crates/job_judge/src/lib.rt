@@ -4,6 +4,7 @@ use cover_links::check_links;
 use cover_reader::Candidate;
 use cover_reader::read_cover;
 use inputs::narrow;
+use limits::LUTS;
 use limits::PINS;
 use limits::Rules;
 use net_reader::NetSizes;
@@ -16,8 +17,12 @@ ghost use Rattle.limits.specs.Limits.{mostTable};
 ghost use Rattle.net_model.specs.Arrays.{netIn};
 ghost use Rattle.net_reader.specs.ReadAnswer.{arraysOf};
 ghost use Rattle.cone_descent.specs.Descent.{Clear};
+ghost use Rattle.cover_reader.specs.Reads.{heldIn};
 ghost use Rattle.job_judge.specs.MarkAnswers.{answerOf};
-ghost use Rattle.job_judge.specs.JudgeMarking.{HeldFor, Judging, CutsToldOf, LinksToldOf, MarksNet, MarksRead};
+ghost use Rattle.job_judge.specs.JudgeMarking.{HeldFor, Judging, CutsAsked, CutsToldOf, LinksAsked, LinksToldOf, MarksNet, MarksRead};
+
+// The places of a candidate's LUTs.
+const ROWS: usize = (2 + 2 * PINS) * LUTS;
 
 // The excess, or the number of the refusal.
 pub enum Grade {
@@ -25,27 +30,26 @@ pub enum Grade {
     Refused(u8),
 }
 
-// Checks 14 and 15: 0, or the number of the first that fails.
+// Checks 14 and 15: 0, or the number of the first that fails. n LUTs stand in rows as the reader left them, with their tables.
 fn judge_luts(
     z: NetSizes,
     net: &[usize],
     tables: &[u64],
-    c: Candidate,
+    n: usize,
+    rows: &[usize],
+    luts: &[u64],
     k: usize,
     work: &mut [u8],
 ) -> usize
-    requires { ⌜ HeldFor k z (now net) (now tables) c ⌝ }
+    requires { ⌜ CutsAsked k z (now net) (now tables) n (now rows) (now luts) ⌝ }
     requires { ⌜ (mostTable ≤ length (now work)) × Clear (now work) ⌝ }
-    ensures { λ r. ⌜ CutsToldOf z (now (net .entry)) (now (tables .entry)) k c r ⌝ }
+    ensures { λ r. ⌜ CutsToldOf z (now (net .entry)) (now (tables .entry)) k n (now (rows .entry)) (now (luts .entry)) r ⌝ }
     ensures { λ _. ⌜ Clear (now (work .exit)) ⌝ }
 {
     let a = 2 * z.gates;
     let b = (2 + PINS) * z.gates;
-    let roots = c.roots;
-    let sizes = c.sizes;
-    let nodes = c.nodes;
-    let backs = c.backs;
-    let luts = c.tables;
+    let d = 2 * n;
+    let e = (2 + PINS) * n;
     check_luts(
         z.inputs,
         z.gates,
@@ -53,42 +57,46 @@ fn judge_luts(
         &net[a..],
         &net[b..],
         tables,
-        &roots,
-        &sizes,
-        &nodes,
-        &backs,
-        &luts,
+        rows,
+        &rows[n..],
+        &rows[d..],
+        &rows[e..],
+        luts,
         k,
-        c.luts,
+        n,
         work,
     )
 }
 
-// Checks 16, 17 and 18: 0, or the number of the first that fails.
-fn judge_links(z: NetSizes, net: &[usize], tables: &[u64], c: Candidate, k: usize) -> usize
-    requires { ⌜ HeldFor k z (now net) (now tables) c ⌝ }
-    ensures { λ r. ⌜ LinksToldOf z (now (net .entry)) c r ⌝ }
+// Checks 16, 17 and 18: 0, or the number of the first that fails. n LUTs stand in rows, with their lags.
+fn judge_links(
+    z: NetSizes,
+    net: &[usize],
+    n: usize,
+    rows: &[usize],
+    lags: &[i64],
+    period: usize,
+) -> usize
+    requires { ⌜ LinksAsked z (now net) n (now rows) (now lags) period ⌝ }
+    ensures { λ r. ⌜ LinksToldOf z (now (net .entry)) n (now (rows .entry)) (now (lags .entry)) period r ⌝ }
 {
     let o = outs_at(z, net);
-    let d = delays_at(z, net);
-    let roots = c.roots;
-    let sizes = c.sizes;
-    let nodes = c.nodes;
-    let backs = c.backs;
-    let lags = c.lags;
+    let y = delays_at(z, net);
+    let d = 2 * n;
+    let e = (2 + PINS) * n;
     check_links(
         z.inputs,
         z.gates,
         &net[o..],
-        &net[d..],
+        &net[y..],
         z.outputs,
-        &roots,
-        &sizes,
-        &nodes,
-        &backs,
-        &lags,
-        c.luts,
-        c.period,
+        rows,
+        &rows[n..],
+        &rows[d..],
+        &rows[e..],
+        lags,
+        n,
+        period,
     )
 }
 
@@ -98,20 +106,23 @@ fn judge_read(
     net: &[usize],
     tables: &[u64],
     c: Candidate,
+    rows: &[usize],
+    lags: &[i64],
+    luts: &[u64],
     k: usize,
     least: usize,
     work: &mut [u8],
 ) -> Grade
-    requires { ⌜ Judging k z (now net) (now tables) least × HeldFor k z (now net) (now tables) c ⌝ }
+    requires { ⌜ Judging k z (now net) (now tables) least × HeldFor k z (now net) (now tables) c (now rows) (now lags) (now luts) ⌝ }
     requires { ⌜ (mostTable ≤ length (now work)) × Clear (now work) ⌝ }
-    ensures { λ r. ⌜ MarksRead k (netIn (arraysOf z (now (net .entry)) (now (tables .entry)))) c (answerOf r) ⌝ }
+    ensures { λ r. ⌜ MarksRead k (netIn (arraysOf z (now (net .entry)) (now (tables .entry)))) c (heldIn (c .luts) (now (rows .entry)) (now (lags .entry)) (now (luts .entry))) (answerOf r) ⌝ }
     ensures { λ _. ⌜ Clear (now (work .exit)) ⌝ }
 {
-    let l = judge_luts(z, net, tables, c, k, work);
+    let l = judge_luts(z, net, tables, c.luts, rows, luts, k, work);
     if l > 0 {
         return Grade::Refused(narrow(l));
     }
-    let q = judge_links(z, net, tables, c, k);
+    let q = judge_links(z, net, c.luts, rows, lags, c.period);
     if q > 0 {
         return Grade::Refused(narrow(q));
     }
@@ -135,9 +146,21 @@ pub fn judge(
     ensures { λ r. ⌜ MarksNet rules k (netIn (arraysOf z (now (net .entry)) (now (tables .entry)))) (now (cover .entry)) (answerOf r) ⌝ }
     ensures { λ _. ⌜ Clear (now (work .exit)) ⌝ }
 {
-    let c = read_cover(cover, z.inputs, z.gates, k, rules);
+    let mut rows = [0usize; ROWS];
+    let mut lags = [0i64; LUTS];
+    let mut luts = [0u64; LUTS];
+    let c = read_cover(
+        cover,
+        z.inputs,
+        z.gates,
+        k,
+        rules,
+        &mut rows,
+        &mut lags,
+        &mut luts,
+    );
     if c.fine {
-        return judge_read(z, net, tables, c, k, least, work);
+        return judge_read(z, net, tables, c, &rows, &lags, &luts, k, least, work);
     }
     Grade::Refused(13)
 }

@@ -3,14 +3,11 @@ use inputs::narrow;
 use inputs::word;
 use job_judge::Grade;
 use job_judge::judge;
+use job_least::least_of;
 use job_scratch::clear_first;
-use job_settle::Settled;
-use job_settle::settle;
 use job_sizes::check_sizes;
 use limits::GATES;
-use limits::NODES;
 use limits::PACKED;
-use limits::PLACES;
 use limits::Rules;
 use limits::TABLE;
 use limits::long_course;
@@ -22,44 +19,11 @@ ghost use mathlib.Core.Path.{_≡_};
 ghost use lib.ListN.{length};
 ghost use Rattle.limits.specs.Courses.{long, short, Offered};
 ghost use Rattle.net_model.specs.Arrays.{netIn};
-ghost use Rattle.net_model.specs.PackedNet.{NetKept};
 ghost use Rattle.net_reader.specs.ReadAnswer.{arraysOf};
 ghost use Rattle.cover_records.specs.Outcomes.{markOutcome};
 ghost use Rattle.job_sizes.specs.Sizes.{Fit};
 ghost use Rattle.job_judge.specs.MarkAnswers.{answerOf, InRange};
-ghost use Rattle.job_judge.specs.JudgeMarking.{Marking, MarksTo, MarksNet, LeastOf};
-
-// Checks 9 to 11 and the least period of a net read, with the engine's table in work.
-fn least_of(z: NetSizes, net: &mut [usize], tables: &[u64], k: usize, work: &mut [u8]) -> Settled
-    requires { ⌜ Marking k z (now net) (now tables) (now work) ⌝ }
-    ensures { λ r. ⌜ LeastOf k (netIn (arraysOf z (now (net .entry)) (now (tables .entry)))) r ⌝ }
-    ensures { λ _. ⌜ NetKept (z .inputs) (z .gates) (now (net .entry)) (now (net .exit)) ⌝ }
-{
-    let mut seen = [0usize; GATES];
-    let mut noted = [0usize; GATES];
-    let mut labels = [0i64; NODES];
-    let mut marks = [0usize; GATES];
-    let mut sizes = [0usize; GATES];
-    let mut nodes = [0usize; PLACES];
-    let mut backs = [0usize; PLACES];
-    let mut luts = [0u64; GATES];
-    settle(
-        z,
-        net,
-        tables,
-        &mut seen,
-        &mut noted,
-        k,
-        0,
-        work,
-        &mut labels,
-        &mut marks,
-        &mut sizes,
-        &mut nodes,
-        &mut backs,
-        &mut luts,
-    )
-}
+ghost use Rattle.job_judge.specs.JudgeMarking.{Marking, MarksTo, MarksNet};
 
 // Checks 9 to 18 of a net read.
 fn mark_read(

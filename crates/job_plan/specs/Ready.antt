@@ -289,6 +289,13 @@ module _ {k target : ℕ} {z : NetSizes} {net ts : List ℕ} (p : Planning k tar
       → Engine s (z .outputs) net ts k target t ls
   planned-engine linked t e ls f = subst (λ (y : Extent). Engine y (z .outputs) net ts k target t ls) (sym (x .is)) (plan-engine p (x .sum) linked t e ls f)
 
+  -- the net read suits, and its outputs are those of the slice
+  pub planned-suits : Suits (wiring s net) k (drop (topsAt (s .inputs) (s .gates)) net) (netIn (arraysOf z net ts))
+  planned-suits = subst (λ (y : Extent). Suits (wiring y net) k (drop (topsAt (y .inputs) (y .gates)) net) (netIn (arraysOf z net ts))) (sym (x .is)) (suits p (x .sum))
+
+  pub planned-outputs : netIn (arraysOf z net ts) .outputs ≡ pinsIn (drop (outsAt (s .inputs) (s .gates)) net) (drop (delaysAt (s .inputs) (s .gates) (z .outputs)) net) 0 (z .outputs)
+  planned-outputs = subst (λ (y : Extent). netIn (arraysOf z net ts) .outputs ≡ pinsIn (drop (outsAt (y .inputs) (y .gates)) net) (drop (delaysAt (y .inputs) (y .gates) (z .outputs)) net) 0 (z .outputs)) (sym (x .is)) (outputs-are p (x .sum))
+
   pub planned-room : {marks sizes nodes backs luts : List ℕ} → Roomy (z .gates) marks sizes nodes backs luts → Roomy (s .gates) marks sizes nodes backs luts
   planned-room {marks} {sizes} {nodes} {backs} {luts} r = subst (λ (y : Extent). Roomy (y .gates) marks sizes nodes backs luts) (sym (x .is)) r
 

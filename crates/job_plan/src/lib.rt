@@ -6,6 +6,7 @@ use cut_circuit::link;
 use job_scratch::clear_first;
 use label_period::least_period;
 use label_sweep::reach;
+use label_visit::Aim;
 use limits::BEYOND;
 use limits::COPIES;
 use limits::HELD;
@@ -15,10 +16,7 @@ use limits::PINS;
 use limits::STACK;
 use limits::TABLE;
 use net_reader::NetSizes;
-use net_reader::delays_at;
-use net_reader::order_at;
 use net_reader::outs_at;
-use net_reader::tops_at;
 ghost use mathlib.Core.Path.{_≡_};
 ghost use Prim.Native.Nat.{max, _+_, _-_, _*_, _≤_, _<_};
 ghost use lib.ListN.{length, drop};
@@ -28,11 +26,11 @@ ghost use Rattle.net_model.specs.PackedNet.{outsAt, delaysAt, topsAt, orderAt, 
 ghost use Rattle.net_reader.specs.ReadAnswer.{arraysOf};
 ghost use Rattle.cut_circuit.specs.Packed.{packedOf};
 ghost use Rattle.cut_question.specs.Separating.{AtRest};
-ghost use Rattle.label_visit.specs.LabelVisits.{wiring};
+ghost use Rattle.label_visit.specs.LabelVisits.{wiring, topsIn};
 ghost use Rattle.job_plan.specs.Counts.{MostCount, Counted, SumCounts, Extending, ExtentOf};
 ghost use Rattle.cover_records.specs.Kept.{kept};
 ghost use Rattle.job_plan.specs.Found.{PeriodAsked, PeriodFound};
-ghost use Rattle.job_plan.specs.Planned.{Planned, Planning, Roomy, Engine, CoverTold};
+ghost use Rattle.job_plan.specs.Planned.{orderOf, outsOf, delaysOf, Planned, Planning, Roomy, Engine, CoverTold};
 
 fn larger(a: usize, b: usize) -> usize
     ensures { λ r. ⌜ r ≡ max a b ⌝ }
@@ -71,7 +69,7 @@ fn sum_counts(gates: usize, pins: &[usize], counts: &[usize]) -> usize
 }
 
 // The extent of the net's circuit: the border is k times M.
-fn extent(z: NetSizes, net: &[usize], k: usize) -> Extent
+pub fn extent(z: NetSizes, net: &[usize], k: usize) -> Extent
     requires { ⌜ Extending z (now net) k ⌝ }
     ensures { λ r. ⌜ ExtentOf z (now (net .entry)) k r ⌝ }
 {
@@ -97,18 +95,15 @@ fn find_period(
     counts: &mut [u32],
     members: &mut [u32],
     labels: &mut [i64],
-    tops: &[usize],
-    order: &[usize],
-    outs: &[usize],
-    delays: &[usize],
     n: usize,
     target: usize,
     k: usize,
 ) -> usize
     requires { ⌜ AtRest (packedOf s (now net) (now slots)) (now table) (now list) (now stack) (now counts) (now members) ⌝ }
-    requires { ⌜ PeriodAsked s (now net) (now labels) (now tops) (now order) (now outs) (now delays) n target k ⌝ }
+    requires { ⌜ packedRoom (s .inputs) (s .gates) n ≤ length (now net) ⌝ }
+    requires { ⌜ PeriodAsked s (now net) (now labels) (topsIn s (now net) 0) (orderOf s (now net)) (outsOf s (now net)) (delaysOf s n (now net)) n target k ⌝ }
     ensures { λ _. ⌜ AtRest (packedOf s (now (net .entry)) (now (slots .exit))) (now (table .exit)) (now (list .exit)) (now (stack .exit)) (now (counts .exit)) (now (members .exit)) ⌝ }
-    ensures { λ r. ⌜ PeriodFound (wiring s (now (net .entry))) k target (now (tops .entry)) (now (outs .entry)) (now (delays .entry)) n (now (labels .exit)) r ⌝ }
+    ensures { λ r. ⌜ PeriodFound (wiring s (now (net .entry))) k target (topsIn s (now (net .entry)) 0) (outsOf s (now (net .entry))) (delaysOf s n (now (net .entry))) n (now (labels .exit)) r ⌝ }
 {
     if target == 0 {
         return least_period(
@@ -121,14 +116,16 @@ fn find_period(
             counts,
             members,
             labels,
-            tops,
-            order,
-            outs,
-            delays,
             n,
             k,
         );
     }
+    let a = Aim {
+        phi: target,
+        k: k,
+        outputs: n,
+        cap: 0,
+    };
     if reach(
         s,
         net,
@@ -139,13 +136,7 @@ fn find_period(
         counts,
         members,
         labels,
-        tops,
-        order,
-        outs,
-        delays,
-        n,
-        target,
-        k,
+        a,
     ) {
         return target;
     }
@@ -177,10 +168,7 @@ fn cover(
         gates: s.gates,
         outputs: n,
     };
-    let t = tops_at(z, net);
-    let o = order_at(z, net);
     let y = outs_at(z, net);
-    let d = delays_at(z, net);
     let end = (s.inputs + s.gates) * s.width;
     let mut slots = [0u32; HELD];
     let mut list = [0u32; LIST];
@@ -197,10 +185,6 @@ fn cover(
         &mut counts,
         &mut members,
         labels,
-        &net[t..],
-        &net[o..],
-        &net[y..],
-        &net[d..],
         n,
         target,
         k,

@@ -10,13 +10,14 @@ use Rattle.net_model.specs.WiredLaws.{netIn-wired}
 use Rattle.net_model.specs.Checks.{Passed}
 use Rattle.net_model.specs.PackedNet.{NetKept}
 use Rattle.net_model.specs.PackedNetLaws.{kept-net}
+use Rattle.cover_theory.specs.Covers.{LeastPeriod}
 use Rattle.cover_records.specs.Kept.{Kept}
 use Rattle.net_reader.specs.ReadAnswer.{arraysOf}
 use Rattle.net_reader.specs.ReadWires.{kept-facts, kept-room}
 use Rattle.net_reader.specs.declared.NetSizes.{NetSizes}
 use Rattle.net_checks.specs.Graphs.{NetOf, Graph, Says, passed, loop, unreached, unled, GraphTold}
 use Rattle.job_plan.specs.Planned.{Planned, Planning}
-use Rattle.job_settle.specs.Settling.{Settling, SettledAs, CoverSettled, loops, cutOff, idle, unreachable, covered}
+use Rattle.job_settle.specs.Settling.{Settling, Ended, SettledAs, Passing, CoverSettled, loops, cutOff, idle, unreachable, covered}
 
 -- a net settled stays one where other parts of its slice are written
 module _ {k target : ℕ} {z : NetSizes} {net ts net′ : List ℕ} (s : Settling k target z net ts) (q : NetKept (z .inputs) (z .gates) net net′) where
@@ -42,13 +43,13 @@ module _ {k target : ℕ} {z : NetSizes} {net ts net′ : List ℕ} {r : ℕ} (s
   says = t .says N (record { wired = netIn-wired (arraysOf z net ts); ended = outputs-netIn (arraysOf z net ts) })
 
   -- a check failed
-  pub settled-check : {a : Kept} → 0 < r → SettledAs k target N a r
+  pub settled-check : {W : Type 0} → 0 < r → Ended k target N W r
   settled-check h = go says
     where
       none : r ≡ 0 → ⊥
       none e = omega (arith, e, h)
 
-      go : {a : Kept} → Says z net′ N r → SettledAs k target N a r
+      go : {W : Type 0} → Says z net′ N r → Ended k target N W r
       go (passed e a b c g) = absurd (none e)
       go (loop e f) = loops e f
       go (unreached e a f) = cutOff e a f
@@ -91,33 +92,40 @@ module _ {k target : ℕ} {z : NetSizes} {net ts net′ : List ℕ} {r : ℕ} (s
       planned : Planned N k target a
       planned = subst (λ (M : Net). Planned M k target a) same q
 
-      pub settled-none : {b : Kept} → a .period ≡ 0 → SettledAs k target N b 12
+      pub settled-none : {W : Type 0} → a .period ≡ 0 → Ended k target N W 12
       settled-none e = let u = planned .none e in unreachable refl (sure .passes) (u .0) (u .1)
 
       pub settled-cover : ¬ (a .period ≡ 0) → SettledAs k target N a 0
       settled-cover n = covered refl (sure .passes) (planned .some (omega arith))
 
-pub cover-settled : {k target : ℕ} {N : Net} {a : Kept} {r : ℕ} → SettledAs k target N a r → r ≤ 0 → CoverSettled k target N a
-cover-settled (covered e P c) h = record { passed = P; cover = c }
-cover-settled (loops e n) h = absurd (none e h)
+    -- the least period is there
+    pub settled-least : {φ : ℕ} → LeastPeriod (netIn (arraysOf z net′ ts)) k φ → Ended k target N (LeastPeriod N k φ) 0
+    settled-least {φ} q = covered refl (sure .passes) (subst (λ (M : Net). LeastPeriod M k φ) same q)
+
+pub ended-passing : {k target : ℕ} {N : Net} {W : Type 0} {r : ℕ} → Ended k target N W r → r ≤ 0 → Passing k N W
+ended-passing (covered e P c) h = record { passed = P; wanted = c }
+ended-passing (loops e n) h = absurd (none e h)
   where
     none : {r : ℕ} → r ≡ 9 → r ≤ 0 → ⊥
     none e h = omega arith
-cover-settled (cutOff e l n) h = absurd (none e h)
+ended-passing (cutOff e l n) h = absurd (none e h)
   where
     none : {r : ℕ} → r ≡ 10 → r ≤ 0 → ⊥
     none e h = omega arith
-cover-settled (idle e l t n) h = absurd (none e h)
+ended-passing (idle e l t n) h = absurd (none e h)
   where
     none : {r : ℕ} → r ≡ 11 → r ≤ 0 → ⊥
     none e h = omega arith
-cover-settled (unreachable e P h′ n) h = absurd (none e h)
+ended-passing (unreachable e P h′ n) h = absurd (none e h)
   where
     none : {r : ℕ} → r ≡ 12 → r ≤ 0 → ⊥
     none e h = omega arith
 
+pub cover-settled : {k target : ℕ} {N : Net} {a : Kept} {r : ℕ} → SettledAs k target N a r → r ≤ 0 → CoverSettled k target N a
+cover-settled s h = let p = ended-passing s h in record { passed = p .passed; cover = p .wanted }
+
 -- the number of a refusal is small
-pub settled-small : {k target : ℕ} {N : Net} {a : Kept} {r : ℕ} → SettledAs k target N a r → r < 256
+pub settled-small : {k target : ℕ} {N : Net} {W : Type 0} {r : ℕ} → Ended k target N W r → r < 256
 settled-small (loops e n) = omega arith
 settled-small (cutOff e l n) = omega arith
 settled-small (idle e l t n) = omega arith

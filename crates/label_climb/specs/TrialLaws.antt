@@ -20,10 +20,11 @@ use Rattle.signed.specs.Range.{Small, room, labelIn}
 use Rattle.signed.specs.RangeLaws.{small-between}
 use Rattle.cut_circuit.specs.Circuit.{Circuit}
 use Rattle.cut_circuit.specs.declared.Extent.{Extent}
-use Rattle.label_visit.specs.LabelVisits.{Suits, Bounds, Kept, Refuted, Fine, Ready, Ceilings, wiring}
+use Rattle.label_visit.specs.LabelVisits.{Suits, Bounds, Kept, Refuted, Fine, Ready, Ceilings, wiring, topsIn}
+use Rattle.label_visit.specs.TopLaws.{capped}
 use Rattle.label_visit.specs.BoundLaws.{sane-of, past-top}
 use Rattle.label_pass.specs.Passes.{Progress}
-use Rattle.label_climb.specs.Trials.{Copied, Nudge, Nudged, Hoisted, RoseFurther, AllRose, Accepted, Roomy}
+use Rattle.label_climb.specs.Trials.{Copied, Nudge, Nudged, Hoisted, RoseFurther, AllRose, Accepted, Roomy, farthest}
 
 -- ---- labels raised
 pub hoisted-none : (old ls : List ℤ) (from d : ℕ) → Hoisted old ls ls from from d
@@ -158,16 +159,8 @@ module _ {C : Circuit} {k φ : ℕ} {tops : List ℕ} {old ls sv m m′ : List �
   trial-refutes e h K a b = past-top m′ (a .over .gate) (a .over .isGate) (trial-bounds e h K (a .rose) b) (a .over .above)
 
 -- ---- the ceilings of a trial
-level : (n v j : ℕ) → getD (replicate n v) j 0 ≤ v
-level zero v j = omega arith
-level (suc n) v zero = omega arith
-level (suc n) v (suc j) = level n v j
-
-pub caps-suit : {s : Extent} {net : List ℕ} {φ : ℕ} → Roomy (s .inputs + s .gates) φ → Ceilings (wiring s net) φ (replicate mostNodes 1048575)
-caps-suit {s} {φ = φ} d = record {
-  size = rw (length-replicate {A = ℕ} mostNodes 1048575) (let a = d .room in omega arith);
-  top = λ g h. let a = mul-le-mul-left φ (level mostNodes 1048575 g) in let b = mul-le-mul-right 1048575 (d .period) in omega arith;
-}
+pub caps-suit : (s : Extent) (net : List ℕ) (φ : ℕ) → Roomy (s .inputs + s .gates) φ → Ceilings (wiring s net) φ (topsIn s net farthest)
+caps-suit s net φ d = capped s net φ farthest (omega arith) (let b = mul-le-mul-right farthest (d .period) in omega arith)
 
 -- ---- sweeps and a trial that refutes
 pub leapt-past : {C : Circuit} {k φ : ℕ} {tops order : List ℕ} {ls ls′ ls″ : List ℤ} {t : ℕ} → Progress C k φ tops order ls ls′ t → ls″ ≡ ls′ → (Bounds C k φ tops ls′ → Refuted C k φ tops)

@@ -64,7 +64,11 @@ pub record TrialTold (C : Circuit) (k φ : ℕ) (tops : List ℕ) (ls ls′ : Li
   pub same : ls′ ≡ ls
   pub refuted : r ≡ true → Bounds C k φ tops ls → Refuted C k φ tops
 
+-- the ceilings of a trial, in periods, and the greatest period that they suit
+abbrev pub farthest : ℕ
+farthest = 1048575
+
 -- a trial's arrays are long enough, and its ceilings do not overflow
 pub record Roomy (nodes φ : ℕ) : Type 0 where
   pub room : nodes ≤ mostNodes
-  pub period : φ ≤ 1048575
+  pub period : φ ≤ farthest

@@ -2,6 +2,8 @@
 use cut_circuit::Extent;
 use label_pass::sweep;
 use label_pass::sweep_some;
+use label_visit::Aim;
+use label_visit::top_of;
 use limits::NODES;
 use signed::no_higher;
 use signed::plus_one;
@@ -10,13 +12,13 @@ ghost use mathlib.Core.Path.{_≡_};
 ghost use mathlib.Core.Bool.{true, false};
 ghost use Prim.Native.Nat.{ℕ, _+_, _*_, _≤_, _<_};
 ghost use lib.IntN.{pos};
-ghost use lib.ListN.{length, getD};
+ghost use lib.ListN.{length};
 ghost use lib.Signed.{_<ℤ_};
 ghost use Rattle.signed.specs.Range.{Small, room, labelIn};
 ghost use Rattle.cut_circuit.specs.Packed.{packedOf};
 ghost use Rattle.cut_question.specs.Separating.{AtRest};
-ghost use Rattle.label_visit.specs.LabelVisits.{wiring, Ready, Ceilings};
-ghost use Rattle.label_pass.specs.Passes.{Ordered, QuietFrom, Progress};
+ghost use Rattle.label_visit.specs.LabelVisits.{wiring, topsIn, Ready, Ceilings};
+ghost use Rattle.label_pass.specs.Passes.{orderIn, Ordered, QuietFrom, Progress};
 ghost use Rattle.label_climb.specs.Trials.{Copied, Nudge, Hoisted, Lent, RoseFurther, AllRose, Over, Accepted, TrialTold, Roomy};
 
 // No label of a trial goes higher.
@@ -106,14 +108,15 @@ fn past(labels: &[i64], v: usize, phi: usize, top: usize) -> bool
 }
 
 // Whether a gate's label is above its ceiling.
-fn over(labels: &[i64], tops: &[usize], inputs: usize, gates: usize, phi: usize) -> bool
-    requires { ⌜ (inputs + gates ≤ length (now labels)) × (gates ≤ length (now tops)) ⌝ }
-    requires { ⌜ ((u : ℕ) → u < inputs + gates → Small (labelIn (now labels) u)) × ((g : ℕ) → g < gates → phi * getD (now tops) g 0 < room) ⌝ }
-    ensures { λ r. ⌜ (r ≡ true → Over inputs gates phi (now (tops .entry)) (now (labels .entry))) ⌝ }
+fn over(s: Extent, net: &[usize], labels: &[i64], a: Aim) -> bool
+    requires { ⌜ (s .inputs + s .gates ≤ length (now labels)) × Ceilings (wiring s (now net)) (a .phi) (topsIn s (now net) (a .cap)) ⌝ }
+    requires { ⌜ ((u : ℕ) → u < s .inputs + s .gates → Small (labelIn (now labels) u)) ⌝ }
+    ensures { λ r. ⌜ (r ≡ true → Over (s .inputs) (s .gates) (a .phi) (topsIn s (now (net .entry)) (a .cap)) (now (labels .entry))) ⌝ }
 {
+    let end = s.gates;
     let mut g = 0;
-    while g < gates {
-        if past(labels, inputs + g, phi, tops[g]) {
+    while g < end {
+        if past(labels, s.inputs + g, a.phi, top_of(s, net, a.cap, g)) {
             return true;
         }
         g += 1;
@@ -123,21 +126,20 @@ fn over(labels: &[i64], tops: &[usize], inputs: usize, gates: usize, phi: usize)
 
 // Whether the trial shows that the labels climb past a ceiling.
 fn accepted(
+    s: Extent,
+    net: &[usize],
     old: &[i64],
     saved: &[i64],
     labels: &[i64],
-    tops: &[usize],
-    inputs: usize,
-    gates: usize,
-    phi: usize,
+    a: Aim,
     d: usize,
 ) -> bool
-    requires { ⌜ Lent (now saved) (now old) inputs (inputs + gates) × Lent (now labels) (now old) inputs (inputs + gates) × (d ≤ room) ⌝ }
-    requires { ⌜ (gates ≤ length (now tops)) × ((g : ℕ) → g < gates → phi * getD (now tops) g 0 < room) ⌝ }
-    ensures { λ r. ⌜ (r ≡ true → Accepted inputs gates phi (now (old .entry)) (now (saved .entry)) (now (labels .entry)) (now (tops .entry)) d) ⌝ }
+    requires { ⌜ Lent (now saved) (now old) (s .inputs) (s .inputs + s .gates) × Lent (now labels) (now old) (s .inputs) (s .inputs + s .gates) × (d ≤ room) ⌝ }
+    requires { ⌜ Ceilings (wiring s (now net)) (a .phi) (topsIn s (now net) (a .cap)) ⌝ }
+    ensures { λ r. ⌜ (r ≡ true → Accepted (s .inputs) (s .gates) (a .phi) (now (old .entry)) (now (saved .entry)) (now (labels .entry)) (topsIn s (now (net .entry)) (a .cap)) d) ⌝ }
 {
-    if all_rose(old, saved, labels, inputs, inputs + gates, d) {
-        return over(labels, tops, inputs, gates, phi);
+    if all_rose(old, saved, labels, s.inputs, s.inputs + s.gates, d) {
+        return over(s, net, labels, a);
     }
     false
 }
@@ -155,23 +157,25 @@ fn trial(
     labels: &mut [i64],
     saved: &mut [i64],
     old: &[i64],
-    tops: &[usize],
-    caps: &[usize],
-    order: &[usize],
-    phi: usize,
-    k: usize,
+    a: Aim,
     w: usize,
 ) -> bool
     requires { ⌜ AtRest (packedOf s (now net) (now slots)) (now table) (now list) (now stack) (now counts) (now members) ⌝ }
-    requires { ⌜ Ready s (now labels) phi k × Ordered (wiring s (now net)) (now order) × Ceilings (wiring s (now net)) phi (now tops) × Ceilings (wiring s (now net)) phi (now caps) ⌝ }
+    requires { ⌜ Ready s (now labels) (a .phi) (a .k) × Ordered (wiring s (now net)) (orderIn s (now net)) × Ceilings (wiring s (now net)) (a .phi) (topsIn s (now net) (a .cap)) × Roomy (s .inputs + s .gates) (a .phi) ⌝ }
     requires { ⌜ (s .inputs + s .gates ≤ length (now saved)) × (s .inputs + s .gates ≤ length (now old)) ⌝ }
     ensures { λ _. ⌜ AtRest (packedOf s (now (net .entry)) (now (slots .exit))) (now (table .exit)) (now (list .exit)) (now (stack .exit)) (now (counts .exit)) (now (members .exit)) ⌝ }
-    ensures { λ r. ⌜ TrialTold (wiring s (now (net .entry))) k phi (now (tops .entry)) (now (labels .entry)) (now (labels .exit)) r ⌝ }
+    ensures { λ r. ⌜ TrialTold (wiring s (now (net .entry))) (a .k) (a .phi) (topsIn s (now (net .entry)) (a .cap)) (now (labels .entry)) (now (labels .exit)) r ⌝ }
 {
-    let d = phi * s.width;
+    let d = a.phi * s.width;
     let to = s.inputs + s.gates;
     copy(labels, saved, to);
     hoist(labels, old, s.inputs, to, d);
+    let far = Aim {
+        phi: a.phi,
+        k: a.k,
+        outputs: a.outputs,
+        cap: CAP,
+    };
     sweep_some(
         s,
         net,
@@ -182,14 +186,11 @@ fn trial(
         counts,
         members,
         labels,
-        caps,
-        order,
-        phi,
-        k,
+        far,
         s.gates,
         w,
     );
-    let r = accepted(old, saved, labels, tops, s.inputs, s.gates, phi, d);
+    let r = accepted(s, net, old, saved, labels, a, d);
     copy(saved, labels, to);
     r
 }
@@ -210,19 +211,16 @@ fn leap(
     counts: &mut [u32],
     members: &mut [u32],
     labels: &mut [i64],
-    tops: &[usize],
-    order: &[usize],
-    phi: usize,
-    k: usize,
+    a: Aim,
     stop: usize,
     w: usize,
 ) -> usize
     requires { ⌜ AtRest (packedOf s (now net) (now slots)) (now table) (now list) (now stack) (now counts) (now members) ⌝ }
-    requires { ⌜ Ready s (now labels) phi k × Ordered (wiring s (now net)) (now order) × Ceilings (wiring s (now net)) phi (now tops) ⌝ }
-    requires { ⌜ (stop ≤ s .gates) × QuietFrom (wiring s (now net)) k phi (now tops) (now order) (now labels) stop ⌝ }
-    requires { ⌜ Roomy (s .inputs + s .gates) phi ⌝ }
+    requires { ⌜ Ready s (now labels) (a .phi) (a .k) × Ordered (wiring s (now net)) (orderIn s (now net)) × Ceilings (wiring s (now net)) (a .phi) (topsIn s (now net) (a .cap)) ⌝ }
+    requires { ⌜ (stop ≤ s .gates) × QuietFrom (wiring s (now net)) (a .k) (a .phi) (topsIn s (now net) (a .cap)) (orderIn s (now net)) (now labels) stop ⌝ }
+    requires { ⌜ Roomy (s .inputs + s .gates) (a .phi) ⌝ }
     ensures { λ _. ⌜ AtRest (packedOf s (now (net .entry)) (now (slots .exit))) (now (table .exit)) (now (list .exit)) (now (stack .exit)) (now (counts .exit)) (now (members .exit)) ⌝ }
-    ensures { λ r. ⌜ Progress (wiring s (now (net .entry))) k phi (now (tops .entry)) (now (order .entry)) (now (labels .entry)) (now (labels .exit)) r ⌝ }
+    ensures { λ r. ⌜ Progress (wiring s (now (net .entry))) (a .k) (a .phi) (topsIn s (now (net .entry)) (a .cap)) (orderIn s (now (net .entry))) (now (labels .entry)) (now (labels .exit)) r ⌝ }
 {
     let mut old = [0i64; NODES];
     copy(labels, &mut old, s.inputs + s.gates);
@@ -236,16 +234,12 @@ fn leap(
         counts,
         members,
         labels,
-        tops,
-        order,
-        phi,
-        k,
+        a,
         stop,
         w,
     );
     if rises(s.gates, t) {
         let mut saved = [0i64; NODES];
-        let caps = [CAP; NODES];
         if trial(
             s,
             net,
@@ -258,11 +252,7 @@ fn leap(
             labels,
             &mut saved,
             &old,
-            tops,
-            &caps,
-            order,
-            phi,
-            k,
+            a,
             w,
         ) {
             return s.gates + 1;
@@ -294,20 +284,17 @@ pub fn round(
     counts: &mut [u32],
     members: &mut [u32],
     labels: &mut [i64],
-    tops: &[usize],
-    order: &[usize],
-    phi: usize,
-    k: usize,
+    a: Aim,
     stop: usize,
     w: usize,
 ) -> usize
     requires { ⌜ AtRest (packedOf s (now net) (now slots)) (now table) (now list) (now stack) (now counts) (now members) ⌝ }
-    requires { ⌜ Ready s (now labels) phi k × Ordered (wiring s (now net)) (now order) × Ceilings (wiring s (now net)) phi (now tops) ⌝ }
-    requires { ⌜ (stop ≤ s .gates) × QuietFrom (wiring s (now net)) k phi (now tops) (now order) (now labels) stop ⌝ }
+    requires { ⌜ Ready s (now labels) (a .phi) (a .k) × Ordered (wiring s (now net)) (orderIn s (now net)) × Ceilings (wiring s (now net)) (a .phi) (topsIn s (now net) (a .cap)) ⌝ }
+    requires { ⌜ (stop ≤ s .gates) × QuietFrom (wiring s (now net)) (a .k) (a .phi) (topsIn s (now net) (a .cap)) (orderIn s (now net)) (now labels) stop ⌝ }
     ensures { λ _. ⌜ AtRest (packedOf s (now (net .entry)) (now (slots .exit))) (now (table .exit)) (now (list .exit)) (now (stack .exit)) (now (counts .exit)) (now (members .exit)) ⌝ }
-    ensures { λ r. ⌜ Progress (wiring s (now (net .entry))) k phi (now (tops .entry)) (now (order .entry)) (now (labels .entry)) (now (labels .exit)) r ⌝ }
+    ensures { λ r. ⌜ Progress (wiring s (now (net .entry))) (a .k) (a .phi) (topsIn s (now (net .entry)) (a .cap)) (orderIn s (now (net .entry))) (now (labels .entry)) (now (labels .exit)) r ⌝ }
 {
-    if early(w, s.inputs + s.gates, phi) {
+    if early(w, s.inputs + s.gates, a.phi) {
         return sweep(
             s,
             net,
@@ -318,10 +305,7 @@ pub fn round(
             counts,
             members,
             labels,
-            tops,
-            order,
-            phi,
-            k,
+            a,
             stop,
         );
     }
@@ -335,10 +319,7 @@ pub fn round(
         counts,
         members,
         labels,
-        tops,
-        order,
-        phi,
-        k,
+        a,
         stop,
         w / 2,
     )

@@ -3,8 +3,10 @@ use mathlib.Core.Path.{_≡_}
 use mathlib.Core.List.{List}
 use Prim.Native.Nat.{ℕ, _+_, _≤_, _<_}
 use lib.IntN.{ℤ}
-use lib.ListN.{length, getD}
+use lib.ListN.{length, getD, drop}
+use Rattle.net_model.specs.PackedNet.{orderAt}
 use Rattle.cut_circuit.specs.Circuit.{Circuit}
+use Rattle.cut_circuit.specs.declared.Extent.{Extent}
 use Rattle.label_visit.specs.LabelVisits.{Quiet, Bounds, Kept, Refuted, Fine, left}
 
 -- a where a visit raised a label, else b
@@ -48,6 +50,10 @@ pub record Progress (C : Circuit) (k φ : ℕ) (tops order : List ℕ) (ls ls′
 pub record SweepTold (C : Circuit) (k φ : ℕ) (tops order : List ℕ) (ls ls′ : List ℤ) (r : ℕ) : Type 0 where
   pub progress : Progress C k φ tops order ls ls′ r
   pub same : r ≡ 0 → ls′ ≡ ls
+
+-- the order in a net's slice
+abbrev pub orderIn : Extent → List ℕ → List ℕ
+orderIn s net = drop (orderAt (s .inputs) (s .gates)) net
 
 -- an order of the gates
 pub record Ordered (C : Circuit) (order : List ℕ) : Type 0 where

@@ -1,11 +1,23 @@
 // One sweep over the gates, and some in a row: labels raised from below, gate by gate.
 use cut_circuit::Extent;
+use label_visit::Aim;
 use label_visit::visit;
+use limits::PINS;
+ghost use mathlib.Core.Path.{_≡_};
 ghost use Prim.Native.Nat.{_≤_, _<_};
+ghost use lib.ListN.{length, getD};
 ghost use Rattle.cut_circuit.specs.Packed.{packedOf};
 ghost use Rattle.cut_question.specs.Separating.{AtRest};
-ghost use Rattle.label_visit.specs.LabelVisits.{wiring, Ready, Ceilings};
-ghost use Rattle.label_pass.specs.Passes.{Ordered, IfRose, GoesOn, QuietFrom, SweepTold, Progress};
+ghost use Rattle.label_visit.specs.LabelVisits.{wiring, topsIn, Ready, Ceilings};
+ghost use Rattle.label_pass.specs.Passes.{orderIn, Ordered, IfRose, GoesOn, QuietFrom, SweepTold, Progress};
+
+// The gate at place i of the order.
+fn nth(s: Extent, net: &[usize], i: usize) -> usize
+    requires { ⌜ (i < s .gates) × (s .gates ≤ length (orderIn s (now net))) ⌝ }
+    ensures { λ r. ⌜ r ≡ getD (orderIn s (now (net .entry))) i 0 ⌝ }
+{
+    net[(2 + 3 * PINS) * s.gates + (s.inputs + s.gates) + i]
+}
 
 // One sweep over the gates in an order, up to place stop, or over all of them once a label rose: from stop on nothing can change unless one rises.
 // 0 where nothing can change, the place behind the last rise, or gates + 1 where a label would pass its ceiling.
@@ -19,17 +31,14 @@ pub fn sweep(
     counts: &mut [u32],
     members: &mut [u32],
     labels: &mut [i64],
-    tops: &[usize],
-    order: &[usize],
-    phi: usize,
-    k: usize,
+    a: Aim,
     stop: usize,
 ) -> usize
     requires { ⌜ AtRest (packedOf s (now net) (now slots)) (now table) (now list) (now stack) (now counts) (now members) ⌝ }
-    requires { ⌜ Ready s (now labels) phi k × Ordered (wiring s (now net)) (now order) × Ceilings (wiring s (now net)) phi (now tops) ⌝ }
-    requires { ⌜ (stop ≤ s .gates) × QuietFrom (wiring s (now net)) k phi (now tops) (now order) (now labels) stop ⌝ }
+    requires { ⌜ Ready s (now labels) (a .phi) (a .k) × Ordered (wiring s (now net)) (orderIn s (now net)) × Ceilings (wiring s (now net)) (a .phi) (topsIn s (now net) (a .cap)) ⌝ }
+    requires { ⌜ (stop ≤ s .gates) × QuietFrom (wiring s (now net)) (a .k) (a .phi) (topsIn s (now net) (a .cap)) (orderIn s (now net)) (now labels) stop ⌝ }
     ensures { λ _. ⌜ AtRest (packedOf s (now (net .entry)) (now (slots .exit))) (now (table .exit)) (now (list .exit)) (now (stack .exit)) (now (counts .exit)) (now (members .exit)) ⌝ }
-    ensures { λ r. ⌜ SweepTold (wiring s (now (net .entry))) k phi (now (tops .entry)) (now (order .entry)) (now (labels .entry)) (now (labels .exit)) r ⌝ }
+    ensures { λ r. ⌜ SweepTold (wiring s (now (net .entry))) (a .k) (a .phi) (topsIn s (now (net .entry)) (a .cap)) (orderIn s (now (net .entry))) (now (labels .entry)) (now (labels .exit)) r ⌝ }
 {
     let mut last = 0;
     let mut end = stop;
@@ -45,10 +54,8 @@ pub fn sweep(
             counts,
             members,
             labels,
-            tops,
-            phi,
-            k,
-            order[i],
+            a,
+            nth(s, net, i),
         );
         if e == 2 {
             return s.gates + 1;
@@ -92,18 +99,15 @@ pub fn sweep_some(
     counts: &mut [u32],
     members: &mut [u32],
     labels: &mut [i64],
-    tops: &[usize],
-    order: &[usize],
-    phi: usize,
-    k: usize,
+    a: Aim,
     stop: usize,
     w: usize,
 ) -> usize
     requires { ⌜ AtRest (packedOf s (now net) (now slots)) (now table) (now list) (now stack) (now counts) (now members) ⌝ }
-    requires { ⌜ Ready s (now labels) phi k × Ordered (wiring s (now net)) (now order) × Ceilings (wiring s (now net)) phi (now tops) ⌝ }
-    requires { ⌜ (stop ≤ s .gates) × QuietFrom (wiring s (now net)) k phi (now tops) (now order) (now labels) stop ⌝ }
+    requires { ⌜ Ready s (now labels) (a .phi) (a .k) × Ordered (wiring s (now net)) (orderIn s (now net)) × Ceilings (wiring s (now net)) (a .phi) (topsIn s (now net) (a .cap)) ⌝ }
+    requires { ⌜ (stop ≤ s .gates) × QuietFrom (wiring s (now net)) (a .k) (a .phi) (topsIn s (now net) (a .cap)) (orderIn s (now net)) (now labels) stop ⌝ }
     ensures { λ _. ⌜ AtRest (packedOf s (now (net .entry)) (now (slots .exit))) (now (table .exit)) (now (list .exit)) (now (stack .exit)) (now (counts .exit)) (now (members .exit)) ⌝ }
-    ensures { λ r. ⌜ Progress (wiring s (now (net .entry))) k phi (now (tops .entry)) (now (order .entry)) (now (labels .entry)) (now (labels .exit)) r ⌝ }
+    ensures { λ r. ⌜ Progress (wiring s (now (net .entry))) (a .k) (a .phi) (topsIn s (now (net .entry)) (a .cap)) (orderIn s (now (net .entry))) (now (labels .entry)) (now (labels .exit)) r ⌝ }
 {
     let mut t = sweep(
         s,
@@ -115,10 +119,7 @@ pub fn sweep_some(
         counts,
         members,
         labels,
-        tops,
-        order,
-        phi,
-        k,
+        a,
         stop,
     );
     let mut i = go_on(s.gates, t, 0, w);
@@ -133,10 +134,7 @@ pub fn sweep_some(
             counts,
             members,
             labels,
-            tops,
-            order,
-            phi,
-            k,
+            a,
             t,
         );
         i = go_on(s.gates, t, i, w);

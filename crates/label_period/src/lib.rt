@@ -1,11 +1,14 @@
 // The least period: small ones are asked from 1 up, larger ones by halves.
 use cut_circuit::Extent;
 use label_sweep::reach;
+use label_visit::Aim;
 ghost use Prim.Native.Nat.{_≤_, _<_};
+ghost use lib.ListN.{length};
+ghost use Rattle.net_model.specs.PackedNet.{packedRoom};
 ghost use Rattle.cut_circuit.specs.Packed.{packedOf};
 ghost use Rattle.cut_question.specs.Separating.{AtRest};
-ghost use Rattle.label_visit.specs.LabelVisits.{wiring, Ceilings};
-ghost use Rattle.label_sweep.specs.Sweeps.{Sized, Ordered};
+ghost use Rattle.label_visit.specs.LabelVisits.{wiring, topsIn, Ceilings};
+ghost use Rattle.label_sweep.specs.Sweeps.{orderIn, outsIn, delaysIn, Sized, Ordered};
 ghost use Rattle.label_period.specs.PeriodSearch.{Either, Few, NoneBelow, Halved, Period};
 
 // Periods below this one are asked from 1 up.
@@ -36,24 +39,27 @@ fn halve(
     counts: &mut [u32],
     members: &mut [u32],
     labels: &mut [i64],
-    tops: &[usize],
-    order: &[usize],
-    outs: &[usize],
-    delays: &[usize],
     n: usize,
     k: usize,
     from: usize,
 ) -> usize
     requires { ⌜ AtRest (packedOf s (now net) (now slots)) (now table) (now list) (now stack) (now counts) (now members) ⌝ }
-    requires { ⌜ Sized s (now labels) (now outs) (now delays) (s .gates) k n × Ordered (wiring s (now net)) (now order) × Ceilings (wiring s (now net)) (s .gates) (now tops) ⌝ }
-    requires { ⌜ (1 ≤ from) × (from ≤ s .gates) × NoneBelow (wiring s (now net)) k (now tops) (now outs) (now delays) n from ⌝ }
+    requires { ⌜ packedRoom (s .inputs) (s .gates) n ≤ length (now net) ⌝ }
+    requires { ⌜ Sized s (now labels) (outsIn s (now net)) (delaysIn s (now net) n) (s .gates) k n × Ordered (wiring s (now net)) (orderIn s (now net)) × Ceilings (wiring s (now net)) (s .gates) (topsIn s (now net) 0) ⌝ }
+    requires { ⌜ (1 ≤ from) × (from ≤ s .gates) × NoneBelow (wiring s (now net)) k (topsIn s (now net) 0) (outsIn s (now net)) (delaysIn s (now net) n) n from ⌝ }
     ensures { λ _. ⌜ AtRest (packedOf s (now (net .entry)) (now (slots .exit))) (now (table .exit)) (now (list .exit)) (now (stack .exit)) (now (counts .exit)) (now (members .exit)) ⌝ }
-    ensures { λ r. ⌜ Halved (wiring s (now (net .entry))) k (now (tops .entry)) (now (outs .entry)) (now (delays .entry)) n r r ⌝ }
+    ensures { λ r. ⌜ Halved (wiring s (now (net .entry))) k (topsIn s (now (net .entry)) 0) (outsIn s (now (net .entry))) (delaysIn s (now (net .entry)) n) n r r ⌝ }
 {
     let mut low = from;
     let mut high = s.gates;
     while low < high {
         let phi = low + (high - low) / 2;
+        let a = Aim {
+            phi: phi,
+            k: k,
+            outputs: n,
+            cap: 0,
+        };
         let b = reach(
             s,
             net,
@@ -64,13 +70,7 @@ fn halve(
             counts,
             members,
             labels,
-            tops,
-            order,
-            outs,
-            delays,
-            n,
-            phi,
-            k,
+            a,
         );
         low = either(b, low, phi + 1);
         high = either(b, phi, high);
@@ -89,21 +89,24 @@ pub fn least_period(
     counts: &mut [u32],
     members: &mut [u32],
     labels: &mut [i64],
-    tops: &[usize],
-    order: &[usize],
-    outs: &[usize],
-    delays: &[usize],
     n: usize,
     k: usize,
 ) -> usize
     requires { ⌜ AtRest (packedOf s (now net) (now slots)) (now table) (now list) (now stack) (now counts) (now members) ⌝ }
-    requires { ⌜ Sized s (now labels) (now outs) (now delays) (s .gates) k n × Ordered (wiring s (now net)) (now order) × Ceilings (wiring s (now net)) (s .gates) (now tops) × (1 ≤ s .gates) ⌝ }
+    requires { ⌜ packedRoom (s .inputs) (s .gates) n ≤ length (now net) ⌝ }
+    requires { ⌜ Sized s (now labels) (outsIn s (now net)) (delaysIn s (now net) n) (s .gates) k n × Ordered (wiring s (now net)) (orderIn s (now net)) × Ceilings (wiring s (now net)) (s .gates) (topsIn s (now net) 0) × (1 ≤ s .gates) ⌝ }
     ensures { λ _. ⌜ AtRest (packedOf s (now (net .entry)) (now (slots .exit))) (now (table .exit)) (now (list .exit)) (now (stack .exit)) (now (counts .exit)) (now (members .exit)) ⌝ }
-    ensures { λ r. ⌜ Period (wiring s (now (net .entry))) k (now (tops .entry)) (now (outs .entry)) (now (delays .entry)) n (now (labels .exit)) r ⌝ }
+    ensures { λ r. ⌜ Period (wiring s (now (net .entry))) k (topsIn s (now (net .entry)) 0) (outsIn s (now (net .entry))) (delaysIn s (now (net .entry)) n) n (now (labels .exit)) r ⌝ }
 {
     let end = few(s.gates);
     let mut phi = 1;
     while phi < end {
+        let a = Aim {
+            phi: phi,
+            k: k,
+            outputs: n,
+            cap: 0,
+        };
         if reach(
             s,
             net,
@@ -114,13 +117,7 @@ pub fn least_period(
             counts,
             members,
             labels,
-            tops,
-            order,
-            outs,
-            delays,
-            n,
-            phi,
-            k,
+            a,
         ) {
             return phi;
         }
@@ -136,14 +133,16 @@ pub fn least_period(
         counts,
         members,
         labels,
-        tops,
-        order,
-        outs,
-        delays,
         n,
         k,
         phi,
     );
+    let last = Aim {
+        phi: low,
+        k: k,
+        outputs: n,
+        cap: 0,
+    };
     reach(
         s,
         net,
@@ -154,13 +153,7 @@ pub fn least_period(
         counts,
         members,
         labels,
-        tops,
-        order,
-        outs,
-        delays,
-        n,
-        low,
-        k,
+        last,
     );
     low
 }

@@ -4,16 +4,17 @@ use mathlib.Core.List.{List}
 use mathlib.Core.Bool.{Bool, true, false}
 use Prim.Native.Nat.{ℕ, _+_, _*_, _^_, _≤_, _<_}
 use lib.IntN.{ℤ}
-use lib.ListN.{length, getD}
+use lib.ListN.{length, getD, drop}
 use Rattle.net_model.specs.Net.{Net}
 use Rattle.net_model.specs.Arrays.{pinsIn}
+use Rattle.net_model.specs.PackedNet.{outsAt, delaysAt}
 use Rattle.label_theory.specs.Labels.{Least, OutputsMet, Reachable}
 use Rattle.signed.specs.Range.{room, labelIn}
 use Rattle.cut_circuit.specs.Circuit.{Circuit}
 use Rattle.cut_circuit.specs.declared.Extent.{Extent}
 use Rattle.limits.specs.Limits.{mostK}
 use Rattle.label_visit.specs.LabelVisits.{Suits, Quiet, Bounds, Refuted, Fine}
-pub use Rattle.label_pass.specs.Passes.{Ordered}
+pub use Rattle.label_pass.specs.Passes.{orderIn, Ordered}
 use Rattle.label_pins.specs.PinHeights.{PinFits}
 
 -- What a sweep's result r says. 0: nothing can change. 1: a label rose. 2: it would pass its ceiling.
@@ -29,6 +30,13 @@ pub record Filled (ls ls′ : List ℤ) (from to : ℕ) (z : ℤ) : Type 0 where
   pub between : (u : ℕ) → from ≤ u → u < to → labelIn ls′ u ≡ z
   pub before : (u : ℕ) → u < from → labelIn ls′ u ≡ labelIn ls u
   pub behind : (u : ℕ) → to ≤ u → labelIn ls′ u ≡ labelIn ls u
+
+-- the outputs' sources and registers in a net's slice
+abbrev pub outsIn : Extent → List ℕ → List ℕ
+outsIn s net = drop (outsAt (s .inputs) (s .gates)) net
+
+abbrev pub delaysIn : Extent → List ℕ → ℕ → List ℕ
+delaysIn s net n = drop (delaysAt (s .inputs) (s .gates) n) net
 
 -- outputs that can be read
 pub record OutFits (os oc : List ℕ) (ls : List ℤ) (φ n : ℕ) : Type 0 where

@@ -3,6 +3,8 @@ use cut_circuit::Extent;
 use label_climb::next_width;
 use label_climb::round;
 use label_pins::pin_height;
+use label_visit::Aim;
+use limits::PINS;
 use signed::minus;
 use signed::whole;
 ghost use mathlib.Core.Path.{_≡_};
@@ -11,12 +13,13 @@ ghost use Prim.Native.Nat.{_+_, _*_, _≤_, _<_};
 ghost use lib.IntN.{pos, _-ℤ_};
 ghost use lib.ListN.{length};
 ghost use lib.Signed.{_≤ℤ_, _<ℤ_};
+ghost use Rattle.net_model.specs.PackedNet.{packedRoom};
 ghost use Rattle.signed.specs.Range.{Small, room};
 ghost use Rattle.cut_circuit.specs.Packed.{packedOf};
 ghost use Rattle.cut_question.specs.Separating.{AtRest};
-ghost use Rattle.label_visit.specs.LabelVisits.{wiring, Ready, Ceilings};
+ghost use Rattle.label_visit.specs.LabelVisits.{wiring, topsIn, Ready, Ceilings};
 ghost use Rattle.label_pins.specs.PinHeights.{heightAt, PinFits};
-ghost use Rattle.label_sweep.specs.Sweeps.{Ordered, Outcome, SettleTold, Filled, OutFits, Sized, Labelled};
+ghost use Rattle.label_sweep.specs.Sweeps.{orderIn, outsIn, delaysIn, Ordered, Outcome, SettleTold, Filled, OutFits, Sized, Labelled};
 ghost use Rattle.label_sweep.specs.Starting.{Started, OutsMet};
 
 // What a sweep's result says: 0 where nothing can change, 1 where a label rose, 2 where one would pass its ceiling.
@@ -43,15 +46,12 @@ fn sweep_all(
     counts: &mut [u32],
     members: &mut [u32],
     labels: &mut [i64],
-    tops: &[usize],
-    order: &[usize],
-    phi: usize,
-    k: usize,
+    a: Aim,
 ) -> usize
     requires { ⌜ AtRest (packedOf s (now net) (now slots)) (now table) (now list) (now stack) (now counts) (now members) ⌝ }
-    requires { ⌜ Ready s (now labels) phi k × Ordered (wiring s (now net)) (now order) × Ceilings (wiring s (now net)) phi (now tops) ⌝ }
+    requires { ⌜ Ready s (now labels) (a .phi) (a .k) × Ordered (wiring s (now net)) (orderIn s (now net)) × Ceilings (wiring s (now net)) (a .phi) (topsIn s (now net) (a .cap)) ⌝ }
     ensures { λ _. ⌜ AtRest (packedOf s (now (net .entry)) (now (slots .exit))) (now (table .exit)) (now (list .exit)) (now (stack .exit)) (now (counts .exit)) (now (members .exit)) ⌝ }
-    ensures { λ r. ⌜ SettleTold (wiring s (now (net .entry))) k phi (now (tops .entry)) (now (labels .entry)) (now (labels .exit)) r ⌝ }
+    ensures { λ r. ⌜ SettleTold (wiring s (now (net .entry))) (a .k) (a .phi) (topsIn s (now (net .entry)) (a .cap)) (now (labels .entry)) (now (labels .exit)) r ⌝ }
 {
     let mut stop = s.gates;
     let mut w = 1;
@@ -67,10 +67,7 @@ fn sweep_all(
             counts,
             members,
             labels,
-            tops,
-            order,
-            phi,
-            k,
+            a,
             stop,
             w,
         );
@@ -136,6 +133,18 @@ fn outputs_met(outs: &[usize], delays: &[usize], labels: &[i64], phi: usize, n: 
     true
 }
 
+// The same for the outputs in the net's slice.
+fn met(s: Extent, net: &[usize], labels: &[i64], a: Aim) -> bool
+    requires { ⌜ packedRoom (s .inputs) (s .gates) (a .outputs) ≤ length (now net) ⌝ }
+    requires { ⌜ OutFits (outsIn s (now net)) (delaysIn s (now net) (a .outputs)) (now labels) (a .phi) (a .outputs) ⌝ }
+    ensures yes { λ r. ⌜ (r ≡ true → OutsMet (outsIn s (now (net .entry))) (delaysIn s (now (net .entry)) (a .outputs)) (now (labels .entry)) (a .phi) (a .outputs)) ⌝ }
+    ensures no { λ r. ⌜ (r ≡ false → ¬ OutsMet (outsIn s (now (net .entry))) (delaysIn s (now (net .entry)) (a .outputs)) (now (labels .entry)) (a .phi) (a .outputs)) ⌝ }
+{
+    let y = (2 + 3 * PINS) * s.gates + (s.inputs + s.gates) + s.gates + s.gates;
+    let d = y + a.outputs;
+    outputs_met(&net[y..], &net[d..], labels, a.phi, a.outputs)
+}
+
 // The least labelling for φ, where it meets the outputs. Else no labelling does: the target is not reachable.
 pub fn reach(
     s: Extent,
@@ -147,21 +156,16 @@ pub fn reach(
     counts: &mut [u32],
     members: &mut [u32],
     labels: &mut [i64],
-    tops: &[usize],
-    order: &[usize],
-    outs: &[usize],
-    delays: &[usize],
-    n: usize,
-    phi: usize,
-    k: usize,
+    a: Aim,
 ) -> bool
     requires { ⌜ AtRest (packedOf s (now net) (now slots)) (now table) (now list) (now stack) (now counts) (now members) ⌝ }
-    requires { ⌜ Sized s (now labels) (now outs) (now delays) phi k n × Ordered (wiring s (now net)) (now order) × Ceilings (wiring s (now net)) phi (now tops) ⌝ }
+    requires { ⌜ packedRoom (s .inputs) (s .gates) (a .outputs) ≤ length (now net) ⌝ }
+    requires { ⌜ Sized s (now labels) (outsIn s (now net)) (delaysIn s (now net) (a .outputs)) (a .phi) (a .k) (a .outputs) × Ordered (wiring s (now net)) (orderIn s (now net)) × Ceilings (wiring s (now net)) (a .phi) (topsIn s (now net) (a .cap)) ⌝ }
     ensures { λ _. ⌜ AtRest (packedOf s (now (net .entry)) (now (slots .exit))) (now (table .exit)) (now (list .exit)) (now (stack .exit)) (now (counts .exit)) (now (members .exit)) ⌝ }
-    ensures { λ r. ⌜ Labelled (wiring s (now (net .entry))) k phi (now (tops .entry)) (now (outs .entry)) (now (delays .entry)) n (now (labels .exit)) r ⌝ }
+    ensures { λ r. ⌜ Labelled (wiring s (now (net .entry))) (a .k) (a .phi) (topsIn s (now (net .entry)) (a .cap)) (outsIn s (now (net .entry))) (delaysIn s (now (net .entry)) (a .outputs)) (a .outputs) (now (labels .exit)) r ⌝ }
 {
-    let m = s.border / k;
-    let low = floor(phi, m);
+    let m = s.border / a.k;
+    let low = floor(a.phi, m);
     begin(labels, s.inputs, s.gates, low);
     let r = sweep_all(
         s,
@@ -173,13 +177,10 @@ pub fn reach(
         counts,
         members,
         labels,
-        tops,
-        order,
-        phi,
-        k,
+        a,
     );
     if r == 2 {
         return false;
     }
-    outputs_met(outs, delays, labels, phi, n)
+    met(s, net, labels, a)
 }

@@ -3,11 +3,12 @@ use mathlib.Core.Path.{_≡_}
 use mathlib.Core.List.{List, []}
 use Prim.Native.Nat.{ℕ, zero, suc, _+_, _-_, _*_, _^_, _≤_, _<_}
 use lib.IntN.{ℤ, pos, _+ℤ_, _-ℤ_}
-use lib.ListN.{length, getD, set, drop}
+use lib.ListN.{length, getD, set, drop, replicate}
 use lib.Signed.{_≤ℤ_, _<ℤ_}
 use Rattle.limits.specs.Limits.{mostK, mostPins}
 use Rattle.integers.specs.Parts.{up}
 use Rattle.net_model.specs.Net.{Net}
+use Rattle.net_model.specs.PackedNet.{topsAt}
 use Rattle.net_model.specs.Arrays.{stride}
 use Rattle.net_model.specs.Checks.{Sound, Fits, Loopless}
 use Rattle.cone_theory.specs.Ranks.{Ranked}
@@ -110,6 +111,11 @@ pub record Ready (s : Extent) (ls : List ℤ) (φ k : ℕ) : Type 0 where
   pub least : 1 ≤ k
   pub limit : k ≤ mostK
   pub fits : (s .inputs + s .gates) * s .width * 16 < 2 ^ 32
+
+-- the ceilings in a net's slice, or one for all gates
+unfoldable pub topsIn : Extent → List ℕ → ℕ → List ℕ
+topsIn s net zero = drop (topsAt (s .inputs) (s .gates)) net
+topsIn s net (suc cap) = replicate (s .gates) (suc cap)
 
 -- ceilings that do not overflow
 pub record Ceilings (C : Circuit) (φ : ℕ) (tops : List ℕ) : Type 0 where

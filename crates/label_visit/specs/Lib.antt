@@ -2,3 +2,4 @@ pub mod LabelVisits
 pub mod BoundLaws
 pub mod ReadyLaws
 pub mod LabelVisitLaws
+pub mod TopLaws

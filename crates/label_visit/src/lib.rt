@@ -12,12 +12,20 @@ ghost use mathlib.Core.Path.{_≡_};
 ghost use mathlib.Core.Bool.{true, false};
 ghost use Prim.Native.Nat.{_+_, _*_, _≤_, _<_};
 ghost use lib.IntN.{pos, _+ℤ_};
-ghost use lib.ListN.{length, set};
+ghost use lib.ListN.{length, getD, set};
 ghost use lib.Signed.{_≤ℤ_, _<ℤ_};
 ghost use Rattle.signed.specs.Range.{Small, room, labelIn};
 ghost use Rattle.cut_circuit.specs.Packed.{packedOf};
 ghost use Rattle.cut_question.specs.Separating.{AtRest};
-ghost use Rattle.label_visit.specs.LabelVisits.{wiring, PinsFit, PinMax, Raised, Ready, Ceilings, Visited};
+ghost use Rattle.label_visit.specs.LabelVisits.{wiring, topsIn, PinsFit, PinMax, Raised, Ready, Ceilings, Visited};
+
+// What is asked of the labels: a period, the most leaves of a LUT, the outputs of the net, and a ceiling of all gates, in periods; 0: each gate has its own.
+pub struct Aim {
+    pub phi: usize,
+    pub k: usize,
+    pub outputs: usize,
+    pub cap: usize,
+}
 
 // Raises a label to p: 1 if it was lower.
 fn raise(labels: &mut [i64], v: usize, p: i64) -> usize
@@ -50,6 +58,17 @@ fn below(p: i64, top: usize) -> bool
     no_higher(p, 0, t)
 }
 
+// The ceiling of gate g, in periods.
+pub fn top_of(s: Extent, net: &[usize], cap: usize, g: usize) -> usize
+    requires { ⌜ (g < s .gates) × (s .gates ≤ length (topsIn s (now net) cap)) ⌝ }
+    ensures { λ r. ⌜ r ≡ getD (topsIn s (now (net .entry)) cap) g 0 ⌝ }
+{
+    if cap > 0 {
+        return cap;
+    }
+    net[(2 + 3 * PINS) * s.gates + (s.inputs + s.gates) + s.gates + g]
+}
+
 // Gate g, whose pins' largest is p: its label becomes p, or p + 1 where there is no k-cut of height p, unless it would pass its ceiling.
 fn try_label(
     s: Extent,
@@ -61,25 +80,23 @@ fn try_label(
     counts: &mut [u32],
     members: &mut [u32],
     labels: &mut [i64],
-    tops: &[usize],
-    phi: usize,
-    k: usize,
+    a: Aim,
     g: usize,
     p: i64,
 ) -> usize
     requires { ⌜ AtRest (packedOf s (now net) (now slots)) (now table) (now list) (now stack) (now counts) (now members) ⌝ }
-    requires { ⌜ Ready s (now labels) phi k × (g < s .gates) × Ceilings (wiring s (now net)) phi (now tops) ⌝ }
-    requires { ⌜ PinMax (wiring s (now net)) (now labels) phi g p × (labelIn (now labels) (s .inputs + g) ≤ℤ p) × Small p ⌝ }
+    requires { ⌜ Ready s (now labels) (a .phi) (a .k) × (g < s .gates) × Ceilings (wiring s (now net)) (a .phi) (topsIn s (now net) (a .cap)) ⌝ }
+    requires { ⌜ PinMax (wiring s (now net)) (now labels) (a .phi) g p × (labelIn (now labels) (s .inputs + g) ≤ℤ p) × Small p ⌝ }
     ensures { λ _. ⌜ AtRest (packedOf s (now (net .entry)) (now (slots .exit))) (now (table .exit)) (now (list .exit)) (now (stack .exit)) (now (counts .exit)) (now (members .exit)) ⌝ }
-    ensures { λ r. ⌜ Visited (wiring s (now (net .entry))) k phi (now (tops .entry)) (now (labels .entry)) (now (labels .exit)) g r ⌝ }
+    ensures { λ r. ⌜ Visited (wiring s (now (net .entry))) (a .k) (a .phi) (topsIn s (now (net .entry)) (a .cap)) (now (labels .entry)) (now (labels .exit)) g r ⌝ }
 {
     let v = s.inputs + g;
-    let top = phi * tops[g];
+    let top = a.phi * top_of(s, net, a.cap, g);
     if below(p, top + 1) {
         let rose = raise(labels, v, p);
         let q = Query {
-            phi: phi,
-            k: k,
+            phi: a.phi,
+            k: a.k,
             gate: g,
             height: p,
         };
@@ -95,7 +112,7 @@ fn try_label(
             labels,
             q,
         );
-        if r <= k {
+        if r <= a.k {
             return rose;
         }
         if below(p, top) {
@@ -131,18 +148,16 @@ pub fn visit(
     counts: &mut [u32],
     members: &mut [u32],
     labels: &mut [i64],
-    tops: &[usize],
-    phi: usize,
-    k: usize,
+    a: Aim,
     g: usize,
 ) -> usize
     requires { ⌜ AtRest (packedOf s (now net) (now slots)) (now table) (now list) (now stack) (now counts) (now members) ⌝ }
-    requires { ⌜ Ready s (now labels) phi k × (g < s .gates) × Ceilings (wiring s (now net)) phi (now tops) ⌝ }
+    requires { ⌜ Ready s (now labels) (a .phi) (a .k) × (g < s .gates) × Ceilings (wiring s (now net)) (a .phi) (topsIn s (now net) (a .cap)) ⌝ }
     ensures { λ _. ⌜ AtRest (packedOf s (now (net .entry)) (now (slots .exit))) (now (table .exit)) (now (list .exit)) (now (stack .exit)) (now (counts .exit)) (now (members .exit)) ⌝ }
-    ensures { λ r. ⌜ Visited (wiring s (now (net .entry))) k phi (now (tops .entry)) (now (labels .entry)) (now (labels .exit)) g r ⌝ }
+    ensures { λ r. ⌜ Visited (wiring s (now (net .entry))) (a .k) (a .phi) (topsIn s (now (net .entry)) (a .cap)) (now (labels .entry)) (now (labels .exit)) g r ⌝ }
 {
     let v = s.inputs + g;
-    let p = highest(s, net, labels, phi, g);
+    let p = highest(s, net, labels, a.phi, g);
     if higher(labels, v, p) {
         return 0;
     }
@@ -156,9 +171,7 @@ pub fn visit(
         counts,
         members,
         labels,
-        tops,
-        phi,
-        k,
+        a,
         g,
         p,
     )

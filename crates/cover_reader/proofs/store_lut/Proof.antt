@@ -1,64 +1,53 @@
--- `cover_reader::store_lut` meets its contract: its leaves are stored, the LUTs below stay.
-use mathlib.Core.Path.{_≡_}
-use lib.ListN.{length}
+-- `cover_reader::store_lut` meets its contract: its row is stored, the LUTs below stay.
 use mir.Syntax.{w64}
 use mir.Val.{SFits}
-use Rattle.limits.specs.Limits.{mostLuts}
 use Rattle.signed.specs.RangeLaws.{back}
 use Rattle.cover_reader.specs.CandidateStoreLaws.{lut-stored}
 use borrow.Author.Needs.{needs}
 use Rattle.cover_reader.proofs.store_lut.Statement.{statement}
 use Rattle.cover_reader.proofs.store_lut.Tie as tie
 
-store-leaves-requires : tie.Need-store-leaves-requires
-store-leaves-requires c κs = search needs
-
-mul-out : tie.Need-mul-out
-mul-out c = search needs
-
-element-write-out : tie.Need-element-write-out
-element-write-out c = search needs
-
-mul-out-2 : tie.Need-mul-out-2
-mul-out-2 c = search needs
-
-element-write-out-2 : tie.Need-element-write-out-2
-element-write-out-2 c = search needs
+store-row-requires : tie.Need-store-row-requires
+store-row-requires c κs = search needs
 
 mul-lag : tie.Need-mul-lag
 mul-lag c = search needs
 
-element-set-from-lag : tie.Need-element-set-from-lag
-element-set-from-lag c = search needs
+slice-set-from-lag : tie.Need-slice-set-from-lag
+slice-set-from-lag c = search needs
 
-mul-out-3 : tie.Need-mul-out-3
-mul-out-3 c = search needs
+mul-tables : tie.Need-mul-tables
+mul-tables c = search needs
 
-element-write-out-3 : tie.Need-element-write-out-3
-element-write-out-3 c = search needs
+slice-write-tables : tie.Need-slice-write-tables
+slice-write-tables c = search needs
+
+same-length : tie.Need-same-length
+same-length c = search needs
+
+same-length-2 : tie.Need-same-length-2
+same-length-2 c = search needs
+
+same-length-3 : tie.Need-same-length-3
+same-length-3 c = search needs
 
 returns : tie.Need-returns
 returns c =
-    let a = c .before .before .args in
-    let p = c .before .before .pre in
+    let a = c .before .before .before .before .before .before .before .args in
+    let p = c .before .before .before .before .before .before .before .pre in
     let fits : SFits w64 (a .row .lag) = search needs in
-    let lr : length (a .luts .roots) ≡ mostLuts = let good = c .before .before .good .0 .1 .1 .1 .1 .1 .0 in search needs in
-    let ls : length (a .luts .sizes) ≡ mostLuts = let good = c .before .before .good .0 .1 .1 .1 .1 .1 .1 .0 in search needs in
-    let ll : length (a .luts .lags) ≡ mostLuts = let good = c .before .before .good .0 .1 .1 .1 .1 .1 .1 .1 .1 .1 .0 in search needs in
-    let lt : length (a .luts .tables) ≡ mostLuts = let good = c .before .before .good .0 .1 .1 .1 .1 .1 .1 .1 .1 .1 .1 .0 in search needs in
-    rw (back (a .row .lag) fits) (lut-stored (a .luts) (a .i) (a .row) (c .store-leaves .result) (c .store-leaves .ensures) (p .0) (p .1 .0) (p .1 .1) lr ls ll lt)
+    rw (back (a .row .lag) fits) (lut-stored (a .n) (a .i) (a .row) (a .rows .now) (c .before .before .store-row .last .0) (a .lags .now) (a .tables .now) (c .before .before .store-row .ensures) (p .0 .1) (p .1 .0) (p .0 .2 .atLags) (p .0 .2 .atTables) (p .1 .1))
 
 pub store-lut-spec : {M : Type 1} → statement M
 store-lut-spec =
     tie.close
     (tie.spec
-    store-leaves-requires
-    mul-out
-    element-write-out
-    mul-out-2
-    element-write-out-2
+    store-row-requires
     mul-lag
-    element-set-from-lag
-    mul-out-3
-    element-write-out-3
+    slice-set-from-lag
+    mul-tables
+    slice-write-tables
+    same-length
+    same-length-2
+    same-length-3
     returns)

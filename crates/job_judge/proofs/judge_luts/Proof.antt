@@ -1,91 +1,100 @@
 -- `job_judge::judge_luts` meets its contract.
-use mathlib.Core.List.{List}
-use Prim.Native.Nat.{ℕ}
-use native.Mathlib.Omega.{arith}
-use Rattle.net_model.specs.PackedNet.{sourcesAt, countsAt}
-use Rattle.net_checks.specs.Parts.{two-parts, two-wholes}
-use Rattle.cover_cuts.specs.Cuts.{Cutting, CutsTold}
-use Rattle.job_judge.specs.MarkOutcomeLaws.{held-cutting}
+use Rattle.job_judge.specs.JudgeLent.{cutting-lent, cuts-whole}
 use borrow.Author.Needs.{needs}
 use Rattle.job_judge.proofs.judge_luts.Statement.{statement}
 use Rattle.job_judge.proofs.judge_luts.Tie as tie
 
 mul-a : tie.Need-mul-a
-mul-a c = omega (arith, c .before .before .before .before .pre .0 .settling .room .packed, c .before .before .before .before .good)
+mul-a c = search needs
 
 add-b : tie.Need-add-b
 add-b c = search needs
 
 mul-b : tie.Need-mul-b
-mul-b c = omega (arith, c .before .before .before .before .before .pre .0 .settling .room .packed, c .before .before .before .before .before .good)
+mul-b c = search needs
+
+mul-d : tie.Need-mul-d
+mul-d c = search needs
+
+add-e : tie.Need-add-e
+add-e c = search needs
+
+mul-e : tie.Need-mul-e
+mul-e c = search needs
 
 mul-check-luts : tie.Need-mul-check-luts
-mul-check-luts c = omega (arith, c .before .before .before .before .before .before .before .before .before .before .pre .0 .settling .room .packed, c .before .before .before .before .before .before .before .before .before .before .good)
+mul-check-luts c = search needs
 
 sub-check-luts : tie.Need-sub-check-luts
-sub-check-luts c = omega (arith, c .before .before .before .before .before .before .before .before .before .before .pre .0 .settling .room .packed, c .before .before .before .before .before .before .before .before .before .before .good)
+sub-check-luts c = search needs
 
 part-check-luts-start : tie.Need-part-check-luts-start
-part-check-luts-start c = omega (arith, c .before .before .before .before .before .before .before .before .before .before .pre .0 .settling .room .packed, c .before .before .before .before .before .before .before .before .before .before .good)
+part-check-luts-start c = search needs
 
 part-check-luts-end : tie.Need-part-check-luts-end
 part-check-luts-end c = search needs
 
 mul-check-luts-2 : tie.Need-mul-check-luts-2
-mul-check-luts-2 c = omega (arith, c .before .before .before .before .before .before .before .before .before .before .before .pre .0 .settling .room .packed, c .before .before .before .before .before .before .before .before .before .before .before .good)
+mul-check-luts-2 c = search needs
 
 sub-check-luts-2 : tie.Need-sub-check-luts-2
-sub-check-luts-2 c = omega (arith, c .before .before .before .before .before .before .before .before .before .before .before .pre .0 .settling .room .packed, c .before .before .before .before .before .before .before .before .before .before .before .good)
+sub-check-luts-2 c = search needs
 
 part-check-luts-start-2 : tie.Need-part-check-luts-start-2
-part-check-luts-start-2 c = omega (arith, c .before .before .before .before .before .before .before .before .before .before .before .pre .0 .settling .room .packed, c .before .before .before .before .before .before .before .before .before .before .before .good)
+part-check-luts-start-2 c = search needs
 
 part-check-luts-end-2 : tie.Need-part-check-luts-end-2
 part-check-luts-end-2 c = search needs
 
-slice-aggregate-check-luts : tie.Need-slice-aggregate-check-luts
-slice-aggregate-check-luts c = search needs
+mul-check-luts-3 : tie.Need-mul-check-luts-3
+mul-check-luts-3 c = search needs
 
-slice-aggregate-check-luts-2 : tie.Need-slice-aggregate-check-luts-2
-slice-aggregate-check-luts-2 c = search needs
+sub-check-luts-3 : tie.Need-sub-check-luts-3
+sub-check-luts-3 c = search needs
 
-slice-aggregate-check-luts-3 : tie.Need-slice-aggregate-check-luts-3
-slice-aggregate-check-luts-3 c = search needs
+part-check-luts-start-3 : tie.Need-part-check-luts-start-3
+part-check-luts-start-3 c = search needs
 
-slice-aggregate-check-luts-4 : tie.Need-slice-aggregate-check-luts-4
-slice-aggregate-check-luts-4 c = let good = c .before .before .before .before .before .before .before .before .before .before .before .before .before .before .before .before .good in search needs
+part-check-luts-end-3 : tie.Need-part-check-luts-end-3
+part-check-luts-end-3 c = search needs
 
-slice-aggregate-check-luts-5 : tie.Need-slice-aggregate-check-luts-5
-slice-aggregate-check-luts-5 c = let good = c .before .before .before .before .before .before .before .before .before .before .before .before .before .before .before .before .before .good in search needs
+mul-check-luts-4 : tie.Need-mul-check-luts-4
+mul-check-luts-4 c = search needs
+
+sub-check-luts-4 : tie.Need-sub-check-luts-4
+sub-check-luts-4 c = search needs
+
+part-check-luts-start-4 : tie.Need-part-check-luts-start-4
+part-check-luts-start-4 c = search needs
+
+part-check-luts-end-4 : tie.Need-part-check-luts-end-4
+part-check-luts-end-4 c = search needs
+
+mul-check-luts-5 : tie.Need-mul-check-luts-5
+mul-check-luts-5 c = search needs
+
+sub-check-luts-5 : tie.Need-sub-check-luts-5
+sub-check-luts-5 c = search needs
+
+part-check-luts-start-5 : tie.Need-part-check-luts-start-5
+part-check-luts-start-5 c = search needs
+
+part-check-luts-end-5 : tie.Need-part-check-luts-end-5
+part-check-luts-end-5 c = search needs
 
 check-luts-requires : tie.Need-check-luts-requires
 check-luts-requires c κs =
-    let start = c .before .before .before .before .before .before .before .before .before .before .before .before .before .before .before .before .before .before in
-    let z = start .args .z in
-    let net = start .args .net .now in
-    let x = start .args .c in (
-      (
-        two-parts (λ (so co : List ℕ). Cutting (z .inputs) (z .gates) net so co (start .args .tables .now) (x .roots) (x .sizes) (x .nodes) (x .backs) (start .args .k) (x .luts))
-            net (sourcesAt (z .gates)) (countsAt (z .gates)) (held-cutting (start .pre .0)),
-        start .pre .0 .few,
-        start .pre .0 .well .atTables,
-      ),
-      start .pre .1,
-    )
+    let a = c .before .before .before .before .before .before .before .before .before .before .before .before .before .args in
+    let p = c .before .before .before .before .before .before .before .before .before .before .before .before .before .pre in
+    ((cutting-lent (a .k) (a .z) (a .net .now) (a .tables .now) (a .n) (a .rows .now) (a .luts .now) (p .0), p .0 .few, p .0 .tables), p .1)
 
 same-length : tie.Need-same-length
 same-length c = search needs
 
 returns : tie.Need-returns
 returns c =
-    let start = c .before .before .before .before .before .before .before .before .before .before .before .before .before .before .before .before .before .before .before .before .before in
-    let z = start .args .z in
-    let net = start .args .net .now in
-    let x = start .args .c in (
-      two-wholes (λ (so co : List ℕ). CutsTold (z .inputs) (z .gates) net so co (start .args .tables .now) (x .roots) (x .sizes) (x .nodes) (x .backs) (x .tables) (start .args .k) (x .luts) (c .before .before .check-luts .result))
-          net (sourcesAt (z .gates)) (countsAt (z .gates)) (c .before .before .check-luts .ensures .0),
-      c .before .before .check-luts .ensures .1,
-    )
+    let a = c .before .before .before .before .before .before .before .before .before .before .before .before .before .before .before .before .args in
+    (cuts-whole (a .k) (a .z) (a .net .now) (a .tables .now) (a .n) (a .rows .now) (a .luts .now) (c .before .before .check-luts .ensures .0), c .before .before .check-luts .ensures .1)
 
 pub judge-luts-spec : {M : Type 1} → statement M
 judge-luts-spec =
@@ -94,6 +103,9 @@ judge-luts-spec =
     mul-a
     add-b
     mul-b
+    mul-d
+    add-e
+    mul-e
     mul-check-luts
     sub-check-luts
     part-check-luts-start
@@ -102,11 +114,18 @@ judge-luts-spec =
     sub-check-luts-2
     part-check-luts-start-2
     part-check-luts-end-2
-    slice-aggregate-check-luts
-    slice-aggregate-check-luts-2
-    slice-aggregate-check-luts-3
-    slice-aggregate-check-luts-4
-    slice-aggregate-check-luts-5
+    mul-check-luts-3
+    sub-check-luts-3
+    part-check-luts-start-3
+    part-check-luts-end-3
+    mul-check-luts-4
+    sub-check-luts-4
+    part-check-luts-start-4
+    part-check-luts-end-4
+    mul-check-luts-5
+    sub-check-luts-5
+    part-check-luts-start-5
+    part-check-luts-end-5
     check-luts-requires
     same-length
     returns)

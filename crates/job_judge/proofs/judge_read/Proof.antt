@@ -1,64 +1,88 @@
 -- `job_judge::judge_read` meets its contract: the first of 14 to 18 that fails, or the excess.
 use native.Mathlib.Omega.{arith}
-use Rattle.cover_reader.specs.Reads.{recordOf}
+use Rattle.cover_reader.specs.Reads.{recordOf, heldIn}
 use Rattle.job_judge.specs.Judged.{cuts-small, links-small}
-use Rattle.job_judge.specs.MarkOutcomeLaws.{cut-as, linked-as, judged-cuts, judged-links, judged-right, no-less}
+use Rattle.job_judge.specs.MarkOutcomeLaws.{cut-as, linked-as, judged-cuts, judged-links, judged-right, no-less, held-cutting, held-linking}
 use borrow.Author.Needs.{needs}
 use Rattle.job_judge.proofs.judge_read.Statement.{statement}
 use Rattle.job_judge.proofs.judge_read.Tie as tie
 
 judge-luts-requires : tie.Need-judge-luts-requires
-judge-luts-requires c κs = search needs
+judge-luts-requires c κs = (held-cutting (c .before .before .before .before .before .before .pre .0 .1), c .before .before .before .before .before .before .pre .1)
 
 narrow-requires : tie.Need-narrow-requires
 narrow-requires c κs =
-    let j = c .before .before .before .before .before .before .before .before .pre .0 .0 in
-    let x = c .before .before .before .before .before .before .before .before .args .c in
-    cuts-small (recordOf x) (cut-as j x (c .before .before .before .judge-luts .ensures .0))
+    let j = c .before .before .before .before .before .before .before .before .before .before .pre .0 .0 in
+    let a = c .before .before .before .before .before .before .before .before .before .before .args in
+    let x = a .c in
+    let rows = a .rows .now in
+    let lags = a .lags .now in
+    let luts = a .luts .now in
+    cuts-small (recordOf x (heldIn (x .luts) rows lags luts)) (cut-as j x rows lags luts (c .before .before .before .judge-luts .ensures .0))
 
 same-length : tie.Need-same-length
 same-length c = search needs
 
 returns : tie.Need-returns
 returns c =
-    let j = c .before .before .before .before .before .before .before .before .before .pre .0 .0 in
-    let x = c .before .before .before .before .before .before .before .before .before .args .c in
-    (judged-cuts j x (cut-as j x (c .before .before .before .before .judge-luts .ensures .0)) (omega (arith, c .before .if1 .taken)) (c .narrow .ensures), c .before .before .before .before .judge-luts .ensures .1)
+    let j = c .before .before .before .before .before .before .before .before .before .before .before .pre .0 .0 in
+    let a = c .before .before .before .before .before .before .before .before .before .before .before .args in
+    let x = a .c in
+    let rows = a .rows .now in
+    let lags = a .lags .now in
+    let luts = a .luts .now in
+    (judged-cuts j x rows lags luts (cut-as j x rows lags luts (c .before .before .before .before .judge-luts .ensures .0)) (omega (arith, c .before .if1 .taken)) (c .narrow .ensures), c .before .before .before .before .judge-luts .ensures .1)
 
 judge-links-requires : tie.Need-judge-links-requires
-judge-links-requires c κs = search needs
+judge-links-requires c κs = held-linking (c .before .before .before .before .before .before .before .before .before .before .pre .0 .1)
 
 narrow-requires-2 : tie.Need-narrow-requires-2
 narrow-requires-2 c κs =
-    let j = c .before .before .before .before .before .before .before .before .before .before .pre .0 .0 in
-    let x = c .before .before .before .before .before .before .before .before .before .before .args .c in
-    links-small (recordOf x) (linked-as j x (c .before .judge-links .ensures))
+    let j = c .before .before .before .before .before .before .before .before .before .before .before .before .pre .0 .0 in
+    let a = c .before .before .before .before .before .before .before .before .before .before .before .before .args in
+    let x = a .c in
+    let rows = a .rows .now in
+    let lags = a .lags .now in
+    let luts = a .luts .now in
+    links-small (recordOf x (heldIn (x .luts) rows lags luts)) (linked-as j x rows lags luts (c .before .judge-links .ensures))
 
 same-length-2 : tie.Need-same-length-2
 same-length-2 c = search needs
 
 returns-2 : tie.Need-returns-2
 returns-2 c =
-    let j = c .before .before .before .before .before .before .before .before .before .before .before .pre .0 .0 in
-    let x = c .before .before .before .before .before .before .before .before .before .before .before .args .c in (
-      judged-links j x (cut-as j x (c .before .before .before .before .before .before .judge-luts .ensures .0)) (omega (arith, c .before .before .before .if1 .left)) (linked-as j x (c .before .before .judge-links .ensures)) (omega (arith, c .before .if2 .taken)) (c .narrow2 .ensures),
+    let j = c .before .before .before .before .before .before .before .before .before .before .before .before .before .pre .0 .0 in
+    let a = c .before .before .before .before .before .before .before .before .before .before .before .before .before .args in
+    let x = a .c in
+    let rows = a .rows .now in
+    let lags = a .lags .now in
+    let luts = a .luts .now in (
+      judged-links j x rows lags luts (cut-as j x rows lags luts (c .before .before .before .before .before .before .judge-luts .ensures .0)) (omega (arith, c .before .before .before .if1 .left)) (linked-as j x rows lags luts (c .before .before .judge-links .ensures)) (omega (arith, c .before .if2 .taken)) (c .narrow2 .ensures),
       c .before .before .before .before .before .before .judge-luts .ensures .1,
     )
 
-sub-t15 : tie.Need-sub-t15
-sub-t15 c =
-    let j = c .before .before .before .before .before .before .before .before .before .before .before .pre .0 .0 in
-    let x = c .before .before .before .before .before .before .before .before .before .before .before .args .c in
-    no-less j x (cut-as j x (c .before .before .before .before .before .before .judge-luts .ensures .0)) (omega (arith, c .before .before .before .if1 .left)) (linked-as j x (c .before .before .judge-links .ensures)) (omega (arith, c .before .if2 .left)) (c .before .before .before .before .before .before .before .before .before .before .before .pre .0 .1 .low)
+sub-t18 : tie.Need-sub-t18
+sub-t18 c =
+    let j = c .before .before .before .before .before .before .before .before .before .before .before .before .before .pre .0 .0 in
+    let a = c .before .before .before .before .before .before .before .before .before .before .before .before .before .args in
+    let x = a .c in
+    let rows = a .rows .now in
+    let lags = a .lags .now in
+    let luts = a .luts .now in
+    no-less j x rows lags luts (cut-as j x rows lags luts (c .before .before .before .before .before .before .judge-luts .ensures .0)) (omega (arith, c .before .before .before .if1 .left)) (linked-as j x rows lags luts (c .before .before .judge-links .ensures)) (omega (arith, c .before .if2 .left)) (c .before .before .before .before .before .before .before .before .before .before .before .before .before .pre .0 .1 .low)
 
 same-length-3 : tie.Need-same-length-3
 same-length-3 c = search needs
 
 returns-3 : tie.Need-returns-3
 returns-3 c =
-    let j = c .before .before .before .before .before .before .before .before .before .before .before .pre .0 .0 in
-    let x = c .before .before .before .before .before .before .before .before .before .before .before .args .c in (
-      judged-right j x (cut-as j x (c .before .before .before .before .before .before .judge-luts .ensures .0)) (omega (arith, c .before .before .before .if1 .left)) (linked-as j x (c .before .before .judge-links .ensures)) (omega (arith, c .before .if2 .left)) (c .before .before .before .before .before .before .before .before .before .before .before .pre .0 .1 .high),
+    let j = c .before .before .before .before .before .before .before .before .before .before .before .before .before .pre .0 .0 in
+    let a = c .before .before .before .before .before .before .before .before .before .before .before .before .before .args in
+    let x = a .c in
+    let rows = a .rows .now in
+    let lags = a .lags .now in
+    let luts = a .luts .now in (
+      judged-right j x rows lags luts (cut-as j x rows lags luts (c .before .before .before .before .before .before .judge-luts .ensures .0)) (omega (arith, c .before .before .before .if1 .left)) (linked-as j x rows lags luts (c .before .before .judge-links .ensures)) (omega (arith, c .before .if2 .left)) (c .before .before .before .before .before .before .before .before .before .before .before .before .before .pre .0 .1 .high),
       c .before .before .before .before .before .before .judge-luts .ensures .1,
     )
 
@@ -74,6 +98,6 @@ judge-read-spec =
     narrow-requires-2
     same-length-2
     returns-2
-    sub-t15
+    sub-t18
     same-length-3
     returns-3)

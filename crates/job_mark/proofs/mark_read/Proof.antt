@@ -17,10 +17,10 @@ use Rattle.job_mark.proofs.mark_read.Statement.{statement}
 use Rattle.job_mark.proofs.mark_read.Tie as tie
 
 least-of-requires : tie.Need-least-of-requires
-least-of-requires c κs = search needs
+least-of-requires c κs = (c .before .before .before .before .before .before .pre .1 .settling, omega (arith, c .before .before .before .before .before .before .pre .1 .space))
 
 narrow-requires : tie.Need-narrow-requires
-narrow-requires c κs = settled-small (c .before .before .before .before .before .least-of .ensures .0 .settled)
+narrow-requires c κs = settled-small (c .before .before .before .before .before .least-of .ensures .0)
 
 same-length : tie.Need-same-length
 same-length c = search needs
@@ -29,7 +29,7 @@ same-length-2 : tie.Need-same-length-2
 same-length-2 c = search needs
 
 returns : tie.Need-returns
-returns c = net-refused (c .before .before .before .before .before .before .before .before .before .before .before .before .before .args .rules) (now (c .before .before .before .before .before .before .before .before .before .before .before .before .before .args .cover)) (c .before .before .before .before .before .before .least-of .ensures .0 .settled) (c .before .if1 .taken) (c .narrow .ensures)
+returns c = net-refused (c .before .before .before .before .before .before .before .before .before .before .before .before .before .args .rules) (now (c .before .before .before .before .before .before .before .before .before .before .before .before .before .args .cover)) (c .before .before .before .before .before .before .least-of .ensures .0) (c .before .if1 .taken) (c .narrow .ensures)
 
 clear-first-requires : tie.Need-clear-first-requires
 clear-first-requires c κs = omega (arith, c .before .before .before .before .before .before .before .before .before .before .before .before .before .pre .1 .space, c .before .before .before .before .before .before .least-of .kept .1 .1 .1 .1 .0)

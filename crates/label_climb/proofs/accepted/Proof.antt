@@ -8,10 +8,10 @@ add-all-rose : tie.Need-add-all-rose
 add-all-rose c = search needs
 
 all-rose-requires : tie.Need-all-rose-requires
-all-rose-requires c κs = (c .before .pre .0 .0, c .before .pre .0 .1, c .before .pre .0 .2)
+all-rose-requires c κs = (c .before .before .pre .0 .0, c .before .before .pre .0 .1, c .before .before .pre .0 .2)
 
 over-requires : tie.Need-over-requires
-over-requires c κs = ((c .before .before .before .pre .0 .1 .room, c .before .before .before .pre .1 .0), (c .before .before .before .pre .0 .1 .small, c .before .before .before .pre .1 .1))
+over-requires c κs = ((c .before .before .before .before .pre .0 .1 .room, c .before .before .before .before .pre .1), c .before .before .before .before .pre .0 .1 .small)
 
 returns : tie.Need-returns
 returns c = (λ e. record { rose = c .before .before .all-rose .ensures (c .before .if1 .taken); over = c .over .ensures e })

@@ -7,28 +7,29 @@ use Rattle.label_climb.proofs.over.Statement.{statement}
 use Rattle.label_climb.proofs.over.Tie as tie
 
 abbrev Inv-loop : tie.InvT-loop
-Inv-loop labels tops inputs gates phi g₀ g = g ≤ gates
+Inv-loop s net labels a end g₀ g = g ≤ s .gates
 
 abbrev μ-loop : tie.MeasureT-loop
-μ-loop labels tops inputs gates phi g₀ g = gates - g
+μ-loop s net labels a end g₀ g = s .gates - g
 
 loop-holds : tie.Need-loop-holds Inv-loop μ-loop
 loop-holds c = omega arith
 
 add-past : tie.Need-add-past Inv-loop μ-loop
-add-past c = let a = c .before .before .before .pre .0 .0 in search needs
+add-past c = let a = c .before .before .before .before .pre .0 .0 in search needs
 
-mul-past : tie.Need-mul-past Inv-loop μ-loop
-mul-past c = let a = c .before .before .before .pre .0 .1 in search needs
-
-shared-slice-read-past : tie.Need-shared-slice-read-past Inv-loop μ-loop
-shared-slice-read-past c = let a = c .before .before .before .before .pre .0 .1 in omega arith
+top-of-requires : tie.Need-top-of-requires Inv-loop μ-loop
+top-of-requires c κs = (omega (arith, c .before .loop-test .taken), c .before .before .before .before .pre .0 .1 .size)
 
 past-requires : tie.Need-past-requires Inv-loop μ-loop
-past-requires c κs = (let a = c .before .before .before .before .pre .0 .0 in omega arith, c .before .before .before .before .pre .1 .0 (c .before .before .before .before .args .inputs + c .before .before .loop .g) (omega arith), c .before .before .before .before .pre .1 .1 (c .before .before .loop .g) (omega arith))
+past-requires c κs = (
+  omega (arith, c .before .before .before .before .before .pre .0 .0, c .before .before .loop-test .taken),
+  c .before .before .before .before .before .pre .1 (c .before .before .before .before .before .args .s .inputs + c .before .before .before .loop .g) (omega (arith, c .before .before .loop-test .taken)),
+  rw (c .top-of .ensures) (c .before .before .before .before .before .pre .0 .1 .top (c .before .before .before .loop .g) (omega (arith, c .before .before .loop-test .taken))),
+)
 
 returns : tie.Need-returns Inv-loop μ-loop
-returns c = (λ e. record { gate = c .before .before .before .before .loop .g; isGate = omega arith; above = c .before .past .ensures (c .if1 .taken) })
+returns c = (λ e. record { gate = c .before .before .before .before .before .loop .g; isGate = omega (arith, c .before .before .before .before .loop-test .taken); above = rw (c .before .before .top-of .ensures) at (c .before .past .ensures (c .if1 .taken)) })
 
 add-g : tie.Need-add-g Inv-loop μ-loop
 add-g c = search needs
@@ -50,8 +51,7 @@ over-spec =
     μ-loop
     loop-holds
     add-past
-    mul-past
-    shared-slice-read-past
+    top-of-requires
     past-requires
     returns
     add-g

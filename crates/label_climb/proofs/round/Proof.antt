@@ -37,7 +37,7 @@ returns : tie.Need-returns
 returns c = search needs
 
 leap-requires : tie.Need-leap-requires
-leap-requires c κs = (c .before .before .before .before .before .before .before .before .before .before .before .before .before .before .before .before .before .before .before .pre .0, (c .before .before .before .before .before .before .before .before .before .before .before .before .before .before .before .before .before .before .before .pre .1 .0, (c .before .before .before .before .before .before .before .before .before .before .before .before .before .before .before .before .before .before .before .pre .1 .1, c .before .before .before .before .before .before .before .before .early .ensures (c .before .before .before .before .before .before .before .if1 .left))))
+leap-requires c κs = (c .before .before .before .before .before .before .before .before .before .before .before .before .before .before .before .before .before .pre .0, (c .before .before .before .before .before .before .before .before .before .before .before .before .before .before .before .before .before .pre .1 .0, (c .before .before .before .before .before .before .before .before .before .before .before .before .before .before .before .before .before .pre .1 .1, c .before .before .before .before .before .before .before .before .early .ensures (c .before .before .before .before .before .before .before .if1 .left))))
 
 same-length-8 : tie.Need-same-length-8
 same-length-8 c = search needs

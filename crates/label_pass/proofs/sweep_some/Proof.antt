@@ -8,25 +8,25 @@ use lib.IntN.{ℤ}
 use lib.ListN.{length}
 use Rattle.cut_circuit.specs.Packed.{packedOf}
 use Rattle.cut_question.specs.Separating.{AtRest}
-use Rattle.label_visit.specs.LabelVisits.{wiring, Fine}
+use Rattle.label_visit.specs.LabelVisits.{wiring, topsIn, Fine}
 use Rattle.label_visit.specs.ReadyLaws.{ready-after}
-use Rattle.label_pass.specs.Passes.{QuietFrom, Progress}
+use Rattle.label_pass.specs.Passes.{orderIn, QuietFrom, Progress}
 use Rattle.label_pass.specs.PassLaws.{progress-then, next-sweep}
 use Rattle.label_pass.proofs.sweep_some.Statement.{statement}
 use Rattle.label_pass.proofs.sweep_some.Tie as tie
 
 abbrev Inv-loop : tie.InvT-loop
-Inv-loop s net slots₀ table₀ list₀ stack₀ counts₀ members₀ labels₀ tops order phi k stop w t₀ i₀ slots table list stack counts members labels t i =
+Inv-loop s net slots₀ table₀ list₀ stack₀ counts₀ members₀ labels₀ a stop w t₀ i₀ slots table list stack counts members labels t i =
     AtRest (packedOf s net slots) table list stack counts members × Fine (wiring s net) labels
-    × ((ls : List ℤ) → Progress (wiring s net) k phi tops order ls labels₀ t₀ → Progress (wiring s net) k phi tops order ls labels t)
-    × (i < w → (t ≤ s .gates) × QuietFrom (wiring s net) k phi tops order labels t)
+    × ((ls : List ℤ) → Progress (wiring s net) (a .k) (a .phi) (topsIn s net (a .cap)) (orderIn s net) ls labels₀ t₀ → Progress (wiring s net) (a .k) (a .phi) (topsIn s net (a .cap)) (orderIn s net) ls labels t)
+    × (i < w → (t ≤ s .gates) × QuietFrom (wiring s net) (a .k) (a .phi) (topsIn s net (a .cap)) (orderIn s net) labels t)
     × (length slots ≡ length slots₀) × (length table ≡ length table₀) × (length list ≡ length list₀) × (length stack ≡ length stack₀) × (length counts ≡ length counts₀) × (length members ≡ length members₀) × (length labels ≡ length labels₀)
 
 abbrev μ-loop : tie.MeasureT-loop
-μ-loop s net slots₀ table₀ list₀ stack₀ counts₀ members₀ labels₀ tops order phi k stop w t₀ i₀ slots table list stack counts members labels t i = w - i
+μ-loop s net slots₀ table₀ list₀ stack₀ counts₀ members₀ labels₀ a stop w t₀ i₀ slots table list stack counts members labels t i = w - i
 
 sweep-requires : tie.Need-sweep-requires Inv-loop μ-loop
-sweep-requires c κs = c .before .before .before .before .before .before .before .before .before .before .before .before .before .before .before .before .pre
+sweep-requires c κs = c .before .before .before .before .before .before .before .before .before .before .before .before .before .before .pre
 
 go-on-requires : tie.Need-go-on-requires Inv-loop μ-loop
 go-on-requires c κs = search needs
@@ -50,7 +50,7 @@ sweep-requires-2 : tie.Need-sweep-requires-2 Inv-loop μ-loop
 sweep-requires-2 c κs = (
   c .before .before .before .before .before .before .before .before .loop .inv .0,
   (
-    (ready-after (c .before .before .before .before .before .before .before .before .before .before .before .before .before .before .before .before .before .before .before .before .before .before .before .before .before .before .before .before .before .before .before .before .before .before .before .before .before .before .before .before .pre .1 .0 .0) (c .before .before .before .before .before .before .before .before .loop .inv .1), c .before .before .before .before .before .before .before .before .before .before .before .before .before .before .before .before .before .before .before .before .before .before .before .before .before .before .before .before .before .before .before .before .before .before .before .before .before .before .before .before .pre .1 .0 .1, c .before .before .before .before .before .before .before .before .before .before .before .before .before .before .before .before .before .before .before .before .before .before .before .before .before .before .before .before .before .before .before .before .before .before .before .before .before .before .before .before .pre .1 .0 .2),
+    (ready-after (c .before .before .before .before .before .before .before .before .before .before .before .before .before .before .before .before .before .before .before .before .before .before .before .before .before .before .before .before .before .before .before .before .before .before .before .before .before .before .pre .1 .0 .0) (c .before .before .before .before .before .before .before .before .loop .inv .1), c .before .before .before .before .before .before .before .before .before .before .before .before .before .before .before .before .before .before .before .before .before .before .before .before .before .before .before .before .before .before .before .before .before .before .before .before .before .before .pre .1 .0 .1, c .before .before .before .before .before .before .before .before .before .before .before .before .before .before .before .before .before .before .before .before .before .before .before .before .before .before .before .before .before .before .before .before .before .before .before .before .before .before .pre .1 .0 .2),
     c .before .before .before .before .before .before .before .before .loop .inv .3 (c .before .before .before .before .before .before .before .loop-test .taken),
   ),
 )

@@ -5,28 +5,32 @@ use native.Mathlib.Omega.{arith}
 use lib.ListN.{length}
 use Rattle.cut_circuit.specs.Packed.{packedOf}
 use Rattle.cut_question.specs.Separating.{AtRest}
-use Rattle.label_visit.specs.LabelVisits.{wiring}
+use Rattle.label_visit.specs.LabelVisits.{wiring, topsIn}
+use Rattle.label_sweep.specs.Sweeps.{outsIn, delaysIn}
 use Rattle.label_period.specs.PeriodSearch.{NoneBelow}
 use Rattle.label_period.specs.PeriodSearchLaws.{sized-less, ceilings-less, none-first, none-next, period-found, period-last}
 use Rattle.label_period.proofs.least_period.Statement.{statement}
 use Rattle.label_period.proofs.least_period.Tie as tie
 
 abbrev Inv-loop : tie.InvT-loop
-Inv-loop s net slots₀ table₀ list₀ stack₀ counts₀ members₀ labels₀ tops order outs delays n k end phi₀ slots table list stack counts members labels phi = (1 ≤ phi) × (phi ≤ s .gates) × AtRest (packedOf s net slots) table list stack counts members × NoneBelow (wiring s net) k tops outs delays n phi × (length slots ≡ length slots₀) × (length table ≡ length table₀) × (length list ≡ length list₀) × (length stack ≡ length stack₀) × (length counts ≡ length counts₀) × (length members ≡ length members₀) × (length labels ≡ length labels₀)
+Inv-loop s net slots₀ table₀ list₀ stack₀ counts₀ members₀ labels₀ n k end phi₀ slots table list stack counts members labels phi = (1 ≤ phi) × (phi ≤ s .gates) × AtRest (packedOf s net slots) table list stack counts members × NoneBelow (wiring s net) k (topsIn s net 0) (outsIn s net) (delaysIn s net n) n phi × (length slots ≡ length slots₀) × (length table ≡ length table₀) × (length list ≡ length list₀) × (length stack ≡ length stack₀) × (length counts ≡ length counts₀) × (length members ≡ length members₀) × (length labels ≡ length labels₀)
 
 abbrev μ-loop : tie.MeasureT-loop
-μ-loop s net slots₀ table₀ list₀ stack₀ counts₀ members₀ labels₀ tops order outs delays n k end phi₀ slots table list stack counts members labels phi = s .gates - phi
+μ-loop s net slots₀ table₀ list₀ stack₀ counts₀ members₀ labels₀ n k end phi₀ slots table list stack counts members labels phi = s .gates - phi
 
 few-requires : tie.Need-few-requires Inv-loop μ-loop
-few-requires c κs = c .before .before .before .before .before .before .before .before .before .before .before .pre .1 .3
+few-requires c κs = c .before .before .before .before .before .before .before .pre .1 .1 .3
 
 loop-holds : tie.Need-loop-holds Inv-loop μ-loop
-loop-holds c = (omega arith, c .before .before .before .before .before .before .before .before .before .before .before .before .pre .1 .3, c .before .before .before .before .before .before .before .before .before .before .before .before .pre .0, none-first, refl, refl, refl, refl, refl, refl, refl)
+loop-holds c = (omega arith, c .before .before .before .before .before .before .before .before .pre .1 .1 .3, c .before .before .before .before .before .before .before .before .pre .0, none-first, refl, refl, refl, refl, refl, refl, refl)
 
 reach-requires : tie.Need-reach-requires Inv-loop μ-loop
 reach-requires c κs = (
   c .before .before .before .before .before .before .before .before .loop .inv .2,
-  (sized-less (c .before .before .before .before .before .before .before .before .loop .phi) (c .before .before .before .before .before .before .before .before .loop .inv .1) (c .before .before .before .before .before .before .before .before .loop .inv .10) (c .before .before .before .before .before .before .before .before .before .before .before .before .before .before .before .before .before .before .before .before .before .pre .1 .0), c .before .before .before .before .before .before .before .before .before .before .before .before .before .before .before .before .before .before .before .before .before .pre .1 .1, ceilings-less (c .before .before .before .before .before .before .before .before .loop .phi) (c .before .before .before .before .before .before .before .before .loop .inv .1) (c .before .before .before .before .before .before .before .before .before .before .before .before .before .before .before .before .before .before .before .before .before .pre .1 .2)),
+  (
+    c .before .before .before .before .before .before .before .before .before .before .before .before .before .before .before .before .before .pre .1 .0,
+    (sized-less (c .before .before .before .before .before .before .before .before .loop .phi) (c .before .before .before .before .before .before .before .before .loop .inv .1) (c .before .before .before .before .before .before .before .before .loop .inv .10) (c .before .before .before .before .before .before .before .before .before .before .before .before .before .before .before .before .before .pre .1 .1 .0), c .before .before .before .before .before .before .before .before .before .before .before .before .before .before .before .before .before .pre .1 .1 .1, ceilings-less (c .before .before .before .before .before .before .before .before .loop .phi) (c .before .before .before .before .before .before .before .before .loop .inv .1) (c .before .before .before .before .before .before .before .before .before .before .before .before .before .before .before .before .before .pre .1 .1 .2)),
+  ),
 )
 
 same-length : tie.Need-same-length Inv-loop μ-loop
@@ -54,7 +58,7 @@ returns : tie.Need-returns Inv-loop μ-loop
 returns c = (c .before .before .before .before .before .before .before .before .before .before .before .before .before .before .reach .ensures .0, period-found (c .before .before .before .before .before .before .before .before .before .before .before .before .before .before .before .before .before .before .before .before .before .before .before .loop .inv .0) (c .before .before .before .before .before .before .before .before .before .before .before .before .before .before .before .before .before .before .before .before .before .before .before .loop .inv .1) (c .before .before .before .before .before .before .before .before .before .before .before .before .before .before .before .before .before .before .before .before .before .before .before .loop .inv .3) (c .before .before .before .before .before .before .before .before .before .before .before .before .before .before .reach .ensures .1) (c .if1 .taken))
 
 add-phi : tie.Need-add-phi Inv-loop μ-loop
-add-phi c = record { fits = omega (arith, c .before .before .before .before .before .before .before .before .before .before .before .before .before .before .before .before .before .before .before .before .before .before .before .loop .inv .1, c .before .before .before .before .before .before .before .before .before .before .before .before .before .before .before .before .before .before .before .before .before .before .before .before .before .before .before .before .before .before .before .before .before .before .before .before .pre .0 .resting .layout .slots, c .before .before .before .before .before .before .before .before .before .before .before .before .before .before .before .before .before .before .before .before .before .before .before .before .before .before .before .before .before .before .before .before .before .before .before .before .good) }
+add-phi c = record { fits = omega (arith, c .before .before .before .before .before .before .before .before .before .before .before .before .before .before .before .before .before .before .before .before .before .before .before .loop .inv .1, c .before .before .before .before .before .before .before .before .before .before .before .before .before .before .before .before .before .before .before .before .before .before .before .before .before .before .before .before .before .before .before .before .pre .0 .resting .layout .slots, c .before .before .before .before .before .before .before .before .before .before .before .before .before .before .before .before .before .before .before .before .before .before .before .before .before .before .before .before .before .before .before .before .good) }
 
 loop-less : tie.Need-loop-less Inv-loop μ-loop
 loop-less c = omega (arith, c .before .before .before .before .before .before .before .before .before .before .before .before .before .before .before .before .before .before .before .before .before .before .loop-test .taken, c .before .before .before .before .before .before .before .before .before .before .before .before .before .before .before .before .before .before .before .before .before .before .before .before .few .ensures .most)
@@ -78,8 +82,11 @@ halve-requires : tie.Need-halve-requires Inv-loop μ-loop
 halve-requires c κs = (
   c .before .before .before .before .before .before .before .before .loop .inv .2,
   (
-    (sized-less (c .before .before .before .before .before .before .before .before .before .before .before .before .before .before .before .before .before .before .before .before .before .args .s .gates) (omega arith) (c .before .before .before .before .before .before .before .before .loop .inv .10) (c .before .before .before .before .before .before .before .before .before .before .before .before .before .before .before .before .before .before .before .before .before .pre .1 .0), c .before .before .before .before .before .before .before .before .before .before .before .before .before .before .before .before .before .before .before .before .before .pre .1 .1, c .before .before .before .before .before .before .before .before .before .before .before .before .before .before .before .before .before .before .before .before .before .pre .1 .2),
-    (c .before .before .before .before .before .before .before .before .loop .inv .0, c .before .before .before .before .before .before .before .before .loop .inv .1, c .before .before .before .before .before .before .before .before .loop .inv .3),
+    c .before .before .before .before .before .before .before .before .before .before .before .before .before .before .before .before .before .pre .1 .0,
+    (
+      (sized-less (c .before .before .before .before .before .before .before .before .before .before .before .before .before .before .before .before .before .args .s .gates) (omega arith) (c .before .before .before .before .before .before .before .before .loop .inv .10) (c .before .before .before .before .before .before .before .before .before .before .before .before .before .before .before .before .before .pre .1 .1 .0), c .before .before .before .before .before .before .before .before .before .before .before .before .before .before .before .before .before .pre .1 .1 .1, c .before .before .before .before .before .before .before .before .before .before .before .before .before .before .before .before .before .pre .1 .1 .2),
+      (c .before .before .before .before .before .before .before .before .loop .inv .0, c .before .before .before .before .before .before .before .before .loop .inv .1, c .before .before .before .before .before .before .before .before .loop .inv .3),
+    ),
   ),
 )
 
@@ -87,9 +94,12 @@ reach-requires-2 : tie.Need-reach-requires-2 Inv-loop μ-loop
 reach-requires-2 c κs = (
   c .before .before .before .before .before .before .before .before .before .before .before .before .before .before .before .before .before .before .before .before .halve .ensures .0,
   (
-    sized-less (c .before .before .before .before .before .before .before .before .before .before .before .before .before .before .before .before .before .before .before .before .halve .result) (c .before .before .before .before .before .before .before .before .before .before .before .before .before .before .before .before .before .before .before .before .halve .ensures .1 .most) (c .before .before .before .before .before .before .before .before .before .before .before .before .before .before .before .before .before .before .before .before .halve .kept .1 .1 .1 .1 .1 .1 .1 .1 .0 ∙ c .before .before .before .before .before .before .before .before .before .before .before .before .before .before .before .before .before .before .before .before .before .before .before .before .before .before .before .before .before .loop .inv .10) (c .before .before .before .before .before .before .before .before .before .before .before .before .before .before .before .before .before .before .before .before .before .before .before .before .before .before .before .before .before .before .before .before .before .before .before .before .before .before .before .before .before .before .pre .1 .0),
-    c .before .before .before .before .before .before .before .before .before .before .before .before .before .before .before .before .before .before .before .before .before .before .before .before .before .before .before .before .before .before .before .before .before .before .before .before .before .before .before .before .before .before .pre .1 .1,
-    ceilings-less (c .before .before .before .before .before .before .before .before .before .before .before .before .before .before .before .before .before .before .before .before .halve .result) (c .before .before .before .before .before .before .before .before .before .before .before .before .before .before .before .before .before .before .before .before .halve .ensures .1 .most) (c .before .before .before .before .before .before .before .before .before .before .before .before .before .before .before .before .before .before .before .before .before .before .before .before .before .before .before .before .before .before .before .before .before .before .before .before .before .before .before .before .before .before .pre .1 .2),
+    c .before .before .before .before .before .before .before .before .before .before .before .before .before .before .before .before .before .before .before .before .before .before .before .before .before .before .before .before .before .before .before .before .before .before .before .before .before .before .pre .1 .0,
+    (
+      sized-less (c .before .before .before .before .before .before .before .before .before .before .before .before .before .before .before .before .before .before .before .before .halve .result) (c .before .before .before .before .before .before .before .before .before .before .before .before .before .before .before .before .before .before .before .before .halve .ensures .1 .most) (c .before .before .before .before .before .before .before .before .before .before .before .before .before .before .before .before .before .before .before .before .halve .kept .1 .1 .1 .1 .1 .1 .1 .1 .0 ∙ c .before .before .before .before .before .before .before .before .before .before .before .before .before .before .before .before .before .before .before .before .before .before .before .before .before .before .before .before .before .loop .inv .10) (c .before .before .before .before .before .before .before .before .before .before .before .before .before .before .before .before .before .before .before .before .before .before .before .before .before .before .before .before .before .before .before .before .before .before .before .before .before .before .pre .1 .1 .0),
+      c .before .before .before .before .before .before .before .before .before .before .before .before .before .before .before .before .before .before .before .before .before .before .before .before .before .before .before .before .before .before .before .before .before .before .before .before .before .before .pre .1 .1 .1,
+      ceilings-less (c .before .before .before .before .before .before .before .before .before .before .before .before .before .before .before .before .before .before .before .before .halve .result) (c .before .before .before .before .before .before .before .before .before .before .before .before .before .before .before .before .before .before .before .before .halve .ensures .1 .most) (c .before .before .before .before .before .before .before .before .before .before .before .before .before .before .before .before .before .before .before .before .before .before .before .before .before .before .before .before .before .before .before .before .before .before .before .before .before .before .pre .1 .1 .2),
+    ),
   ),
 )
 

@@ -18,24 +18,23 @@ div-m c = search needs
 
 floor-requires : tie.Need-floor-requires
 floor-requires c κs =
-    let start = c .before .before .before .before .before .before .before .before .before .before .before .before in
-    (low-shift (start .args .phi) (start .args .s .border) (start .args .k) (start .args .s .width) (start .pre .1 .0 .least) (start .pre .0 .resting .layout .wide)
-    (start .pre .1 .0 .shift))
+    let start = c .before .before .before .before .before .before .before .before .before in
+    (low-shift (start .args .a .phi) (start .args .s .border) (start .args .a .k) (start .args .s .width) (start .pre .1 .1 .0 .least) (start .pre .0 .resting .layout .wide)
+    (start .pre .1 .1 .0 .shift))
 
 begin-requires : tie.Need-begin-requires
 begin-requires c κs =
-    let start = c .before .before .before .before .before .before .before .before .before .before .before .before .before .before in
-    let low = pos 1 -ℤ pos (start .args .phi * (start .args .s .border / start .args .k)) in
-    let h = small-low _ (low-shift (start .args .phi) (start .args .s .border) (start .args .k) (start .args .s .width) (start .pre .1 .0 .least) (start .pre .0 .resting .layout .wide)
-    (start .pre .1 .0 .shift)) in
+    let start = c .before .before .before .before .before .before .before .before .before .before .before in
+    let low = pos 1 -ℤ pos (start .args .a .phi * (start .args .s .border / start .args .a .k)) in
+    let h = small-low _ (low-shift (start .args .a .phi) (start .args .s .border) (start .args .a .k) (start .args .s .width) (start .pre .1 .1 .0 .least) (start .pre .0 .resting .layout .wide)
+    (start .pre .1 .1 .0 .shift)) in
     let e = ap (λ (x : ℤ). toZ w64 (ofZ w64 x)) (c .before .floor .ensures) ∙ back low (small-fits low h) in
-    (start .pre .1 .0 .size, subst Small (sym e) h)
+    (start .pre .1 .1 .0 .size, subst Small (sym e) h)
 
 sweep-all-requires : tie.Need-sweep-all-requires
 sweep-all-requires c κs =
-    let start = c .before .before .before .before .before .before .before .before .before .before .before .before .before .before .before .before .before .before .before .before
-    .before .before .before in
-    (start .pre .0, (ready-of (start .pre .1 .0) (c .before .before .before .before .before .before .before .before .begin .ensures), start .pre .1 .1, start .pre .1 .2))
+    let start = c .before .before .before .before .before .before .before .before .before .before .before .before .before .before .before .before .before .before .before .before in
+    (start .pre .0, (ready-of (start .pre .1 .1 .0) (c .before .before .before .before .before .before .before .before .begin .ensures), start .pre .1 .1 .1, start .pre .1 .1 .2))
 
 same-length : tie.Need-same-length
 same-length c = search needs
@@ -61,23 +60,18 @@ same-length-7 c = search needs
 returns : tie.Need-returns
 returns c =
     let sweep-all = c .before .before .before .before .before .before .before .before .before .before .before .before .before .before .sweep-all in
-    let start = c .before .before .before .before .before .before .before .before .before .before .before .before .before .before .before .before .before .before .before .before
-    .before .before .before .before .before .before .before .before .before .before .before .before .before .before .before .before .before .before in
-    let low = pos 1 -ℤ pos (start .args .phi * (start .args .s .border / start .args .k)) in
-    let h = small-low _ (low-shift (start .args .phi) (start .args .s .border) (start .args .k) (start .args .s .width) (start .pre .1 .0 .least) (start .pre .0 .resting .layout .wide)
-    (start .pre .1 .0 .shift)) in
-    let e = ap (λ (x : ℤ). toZ w64 (ofZ w64 x)) (c .before .before .before .before .before .before .before .before .before .before .before .before .before .before .before .before
-    .before .before .before .before .before .before .before .before .before .floor .ensures) ∙ back low (small-fits low h) in (
+    let start = c .before .before .before .before .before .before .before .before .before .before .before .before .before .before .before .before .before .before .before .before .before .before .before .before .before .before .before .before .before .before .before .before .before .before .before in
+    let low = pos 1 -ℤ pos (start .args .a .phi * (start .args .s .border / start .args .a .k)) in
+    let h = small-low _ (low-shift (start .args .a .phi) (start .args .s .border) (start .args .a .k) (start .args .s .width) (start .pre .1 .1 .0 .least) (start .pre .0 .resting .layout .wide)
+    (start .pre .1 .1 .0 .shift)) in
+    let e = ap (λ (x : ℤ). toZ w64 (ofZ w64 x)) (c .before .before .before .before .before .before .before .before .before .before .before .before .before .before .before .before .before .before .before .before .before .before .before .before .before .floor .ensures) ∙ back low (small-fits low h) in (
       sweep-all .ensures .0,
-      labelled-past (start-bounds {C = wiring (start .args .s) (now (start .args .net))} (start .pre .1 .0 .least) refl e (c .before .before .before .before
-          .before .before .before .before .before .before .before .before .before .before .before .before .before .before .before .before .before .before .before .begin .ensures))
+      labelled-past (start-bounds {C = wiring (start .args .s) (now (start .args .net))} (start .pre .1 .1 .0 .least) refl e (c .before .before .before .before .before .before .before .before .before .before .before .before .before .before .before .before .before .before .before .before .before .before .before .begin .ensures))
           (sweep-all .ensures .1 .settling) (c .if1 .taken),
     )
 
-outputs-met-requires : tie.Need-outputs-met-requires
-outputs-met-requires c κs = out-fits (c .before .before .before .before .before .before .before .before .before .before .before .before .before .before .before .before .before
-    .before .before .before .before .before .before .before .before .before .before .before .before .before .before .before .before .before .before .before .before .before
-    .before .pre .1 .0) (c .before .before .before .before .before .before .before .before .before .before .before .before .before .before .before .sweep-all .ensures .1 .settling .fine)
+met-requires : tie.Need-met-requires
+met-requires c κs = (c .before .before .before .before .before .before .before .before .before .before .before .before .before .before .before .before .before .before .before .before .before .before .before .before .before .before .before .before .before .before .before .before .before .before .before .before .pre .1 .0, out-fits (c .before .before .before .before .before .before .before .before .before .before .before .before .before .before .before .before .before .before .before .before .before .before .before .before .before .before .before .before .before .before .before .before .before .before .before .before .pre .1 .1 .0) (c .before .before .before .before .before .before .before .before .before .before .before .before .before .before .before .sweep-all .ensures .1 .settling .fine))
 
 same-length-8 : tie.Need-same-length-8
 same-length-8 c = search needs
@@ -103,19 +97,16 @@ same-length-14 c = search needs
 returns-2 : tie.Need-returns-2
 returns-2 c =
     let sweep-all = c .before .before .before .before .before .before .before .before .before .before .before .before .before .before .before .before .sweep-all in
-    let outputs-met = c .outputs-met in
-    let start = c .before .before .before .before .before .before .before .before .before .before .before .before .before .before .before .before .before .before .before .before
-    .before .before .before .before .before .before .before .before .before .before .before .before .before .before .before .before .before .before .before .before in
-    let low = pos 1 -ℤ pos (start .args .phi * (start .args .s .border / start .args .k)) in
-    let h = small-low _ (low-shift (start .args .phi) (start .args .s .border) (start .args .k) (start .args .s .width) (start .pre .1 .0 .least) (start .pre .0 .resting .layout .wide)
-    (start .pre .1 .0 .shift)) in
-    let e = ap (λ (x : ℤ). toZ w64 (ofZ w64 x)) (c .before .before .before .before .before .before .before .before .before .before .before .before .before .before .before .before
-    .before .before .before .before .before .before .before .before .before .before .before .floor .ensures) ∙ back low (small-fits low h) in (
+    let met = c .met in
+    let start = c .before .before .before .before .before .before .before .before .before .before .before .before .before .before .before .before .before .before .before .before .before .before .before .before .before .before .before .before .before .before .before .before .before .before .before .before .before in
+    let low = pos 1 -ℤ pos (start .args .a .phi * (start .args .s .border / start .args .a .k)) in
+    let h = small-low _ (low-shift (start .args .a .phi) (start .args .s .border) (start .args .a .k) (start .args .s .width) (start .pre .1 .1 .0 .least) (start .pre .0 .resting .layout .wide)
+    (start .pre .1 .1 .0 .shift)) in
+    let e = ap (λ (x : ℤ). toZ w64 (ofZ w64 x)) (c .before .before .before .before .before .before .before .before .before .before .before .before .before .before .before .before .before .before .before .before .before .before .before .before .before .before .before .floor .ensures) ∙ back low (small-fits low h) in (
       sweep-all .ensures .0,
-      labelled-rest (start-bounds {C = wiring (start .args .s) (now (start .args .net))} (start .pre .1 .0 .least) refl e (c .before .before .before .before .before .before
-          .before .before .before .before .before .before .before .before .before .before .before .before .before .before .before .before .before .before .before .begin .ensures))
+      labelled-rest (start-bounds {C = wiring (start .args .s) (now (start .args .net))} (start .pre .1 .1 .0 .least) refl e (c .before .before .before .before .before .before .before .before .before .before .before .before .before .before .before .before .before .before .before .before .before .before .before .before .before .begin .ensures))
           (sweep-all .ensures .1 .settling)
-          (rest-zero (sweep-all .result) (sweep-all .ensures .1 .settling .most) (sweep-all .ensures .1 .ends) (c .before .before .if1 .left)) (outputs-met .ensures .0) (outputs-met .ensures .1),
+          (rest-zero (sweep-all .result) (sweep-all .ensures .1 .settling .most) (sweep-all .ensures .1 .ends) (c .before .before .if1 .left)) (met .ensures .0) (met .ensures .1),
     )
 
 pub reach-spec : {M : Type 1} → statement M
@@ -134,7 +125,7 @@ reach-spec =
     same-length-6
     same-length-7
     returns
-    outputs-met-requires
+    met-requires
     same-length-8
     same-length-9
     same-length-10

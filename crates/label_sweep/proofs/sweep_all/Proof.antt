@@ -7,9 +7,9 @@ use denote.Ref.{now}
 use lib.ListN.{length}
 use Rattle.cut_circuit.specs.Packed.{packedOf}
 use Rattle.cut_question.specs.Separating.{AtRest}
-use Rattle.label_visit.specs.LabelVisits.{wiring, left}
+use Rattle.label_visit.specs.LabelVisits.{wiring, topsIn, left}
 use Rattle.label_visit.specs.ReadyLaws.{ready-fine, ready-after}
-use Rattle.label_pass.specs.Passes.{QuietFrom}
+use Rattle.label_pass.specs.Passes.{orderIn, QuietFrom}
 use Rattle.label_pass.specs.PassLaws.{quiet-none}
 use Rattle.label_sweep.specs.Sweeps.{Settling}
 use Rattle.label_sweep.specs.Sweeping.{settling-first, settling-next, next-stop, swept-falls, fallen}
@@ -17,21 +17,21 @@ use Rattle.label_sweep.proofs.sweep_all.Statement.{statement}
 use Rattle.label_sweep.proofs.sweep_all.Tie as tie
 
 abbrev Inv-loop : tie.InvT-loop
-Inv-loop s net slots₀ table₀ list₀ stack₀ counts₀ members₀ labels₀ tops order phi k stop₀ w₀ r₀ slots table list stack counts members labels stop w r =
-    AtRest (packedOf s net slots) table list stack counts members × Settling (wiring s net) k phi tops labels₀ labels r
-    × (r ≡ 1 → (stop ≤ s .gates) × QuietFrom (wiring s net) k phi tops order labels stop)
+Inv-loop s net slots₀ table₀ list₀ stack₀ counts₀ members₀ labels₀ a stop₀ w₀ r₀ slots table list stack counts members labels stop w r =
+    AtRest (packedOf s net slots) table list stack counts members × Settling (wiring s net) (a .k) (a .phi) (topsIn s net (a .cap)) labels₀ labels r
+    × (r ≡ 1 → (stop ≤ s .gates) × QuietFrom (wiring s net) (a .k) (a .phi) (topsIn s net (a .cap)) (orderIn s net) labels stop)
     × (length slots ≡ length slots₀) × (length table ≡ length table₀) × (length list ≡ length list₀) × (length stack ≡ length stack₀) × (length counts ≡ length counts₀) × (length members ≡ length members₀) × (length labels ≡ length labels₀)
 
 abbrev μ-loop : tie.MeasureT-loop
-μ-loop s net slots₀ table₀ list₀ stack₀ counts₀ members₀ labels₀ tops order phi k stop₀ w₀ r₀ slots table list stack counts members labels stop w r = left (wiring s net) phi tops labels (s .gates) + r % 2
+μ-loop s net slots₀ table₀ list₀ stack₀ counts₀ members₀ labels₀ a stop₀ w₀ r₀ slots table list stack counts members labels stop w r = left (wiring s net) (a .phi) (topsIn s net (a .cap)) labels (s .gates) + r % 2
 
 loop-holds : tie.Need-loop-holds Inv-loop μ-loop
 loop-holds c = (
-  c .before .before .before .before .before .before .before .before .before .pre .0,
-  settling-first (ready-fine (c .before .before .before .before .before .before .before .before .before .pre .1 .0)),
+  c .before .before .before .before .before .before .before .pre .0,
+  settling-first (ready-fine (c .before .before .before .before .before .before .before .pre .1 .0)),
   (λ e. (
     omega arith,
-    quiet-none (wiring (c .before .before .before .before .before .before .before .before .before .args .s) (now (c .before .before .before .before .before .before .before .before .before .args .net))) (c .before .before .before .before .before .before .before .before .before .args .k) (c .before .before .before .before .before .before .before .before .before .args .phi) (now (c .before .before .before .before .before .before .before .before .before .args .tops)) (now (c .before .before .before .before .before .before .before .before .before .args .order)) (now (c .before .before .before .before .before .before .before .before .before .args .labels)),
+    quiet-none (wiring (c .before .before .before .before .before .before .before .args .s) (now (c .before .before .before .before .before .before .before .args .net))) (c .before .before .before .before .before .before .before .args .a .k) (c .before .before .before .before .before .before .before .args .a .phi) (topsIn (c .before .before .before .before .before .before .before .args .s) (now (c .before .before .before .before .before .before .before .args .net)) (c .before .before .before .before .before .before .before .args .a .cap)) (orderIn (c .before .before .before .before .before .before .before .args .s) (now (c .before .before .before .before .before .before .before .args .net))) (now (c .before .before .before .before .before .before .before .args .labels)),
   )),
   refl,
   refl,
@@ -46,7 +46,7 @@ round-requires : tie.Need-round-requires Inv-loop μ-loop
 round-requires c κs = (
   c .before .before .before .before .before .before .before .before .loop .inv .0,
   (
-    (ready-after (c .before .before .before .before .before .before .before .before .before .before .before .before .before .before .before .before .before .before .pre .1 .0) (c .before .before .before .before .before .before .before .before .loop .inv .1 .fine), c .before .before .before .before .before .before .before .before .before .before .before .before .before .before .before .before .before .before .pre .1 .1, c .before .before .before .before .before .before .before .before .before .before .before .before .before .before .before .before .before .before .pre .1 .2),
+    (ready-after (c .before .before .before .before .before .before .before .before .before .before .before .before .before .before .before .before .pre .1 .0) (c .before .before .before .before .before .before .before .before .loop .inv .1 .fine), c .before .before .before .before .before .before .before .before .before .before .before .before .before .before .before .before .pre .1 .1, c .before .before .before .before .before .before .before .before .before .before .before .before .before .before .before .before .pre .1 .2),
     c .before .before .before .before .before .before .before .before .loop .inv .2 (c .before .before .before .before .before .before .before .loop-test .taken),
   ),
 )
@@ -64,7 +64,7 @@ loop-less c =
 loop-again : tie.Need-loop-again Inv-loop μ-loop
 loop-again c = (
   c .before .before .before .before .before .before .before .before .before .before .before .before .before .before .before .round .ensures .0,
-  settling-next (c .before .before .before .before .before .before .before .before .before .before .before .before .before .before .before .before .before .before .before .before .before .before .before .before .before .before .before .before .before .before .before .before .before .before .pre .1 .1) (c .before .before .before .before .before .before .before .before .before .before .before .before .before .before .before .before .before .before .before .before .before .before .before .before .loop .inv .1) (c .before .before .before .before .before .before .before .before .before .before .before .before .before .before .before .round .ensures .1) (c .before .outcome .ensures),
+  settling-next (c .before .before .before .before .before .before .before .before .before .before .before .before .before .before .before .before .before .before .before .before .before .before .before .before .before .before .before .before .before .before .before .before .pre .1 .1) (c .before .before .before .before .before .before .before .before .before .before .before .before .before .before .before .before .before .before .before .before .before .before .before .before .loop .inv .1) (c .before .before .before .before .before .before .before .before .before .before .before .before .before .before .before .round .ensures .1) (c .before .outcome .ensures),
   next-stop (c .before .before .before .before .before .before .before .before .before .before .before .before .before .before .before .round .ensures .1) (c .before .outcome .ensures),
   c .before .before .before .before .before .before .before .before .before .before .before .before .before .before .before .round .kept .1 .1 .0 ∙ c .before .before .before .before .before .before .before .before .before .before .before .before .before .before .before .before .before .before .before .before .before .before .before .before .loop .inv .3,
   c .before .before .before .before .before .before .before .before .before .before .before .before .before .before .before .round .kept .1 .1 .1 .0 ∙ c .before .before .before .before .before .before .before .before .before .before .before .before .before .before .before .before .before .before .before .before .before .before .before .before .loop .inv .4,

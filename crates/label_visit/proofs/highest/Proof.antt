@@ -103,8 +103,7 @@ returns c =
     let net = now (start .args .net) in
     let a = sourcesAt (start .args .s .gates) in
     let b = countsAt (start .args .s .gates) in
-    let m = pinmax-at (sym (rw (behind net a, behind net b) at (c .pin-height .ensures))) (best-max (start .args .s) net (rw (behind net a, behind net b) at (c .before .before
-    .before .best-pin .ensures))) in
+    let m = pinmax-at (sym (rw (behind net a, behind net b) at (c .pin-height .ensures))) (best-max (start .args .s) net (rw (behind net a, behind net b) at (c .before .before .before .best-pin .ensures))) in
     pinmax-at (max-back (start .pre) m) m
 
 pub highest-spec : {M : Type 1} → statement M

@@ -1,18 +1,18 @@
 -- `label_visit::try_label` meets its contract: each way out is one of a visit's.
-use mathlib.Core.Path.{sym, subst}
-use Prim.Native.Nat.{_+_}
+use mathlib.Core.Path.{sym, ap, subst}
+use Prim.Native.Nat.{ℕ, _+_, _*_}
 use native.Mathlib.Omega.{arith}
 use denote.Ref.{now}
 use mir.Val.{toZ, ofZ}
 use mir.Syntax.{w64}
-use lib.Signed.{_≤ℤ_}
-use lib.IntN.{ℤ}
+use lib.Signed.{_≤ℤ_, _<ℤ_}
+use lib.IntN.{ℤ, pos}
 use Rattle.integers.specs.Parts.{ints}
 use Rattle.signed.specs.Range.{labelIn, Small}
 use Rattle.signed.specs.RangeLaws.{back}
 use Rattle.label_visit.specs.ReadyLaws.{pinmax-at, decides-wiring, asks-of, raised-ready, raised-changed, ready-fine, small-next}
 use Rattle.label_visit.specs.LabelVisitLaws.{visit-cut, visit-lift, visit-over, visit-past}
-use Rattle.label_visit.specs.LabelVisits.{wiring}
+use Rattle.label_visit.specs.LabelVisits.{wiring, topsIn}
 use borrow.Author.Needs.{needs}
 use Rattle.label_visit.proofs.try_label.Statement.{statement}
 use Rattle.label_visit.proofs.try_label.Tie as tie
@@ -20,26 +20,23 @@ use Rattle.label_visit.proofs.try_label.Tie as tie
 add-v : tie.Need-add-v
 add-v c = search needs
 
+top-of-requires : tie.Need-top-of-requires
+top-of-requires c κs = (c .before .before .before .before .before .before .before .before .pre .1 .0 .1, c .before .before .before .before .before .before .before .before .pre .1 .0 .2 .size)
+
 mul-top : tie.Need-mul-top
-mul-top c = search needs
-
-shared-slice-read-top : tie.Need-shared-slice-read-top
-shared-slice-read-top c = search needs
-
-mul-top-2 : tie.Need-mul-top-2
-mul-top-2 c =
+mul-top c =
     let start = c .before .before .before .before .before .before .before .before .before .before in
-    record { fits = let q = start .pre .1 .0 .2 .top (start .args .g) (start .pre .1 .0 .1) in omega arith }
+    record { fits = let q = start .pre .1 .0 .2 .top (start .args .g) (start .pre .1 .0 .1) in omega (arith, q, ap (λ (x : ℕ). start .args .a .phi * x) (c .before .top-of .ensures)) }
 
 add-below : tie.Need-add-below
 add-below c =
     let start = c .before .before .before .before .before .before .before .before .before .before in
-    record { fits = let q = start .pre .1 .0 .2 .top (start .args .g) (start .pre .1 .0 .1) in omega arith }
+    record { fits = let q = start .pre .1 .0 .2 .top (start .args .g) (start .pre .1 .0 .1) in omega (arith, q, ap (λ (x : ℕ). start .args .a .phi * x) (c .before .top-of .ensures)) }
 
 below-requires : tie.Need-below-requires
 below-requires c κs =
     let start = c .before .before .before .before .before .before .before .before .before .before in
-    ((subst Small (sym (back (start .args .p) (start .fits .p))) (start .pre .1 .1 .2)), (let q = start .pre .1 .0 .2 .top (start .args .g) (start .pre .1 .0 .1) in omega arith))
+    ((subst Small (sym (back (start .args .p) (start .fits .p))) (start .pre .1 .1 .2)), (let q = start .pre .1 .0 .2 .top (start .args .g) (start .pre .1 .0 .1) in omega (arith, q, ap (λ (x : ℕ). start .args .a .phi * x) (c .before .top-of .ensures))))
 
 raise-requires : tie.Need-raise-requires
 raise-requires c κs =
@@ -81,29 +78,29 @@ same-length-7 c = search needs
 
 returns : tie.Need-returns
 returns c =
-    let question = c .before .before .before .before .before .before .before .before .before .before .before .before .before .question in
-    let raise = c .before .before .before .before .before .before .before .before .before .before .before .before .before .before .before .before .before .before .before .before .before .before .raise in
-    let start = c .before .before .before .before .before .before .before .before .before .before .before .before .before .before .before .before .before .before .before .before .before .before .before .before .before .before .before .before .before .before .before .before .before .before .before .before in
+    let question = c .before .before .before .before .before .before .before .before .before .before .before .before .before .before .question in
+    let raise = c .before .before .before .before .before .before .before .before .before .before .before .before .before .before .before .before .before .before .before .before .before .before .before .raise in
+    let start = c .before .before .before .before .before .before .before .before .before .before .before .before .before .before .before .before .before .before .before .before .before .before .before .before .before .before .before .before .before .before .before .before .before .before .before .before .before in
     let e = sym (back (start .args .p) (start .fits .p)) in (
       question .ensures .0,
-      visit-cut (wiring (start .args .s) (now (start .args .net))) (start .args .k) (start .args .phi) (now (start .args .tops)) (now (start .args .labels)) (start .args .g)
+      visit-cut (wiring (start .args .s) (now (start .args .net))) (start .args .a .k) (start .args .a .phi) (topsIn (start .args .s) (now (start .args .net)) (start .args .a .cap)) (now (start .args .labels)) (start .args .g)
           (toZ w64 (ofZ w64 (start .args .p)))
           (ready-fine (start .pre .1 .0 .0)) (start .pre .1 .0 .1) (pinmax-at e (start .pre .1 .1 .0))
           (subst (λ (x : ℤ). labelIn (now (start .args .labels)) (start .args .s .inputs + start .args .g) ≤ℤ x) e (start .pre .1 .1 .1))
           (subst Small e (start .pre .1 .1 .2)) _ (raise .result) (raise .ensures) (question .result) (decides-wiring (question .ensures .1))
-          (omega arith) (let t = c .before .before .before .before .before .before .before .before .before .before .before .before .before .before .before .before .before .before .before .before .before .before .before .before .before .below .ensures .0 (c .before .before .before .before .before .before .before .before .before .before .before .before .before .before .before .before .before .before .before .before .before .before .before .before .if1 .taken) in omega (arith, ints, t)),
+          (omega arith) (let t = c .before .before .before .before .before .before .before .before .before .before .before .before .before .before .before .before .before .before .before .before .before .before .before .before .before .before .below .ensures .0 (c .before .before .before .before .before .before .before .before .before .before .before .before .before .before .before .before .before .before .before .before .before .before .before .before .before .if1 .taken) in omega (arith, ints, t, ap (λ (x : ℕ). start .args .a .phi * x) (c .before .before .before .before .before .before .before .before .before .before .before .before .before .before .before .before .before .before .before .before .before .before .before .before .before .before .before .before .top-of .ensures))),
     )
 
 below-requires-2 : tie.Need-below-requires-2
 below-requires-2 c κs =
-    let start = c .before .before .before .before .before .before .before .before .before .before .before .before .before .before .before .before .before .before .before .before .before .before .before .before .before .before .before .before .before .before .before .before .before .before .before .before in
-    ((subst Small (sym (back (start .args .p) (start .fits .p))) (start .pre .1 .1 .2)), (let q = start .pre .1 .0 .2 .top (start .args .g) (start .pre .1 .0 .1) in omega arith))
+    let start = c .before .before .before .before .before .before .before .before .before .before .before .before .before .before .before .before .before .before .before .before .before .before .before .before .before .before .before .before .before .before .before .before .before .before .before .before .before in
+    ((subst Small (sym (back (start .args .p) (start .fits .p))) (start .pre .1 .1 .2)), (let q = start .pre .1 .0 .2 .top (start .args .g) (start .pre .1 .0 .1) in omega (arith, q, ap (λ (x : ℕ). start .args .a .phi * x) (c .before .before .before .before .before .before .before .before .before .before .before .before .before .before .before .before .before .before .before .before .before .before .before .before .before .before .before .before .top-of .ensures))))
 
 lift-requires : tie.Need-lift-requires
 lift-requires c κs =
-    let start = c .before .before .before .before .before .before .before .before .before .before .before .before .before .before .before .before .before .before .before .before .before .before .before .before .before .before .before .before .before .before .before .before .before .before .before .before .before .before .before in (
+    let start = c .before .before .before .before .before .before .before .before .before .before .before .before .before .before .before .before .before .before .before .before .before .before .before .before .before .before .before .before .before .before .before .before .before .before .before .before .before .before .before .before in (
       let e = (raised-changed (let e′ = start .pre .1 .0 .0 .size in let h′ = start .pre .1 .0 .1 in omega arith)
-          (c .before .before .before .before .before .before .before .before .before .before .before .before .before .before .before .before .before .before .before .before .before .before .before .before .before .raise .ensures)) .size in let e′ = start .pre .1 .0 .0 .size in let h′ = start .pre .1 .0 .1 in omega arith,
+          (c .before .before .before .before .before .before .before .before .before .before .before .before .before .before .before .before .before .before .before .before .before .before .before .before .before .before .raise .ensures)) .size in let e′ = start .pre .1 .0 .0 .size in let h′ = start .pre .1 .0 .1 in omega arith,
       (subst Small (sym (back (start .args .p) (start .fits .p))) (start .pre .1 .1 .2)),
     )
 
@@ -130,19 +127,19 @@ same-length-14 c = search needs
 
 returns-2 : tie.Need-returns-2
 returns-2 c =
-    let question = c .before .before .before .before .before .before .before .before .before .before .before .before .before .before .before .before .before .before .question in
-    let raise = c .before .before .before .before .before .before .before .before .before .before .before .before .before .before .before .before .before .before .before .before .before .before .before .before .before .before .before .raise in
-    let start = c .before .before .before .before .before .before .before .before .before .before .before .before .before .before .before .before .before .before .before .before .before .before .before .before .before .before .before .before .before .before .before .before .before .before .before .before .before .before .before .before .before in
+    let question = c .before .before .before .before .before .before .before .before .before .before .before .before .before .before .before .before .before .before .before .question in
+    let raise = c .before .before .before .before .before .before .before .before .before .before .before .before .before .before .before .before .before .before .before .before .before .before .before .before .before .before .before .before .raise in
+    let start = c .before .before .before .before .before .before .before .before .before .before .before .before .before .before .before .before .before .before .before .before .before .before .before .before .before .before .before .before .before .before .before .before .before .before .before .before .before .before .before .before .before .before in
     let e = sym (back (start .args .p) (start .fits .p)) in
     let s = subst Small e (start .pre .1 .1 .2) in
-    let u = c .before .before .before .before .below2 .ensures .0 (c .before .before .before .if3 .taken) in (
+    let u = subst (λ (x : ℕ). (toZ w64 (ofZ w64 (start .args .p))) <ℤ pos (start .args .a .phi * x)) (c .before .before .before .before .before .before .before .before .before .before .before .before .before .before .before .before .before .before .before .before .before .before .before .before .before .before .before .before .before .before .before .before .before .top-of .ensures) (c .before .before .before .before .below2 .ensures .0 (c .before .before .before .if3 .taken)) in (
       question .ensures .0,
-      visit-lift (wiring (start .args .s) (now (start .args .net))) (start .args .k) (start .args .phi) (now (start .args .tops)) (now (start .args .labels)) (start .args .g)
+      visit-lift (wiring (start .args .s) (now (start .args .net))) (start .args .a .k) (start .args .a .phi) (topsIn (start .args .s) (now (start .args .net)) (start .args .a .cap)) (now (start .args .labels)) (start .args .g)
           (toZ w64 (ofZ w64 (start .args .p)))
           (ready-fine (start .pre .1 .0 .0)) (start .pre .1 .0 .1) (pinmax-at e (start .pre .1 .1 .0))
           (subst (λ (x : ℤ). labelIn (now (start .args .labels)) (start .args .s .inputs + start .args .g) ≤ℤ x) e (start .pre .1 .1 .1))
           s _ (raise .result) (raise .ensures) (question .result) (decides-wiring (question .ensures .1)) (omega arith) u
-          (small-next (toZ w64 (ofZ w64 (start .args .p))) _ s (let q = start .pre .1 .0 .2 .top (start .args .g) (start .pre .1 .0 .1) in omega arith) u) _ (c .before .lift .ensures),
+          (small-next (toZ w64 (ofZ w64 (start .args .p))) _ s (let q = start .pre .1 .0 .2 .top (start .args .g) (start .pre .1 .0 .1) in omega (arith, q, ap (λ (x : ℕ). start .args .a .phi * x) (c .before .before .before .before .before .before .before .before .before .before .before .before .before .before .before .before .before .before .before .before .before .before .before .before .before .before .before .before .before .before .before .before .before .top-of .ensures))) u) _ (c .before .lift .ensures),
     )
 
 same-length-15 : tie.Need-same-length-15
@@ -168,18 +165,17 @@ same-length-21 c = search needs
 
 returns-3 : tie.Need-returns-3
 returns-3 c =
-    let question = c .before .before .before .before .before .before .before .before .before .before .before .before .before .before .before .question in
-    let raise = c .before .before .before .before .before .before .before .before .before .before .before .before .before .before .before .before .before .before .before .before .before .before .before .before .raise in
-    let start = c .before .before .before .before .before .before .before .before .before .before .before .before .before .before .before .before .before .before .before .before .before .before .before .before .before .before .before .before .before .before .before .before .before .before .before .before .before .before in
+    let question = c .before .before .before .before .before .before .before .before .before .before .before .before .before .before .before .before .question in
+    let raise = c .before .before .before .before .before .before .before .before .before .before .before .before .before .before .before .before .before .before .before .before .before .before .before .before .before .raise in
+    let start = c .before .before .before .before .before .before .before .before .before .before .before .before .before .before .before .before .before .before .before .before .before .before .before .before .before .before .before .before .before .before .before .before .before .before .before .before .before .before .before in
     let e = sym (back (start .args .p) (start .fits .p)) in (
       question .ensures .0,
-      visit-over (wiring (start .args .s) (now (start .args .net))) (start .args .k) (start .args .phi) (now (start .args .tops)) (now (start .args .labels)) (start .args .g)
+      visit-over (wiring (start .args .s) (now (start .args .net))) (start .args .a .k) (start .args .a .phi) (topsIn (start .args .s) (now (start .args .net)) (start .args .a .cap)) (now (start .args .labels)) (start .args .g)
           (toZ w64 (ofZ w64 (start .args .p)))
           (ready-fine (start .pre .1 .0 .0)) (start .pre .1 .0 .1) (pinmax-at e (start .pre .1 .1 .0))
           (subst (λ (x : ℤ). labelIn (now (start .args .labels)) (start .args .s .inputs + start .args .g) ≤ℤ x) e (start .pre .1 .1 .1))
           (subst Small e (start .pre .1 .1 .2)) _ (raise .result) (raise .ensures) (question .result) (decides-wiring (question .ensures .1))
-          (omega arith) (let t = c .before .before .before .before .before .before .before .before .before .before .before .before .before .before .before .before .before .before .before .before .before .before .before .before .before .before .before .below .ensures .0 (c .before .before .before .before .before .before .before .before .before .before .before .before .before .before .before .before .before .before .before .before .before .before .before .before .before .before .if1 .taken) in omega
-          (arith, ints, t)) (c .before .below2 .ensures .1 (c .if3 .left)),
+          (omega arith) (let t = c .before .before .before .before .before .before .before .before .before .before .before .before .before .before .before .before .before .before .before .before .before .before .before .before .before .before .before .before .below .ensures .0 (c .before .before .before .before .before .before .before .before .before .before .before .before .before .before .before .before .before .before .before .before .before .before .before .before .before .before .before .if1 .taken) in omega (arith, ints, t, ap (λ (x : ℕ). start .args .a .phi * x) (c .before .before .before .before .before .before .before .before .before .before .before .before .before .before .before .before .before .before .before .before .before .before .before .before .before .before .before .before .before .before .top-of .ensures))) (subst (λ (x : ℕ). pos (start .args .a .phi * x) ≤ℤ (toZ w64 (ofZ w64 (start .args .p)))) (c .before .before .before .before .before .before .before .before .before .before .before .before .before .before .before .before .before .before .before .before .before .before .before .before .before .before .before .before .before .before .top-of .ensures) (c .before .below2 .ensures .1 (c .if3 .left))),
     )
 
 returns-4 : tie.Need-returns-4
@@ -187,11 +183,11 @@ returns-4 c =
     let start = c .before .before .before .before .before .before .before .before .before .before .before .before in
     let e = sym (back (start .args .p) (start .fits .p)) in (
       start .pre .0,
-      visit-past (wiring (start .args .s) (now (start .args .net))) (start .args .k) (start .args .phi) (now (start .args .tops)) (now (start .args .labels)) (start .args .g)
+      visit-past (wiring (start .args .s) (now (start .args .net))) (start .args .a .k) (start .args .a .phi) (topsIn (start .args .s) (now (start .args .net)) (start .args .a .cap)) (now (start .args .labels)) (start .args .g)
           (toZ w64 (ofZ w64 (start .args .p)))
           (ready-fine (start .pre .1 .0 .0)) (start .pre .1 .0 .1) (pinmax-at e (start .pre .1 .1 .0))
           (subst (λ (x : ℤ). labelIn (now (start .args .labels)) (start .args .s .inputs + start .args .g) ≤ℤ x) e (start .pre .1 .1 .1))
-          (let t = c .before .below .ensures .1 (c .if1 .left) in omega (arith, ints, t)),
+          (let t = c .before .below .ensures .1 (c .if1 .left) in omega (arith, ints, t, ap (λ (x : ℕ). start .args .a .phi * x) (c .before .before .before .top-of .ensures))),
     )
 
 pub try-label-spec : {M : Type 1} → statement M
@@ -199,9 +195,8 @@ try-label-spec =
     tie.close
     (tie.spec
     add-v
+    top-of-requires
     mul-top
-    shared-slice-read-top
-    mul-top-2
     add-below
     below-requires
     raise-requires

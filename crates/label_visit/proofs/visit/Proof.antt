@@ -9,7 +9,7 @@ use Rattle.integers.specs.Parts.{ints, +-parts}
 use Rattle.signed.specs.Range.{labelIn}
 use Rattle.label_visit.specs.ReadyLaws.{pinmax-at, pins-fit, max-small, max-back, ready-fine}
 use Rattle.label_visit.specs.LabelVisitLaws.{visit-higher}
-use Rattle.label_visit.specs.LabelVisits.{wiring}
+use Rattle.label_visit.specs.LabelVisits.{wiring, topsIn}
 use borrow.Author.Needs.{needs}
 use Rattle.label_visit.proofs.visit.Statement.{statement}
 use Rattle.label_visit.proofs.visit.Tie as tie
@@ -19,12 +19,12 @@ add-v c = search needs
 
 highest-requires : tie.Need-highest-requires
 highest-requires c κs =
-    let start = c .before .before .before .before .before .before .before .before .before .before in
+    let start = c .before .before .before .before .before .before .before .before .before in
     pins-fit (start .pre .0 .resting .layout) (start .pre .1 .0) (start .args .g) (start .pre .1 .1)
 
 higher-requires : tie.Need-higher-requires
 higher-requires c κs =
-    let start = c .before .before .before .before .before .before .before .before .before .before .before .before in
+    let start = c .before .before .before .before .before .before .before .before .before .before .before in
     (let e = start .pre .1 .0 .size in let h = start .pre .1 .1 in omega arith, start .pre .1 .0 .small (start .args .s .inputs + start .args .g))
 
 same-length : tie.Need-same-length
@@ -33,10 +33,10 @@ same-length c = search needs
 returns : tie.Need-returns
 returns c =
     let highest = c .before .before .before .highest in
-    let start = c .before .before .before .before .before .before .before .before .before .before .before .before .before .before in
+    let start = c .before .before .before .before .before .before .before .before .before .before .before .before .before in
     let f = pins-fit (start .pre .0 .resting .layout) (start .pre .1 .0) (start .args .g) (start .pre .1 .1) in (
       start .pre .0,
-      visit-higher (wiring (start .args .s) (now (start .args .net))) (start .args .k) (start .args .phi) (now (start .args .tops)) (now (start .args .labels)) (start .args .g)
+      visit-higher (wiring (start .args .s) (now (start .args .net))) (start .args .a .k) (start .args .a .phi) (topsIn (start .args .s) (now (start .args .net)) (start .args .a .cap)) (now (start .args .labels)) (start .args .g)
           (toZ w64 (ofZ w64 (highest .result)))
           (ready-fine (start .pre .1 .0)) (pinmax-at (max-back f (highest .ensures)) (highest .ensures))
           (let t = c .before .higher .ensures .0 (c .if1 .taken) in omega (arith, ints, t, +-parts (toZ w64 (ofZ w64 (highest .result))) (pos 1))),
@@ -45,7 +45,7 @@ returns c =
 try-label-requires : tie.Need-try-label-requires
 try-label-requires c κs =
     let highest = c .before .before .before .before .before .before .before .before .before .before .highest in
-    let start = c .before .before .before .before .before .before .before .before .before .before .before .before .before .before .before .before .before .before .before .before .before in
+    let start = c .before .before .before .before .before .before .before .before .before .before .before .before .before .before .before .before .before .before .before .before in
     let f = pins-fit (start .pre .0 .resting .layout) (start .pre .1 .0) (start .args .g) (start .pre .1 .1) in
     let lo = c .before .before .before .before .before .before .before .before .higher .ensures .1 (c .before .before .before .before .before .before .before .if1 .left) in
     let m = pinmax-at (max-back f (highest .ensures)) (highest .ensures) in (

@@ -1,0 +1,22 @@
+-- Definitions: what the search for the least period alone asks and tells.
+use mathlib.Core.Path.{_≡_}
+use mathlib.Core.List.{List}
+use Prim.Native.Nat.{ℕ, _+_}
+use lib.IntN.{pos}
+use lib.ListN.{replicate}
+use Rattle.net_model.specs.Net.{Net}
+use Rattle.net_model.specs.Arrays.{pinsIn}
+use Rattle.net_model.specs.Checks.{Passed}
+use Rattle.cover_theory.specs.Covers.{LeastPeriod}
+use Rattle.cut_circuit.specs.declared.Extent.{Extent}
+use Rattle.label_visit.specs.LabelVisits.{Suits, wiring}
+use Rattle.job_plan.specs.Planned.{Engine, topsOf, outsOf, delaysOf}
+
+-- the engine's table and a net's slice, with labels of 0 at first
+pub record LeastAsked (s : Extent) (n : ℕ) (net : List ℕ) (k : ℕ) (t : List ℕ) : Type 0 where
+  pub tables : List ℕ
+  pub engine : Engine s n net tables k 0 t (replicate (s .inputs + s .gates) (pos 0))
+
+-- r is the least period of every net that suits
+pub record LeastTold (s : Extent) (n : ℕ) (net : List ℕ) (k r : ℕ) : Type 0 where
+  pub least : (N : Net) → Suits (wiring s net) k (topsOf s net) N → Passed N k → N .outputs ≡ pinsIn (outsOf s net) (delaysOf s n net) 0 n → LeastPeriod N k r
