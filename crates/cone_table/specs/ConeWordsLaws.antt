@@ -16,11 +16,11 @@ use Rattle.net_model.specs.Wired.{Wired}
 use Rattle.net_model.specs.Copies.{Copy, copy, Feeds, IsLeaves, Rising}
 use Rattle.net_model.specs.Tables.{bit, apply, feeding, same, atLeaf, valueIn, tableOf}
 use Rattle.cone_theory.specs.Basics.{member?}
-use Rattle.cone_values.specs.Words.{bit-half}
+use Rattle.cone_values.specs.Words.{bit-half, pack-word}
 use Rattle.cone_values.specs.Values.{same-true, same-refl, atLeaf-out}
 use Rattle.cone_values.specs.RunLaws.{map-map}
 use Rattle.cone_words.specs.LeafWords.{LeafWord, valuesAt}
-use Rattle.cone_words.specs.WholeWordLaws.{few-choices, pack-word}
+use Rattle.cone_words.specs.WholeWordLaws.{few-choices}
 use Rattle.sequences.specs.Tests.{First}
 use Rattle.cone_copies.specs.CopyLists.{copiesIn, sourceAt, SmallWires, Bounded, SourcesFirst}
 use Rattle.cone_copies.specs.CopyListLaws.{length-copiesIn, getD-copiesIn, in-copiesIn, found-in, missing, each-set, member}
