@@ -41,7 +41,7 @@ returns-2 c =
     let z = zero-of (c .before .before .before .before .before .before .before .check-sizes .ensures) (omega (arith, c .before .before .before .before .before .if1 .left)) in
     let e = c .before .before .before .before .before .before .check-loader .ensures in
     let t = told-short (now (a .loader)) (omega (arith, e, c .before .before .before .before .if2 .taken)) in (
-      map-short (a .rules) (a .k) (a .target) (now (a .area)) (now (a .scratch)) (now (a .loader)) (now (a .net)) (c .before .before .before .before .before .before .check-loader .result) _ z e (c .before .before .before .before .if2 .taken) (c .before .before .clear-first .ensures),
+      map-short (a .rules) (a .k) (a .target) (now (a .area)) (now (a .scratch)) (now (a .loader)) (now (a .net)) (c .before .before .before .before .before .before .check-loader .result) _ z e (omega (arith, c .before .before .before .before .if2 .taken)) (c .before .before .clear-first .ensures),
       omega (arith, e, t .1),
     )
 

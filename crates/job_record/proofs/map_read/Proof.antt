@@ -49,7 +49,7 @@ same-length-2 : tie.Need-same-length-2
 same-length-2 c = search needs
 
 returns : tie.Need-returns
-returns c = net-refused-as _ _ (c .before .before .before .before .before .before .before .before .before .before .before .before .before .before .settle .ensures .0) (c .before .if1 .taken) (c .narrow .ensures)
+returns c = net-refused-as _ _ (c .before .before .before .before .before .before .before .before .before .before .before .before .before .before .settle .ensures .0) (omega (arith, c .before .if1 .taken)) (c .narrow .ensures)
 
 slice-aggregate-write-cover : tie.Need-slice-aggregate-write-cover
 slice-aggregate-write-cover c = search needs
