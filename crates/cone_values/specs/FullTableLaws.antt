@@ -10,10 +10,10 @@ use lib.Pow.{pow-pos}
 use Rattle.sequences.specs.Member.{_∈_, Within}
 use Rattle.net_model.specs.Net.{Net, gate}
 use Rattle.net_model.specs.Copies.{Copy, copy, IsCone, IsLeaves}
-use Rattle.net_model.specs.Tables.{bit, index, apply, feeding, same, atLeaf, valueIn, pack, tableOf}
+use Rattle.net_model.specs.Tables.{bit, index, apply, feeding, same, atLeaf, valueIn, tableOf}
 use Rattle.net_model.specs.FullTables.{repeatedTable, fullOf}
 use Rattle.cone_theory.specs.CopyOrder.{Levels}
-use Rattle.cone_values.specs.Words.{bit-half, bit-pack, bit-mod, bit-index, index-small, pack-same, pack-small, pack-word, pack-bits}
+use Rattle.cone_values.specs.Words.{bit-half, bit-pack, bit-mod, bit-index, index-small, pack-same, pack-small, pack-low, pack-word, pack-bits}
 use Rattle.cone_values.specs.Values.{map-same, table-is, table-same}
 
 -- the lowest n bits are the same
@@ -25,6 +25,13 @@ agree-mod n i j h = sym (bit-mod n i j h)
 
 remainder-small : (n i : ℕ) → i % 2 ^ n < 2 ^ n
 remainder-small n i = mod-lt i (pow-pos n)
+
+-- then so are the remainders by 2 to the n
+same-remainder : (n x y : ℕ) → Agree n x y → x % 2 ^ n ≡ y % 2 ^ n
+same-remainder n x y g =
+    sym (pack-bits n (x % 2 ^ n) (remainder-small n x))
+    ∙ pack-same (bit (x % 2 ^ n)) (bit (y % 2 ^ n)) n (λ j h. bit-mod n x j h ∙ g j h ∙ sym (bit-mod n y j h))
+    ∙ pack-bits n (y % 2 ^ n) (remainder-small n y)
 
 few-bits : (n : ℕ) → n ≤ 6 → 2 ^ n ≤ 64
 few-bits n h = pow-le-pow-right {n = 2} (omega arith) h
@@ -54,11 +61,20 @@ pub repeated-small : (n t : ℕ) → repeatedTable n t < 2 ^ 64
 unfolding repeatedTable
 repeated-small n t = pack-small (λ x. bit t (x % 2 ^ n)) 64
 
--- the low 2^n bits of a repeated table are the table
-pub repeated-low : (n t : ℕ) → n ≤ 6 → t < 2 ^ (2 ^ n) → repeatedTable n t % 2 ^ (2 ^ n) ≡ t
-repeated-low n t few small =
-    pack-word (bit t) (2 ^ n) (repeatedTable n t) (λ i h. repeated-bit n t i (omega (arith, h, few-bits n few)) ∙ ap (bit t) (mod-eq-of-lt h))
-    ∙ pack-bits (2 ^ n) t small
+-- its low 2^n bits are those of the table
+pub repeated-low : (n t : ℕ) → n ≤ 6 → repeatedTable n t % 2 ^ (2 ^ n) ≡ t % 2 ^ (2 ^ n)
+repeated-low n t few =
+    pack-word (bit t) (2 ^ n) (repeatedTable n t) (λ i h. repeated-bit n t i (omega (arith, h, few-bits n few)) ∙ ap (bit t) (mod-eq-of-lt h)) ∙ pack-low (2 ^ n) t
+
+-- **whatever stands on the unused inputs**
+pub repeated-period : (n t x y : ℕ) → x < 64 → y < 64 → Agree n x y → bit (repeatedTable n t) x ≡ bit (repeatedTable n t) y
+repeated-period n t x y h k g = repeated-bit n t x h ∙ ap (bit t) (same-remainder n x y g) ∙ sym (repeated-bit n t y k)
+
+-- **a repeated table gives the table's value where the first inputs carry its pins' values**
+pub repeated-apply : (t : ℕ) (bs : List Bool) (x : ℕ) → x < 64 → ((j : ℕ) → j < length bs → bit x j ≡ getD bs j false) → bit (repeatedTable (length bs) t) x ≡ apply t bs
+repeated-apply t bs x h g =
+    repeated-bit (length bs) t x h
+    ∙ ap (bit t) (same-remainder (length bs) x (index bs) (λ j k. g j k ∙ sym (bit-index bs j k)) ∙ mod-eq-of-lt (index-small bs))
 
 -- ---- the full table of a LUT
 
@@ -97,29 +113,17 @@ value-at val [] j h = absurd (not-suc-le-zero h)
 value-at val (y ∷ L) zero h = refl
 value-at val (y ∷ L) (suc j) h = value-at val L j (le-of-suc-le-suc h)
 
--- the number of six inputs, and that of the leaves' values: the same where they agree on the leaves
-index-agree : (vs : List Bool) (x : ℕ) → ((j : ℕ) → j < length vs → bit x j ≡ getD vs j false) → x % 2 ^ length vs ≡ index vs
-index-agree vs x h =
-    sym (pack-bits (length vs) (x % 2 ^ length vs) (remainder-small (length vs) x))
-    ∙ pack-same (bit (x % 2 ^ length vs)) (bit (index vs)) (length vs) (λ j k. bit-mod (length vs) x j k ∙ h j k ∙ sym (bit-index vs j k))
-    ∙ pack-bits (length vs) (index vs) (index-small vs)
-
 module _ {N : Net} (O : Levels N) {v : ℕ} {C L : List Copy} (i : IsCone N v C) (l : IsLeaves N C L) (D : ℕ) (deep : (c : Copy) → c ∈ C → c .back ≤ D) where
   -- **Where the first inputs carry the leaves' values of a valuation that obeys the tables inside the cone, the full table gives the root's value, whatever stands on the other inputs.**
   pub full-is : (val : Copy → Bool) → ((x : Copy) → x ∈ C → val x ≡ apply ((gate N (x .node)) .table) (map val (feeding N x)))
       → (x : ℕ) → x < 64 → ((j : ℕ) → j < length L → bit x j ≡ val (getD L j (copy 0 0))) → bit (fullOf N v C L) x ≡ val (copy v 0)
   full-is val obeys x h carried =
-      ap (λ (w : ℕ). bit w x) (full-repeated N v C L)
-      ∙ repeated-bit (length L) (tableOf N v C L) x h
-      ∙ ap (bit (tableOf N v C L)) at
+      ap (λ (w : ℕ). bit w x) (full-repeated N v C L ∙ ap (λ (n : ℕ). repeatedTable n (tableOf N v C L)) (sym many))
+      ∙ repeated-apply (tableOf N v C L) (map val L) x h (λ j k. let q : j < length L = omega (arith, k, many) in carried j q ∙ sym (value-at val L j q))
       ∙ table-is O i l D deep val obeys
     where
       many : length (map val L) ≡ length L
       many = length-map L val
-
-      at : x % 2 ^ length L ≡ index (map val L)
-      at = ap (λ (n : ℕ). x % 2 ^ n) (sym many)
-          ∙ index-agree (map val L) x (λ j k. let q : j < length L = omega (arith, k, many) in carried j q ∙ sym (value-at val L j q))
 
   -- another list of the same members gives the same number
   pub full-same : (C′ : List Copy) → Within C C′ → fullOf N v C L ≡ fullOf N v C′ L

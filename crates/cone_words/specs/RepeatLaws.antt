@@ -1,16 +1,14 @@
 -- Laws of a short table repeated by words: a word of 2^j bits, twice, is one of 2^(j + 1).
-use mathlib.Core.Path.{_≡_, refl, sym, ap, ap₂, _∙_}
+use mathlib.Core.Path.{_≡_, sym, ap, _∙_}
 use mathlib.Core.Bool.{Bool}
 use Prim.Native.Nat.{ℕ, zero, suc, _+_, _-_, _*_, _%_, _^_, _≤_, _<_}
 use native.Mathlib.Nat.{mod-eq-of-lt, mul-add-mod-self-right, mul-assoc, mul-comm, mul-le-mul-right, suc-mul, pow-suc, zero-add, suc-add}
 use native.Mathlib.Omega.{arith}
 use lib.Pow.{pow-add, pow-mono}
 use Rattle.limits.specs.Limits.{mostPins}
-use Rattle.net_model.specs.Tables.{bit, asNumber, pack}
+use Rattle.net_model.specs.Tables.{bit, pack}
 use Rattle.net_model.specs.FullTables.{repeatedTable}
-use Rattle.cone_values.specs.Words.{pack-same, pack-small, pack-low, pack-word}
-use Rattle.cone_values.specs.FullTableLaws.{repeated-bit}
-use Rattle.cone_words.specs.WholeWordLaws.{few-choices}
+use Rattle.cone_values.specs.Words.{pack-same, pack-small, pack-low}
 
 -- the first 2^j bits of a table of 2^n bits that is repeated
 unfoldable pub repeatedTo : ℕ → ℕ → ℕ → ℕ
@@ -70,11 +68,6 @@ twice-small w j h k =
     let l : 2 ^ j ≤ 32 = pow-mono {i = j} {j = 5} (omega (arith, h)) in
     let d : 2 ^ (2 ^ j + 2 ^ j) ≤ 2 ^ 64 = pow-mono {i = 2 ^ j + 2 ^ j} {j = 64} (omega (arith, l)) in
     omega (arith, a, b, c, d, k)
-
--- its low 2^n bits are those of the table
-pub repeated-short : (n t : ℕ) → n ≤ mostPins → repeatedTable n t % 2 ^ (2 ^ n) ≡ t % 2 ^ (2 ^ n)
-repeated-short n t h =
-    pack-word (bit t) (2 ^ n) (repeatedTable n t) (λ i k. repeated-bit n t i (omega (arith, k, few-choices n h)) ∙ ap (bit t) (mod-eq-of-lt k)) ∙ pack-low (2 ^ n) t
 
 -- the sum of the word and the word shifted
 pub twice-word : (w j b : ℕ) → j < mostPins → w < 2 ^ (2 ^ j) → b ≡ 2 ^ j → w + w * 2 ^ b % 2 ^ 64 ≡ w + w * 2 ^ (2 ^ j)

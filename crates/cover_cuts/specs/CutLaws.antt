@@ -18,8 +18,7 @@ use Rattle.net_model.specs.ArrayLaws.{length-copiesFrom}
 use Rattle.net_model.specs.Tables.{tableOf}
 use Rattle.net_model.specs.FullTables.{repeatedTable, fullOf}
 use Rattle.cone_values.specs.Values.{table-small}
-use Rattle.cone_values.specs.FullTableLaws.{full-repeated, full-low}
-use Rattle.cone_words.specs.RepeatLaws.{repeated-short}
+use Rattle.cone_values.specs.FullTableLaws.{repeated-low, full-repeated, full-low}
 use Rattle.net_model.specs.Wired.{Wired}
 use Rattle.cone_theory.specs.Ranks.{Ranked}
 use Rattle.cover_theory.specs.Key.{Entry}
@@ -44,7 +43,7 @@ module _ (N : Net) (v : ℕ) (C L : List Copy) (n t : ℕ) (many : length L ≡ 
 
   short-right : ShortOf t n (fullOf N v C L) → t ≡ tableOf N v C L
   short-right s =
-      sym (s .short) ∙ sym (repeated-short n t few) ∙ ap (shortTable n) (s .whole)
+      sym (s .short) ∙ sym (repeated-low n t few) ∙ ap (shortTable n) (s .whole)
       ∙ ap (λ (m : ℕ). shortTable m (fullOf N v C L)) (sym many) ∙ full-low N v C L (omega (arith, many, few))
 
 -- ---- one LUT

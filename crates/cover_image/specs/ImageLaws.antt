@@ -1,14 +1,14 @@
 -- Laws of the image: what the program writes gate by gate is the image of the cover kept.
-use mathlib.Core.Path.{_≡_, refl, sym, ap, ap₂, subst, _∙_}
+use mathlib.Core.Path.{_≡_, refl, sym, ap, ap₂, _∙_}
 use mathlib.Core.Bool.{Bool, true, false, cond}
 use mathlib.Core.List.{List, [], _∷_, _++_, append-assoc, append-nil}
-use Prim.Native.Nat.{ℕ, zero, suc, _+_, _-_, _*_, _≤_, _<_}
+use Prim.Native.Nat.{ℕ, zero, suc, _+_, _*_, _≤_, _<_}
 use native.Mathlib.Numerals.{add-one}
 use native.Mathlib.Omega.{arith}
-use borrow.Author.Tests.{eqb-true, eqb-false, lt-ltb, le-ltb, ne-eqb}
-use lib.Dec.{eqb, ltb}
+use borrow.Author.Tests.{eqb-false, lt-ltb, le-ltb, ne-eqb}
+use lib.Dec.{eqb}
 use lib.ListN.{length, getD, length-append}
-use Rattle.net_model.specs.Arrays.{stride, copiesFrom}
+use Rattle.net_model.specs.Arrays.{stride}
 use Rattle.net_model.specs.ArrayLaws.{length-copiesFrom}
 use Rattle.net_model.specs.FullTables.{repeatedTable}
 use Rattle.cover_theory.specs.Key.{Entry}
@@ -16,10 +16,10 @@ use Rattle.cover_records.specs.CoverBytes.{toBytes}
 use Rattle.cover_records.specs.RoundTrip.{length-toBytes}
 use Rattle.cover_records.specs.Kept.{Kept, shortTable, entryAt, entriesFrom, entriesIn, Whole}
 use Rattle.cover_records.specs.Outcomes.{written}
-use Rattle.cover_records.specs.LoaderImage.{imageBytes, isLent, loaded}
+use Rattle.cover_records.specs.LoaderImage.{imageBytes, loaded}
 use Rattle.cover_writer.specs.Writing.{Wrote}
 use Rattle.cover_writer.specs.CoverBytesLaws.{entries-split}
-use Rattle.cover_image.specs.Images.{numberAt, numbersTo, Loadable, Keeps, Imaged}
+use Rattle.cover_image.specs.Images.{numberAt, numbersTo, Imaged}
 
 -- ---- one gate
 

@@ -1,8 +1,8 @@
 -- Laws of the loader area: none lent is map without one; the length of an image.
-use mathlib.Core.Path.{_≡_, refl, sym, ap, ap₂, _∙_}
-use mathlib.Core.Bool.{Bool, true, false, cond, _&&_}
-use mathlib.Core.List.{List, [], _∷_, _++_}
-use Prim.Native.Nat.{ℕ, zero, suc, _+_, _*_, _≤_, _<_}
+use mathlib.Core.Path.{_≡_, refl, ap, _∙_}
+use mathlib.Core.Bool.{Bool, false, cond, _&&_}
+use mathlib.Core.List.{List, [], _∷_}
+use Prim.Native.Nat.{ℕ, zero, suc, _*_}
 use native.Mathlib.Omega.{arith}
 use borrow.Author.Tests.{le-ltb}
 use lib.Dec.{ltb}
@@ -16,7 +16,7 @@ use Rattle.cover_records.specs.CoverBytes.{toBytes}
 use Rattle.cover_records.specs.RoundTrip.{length-toBytes}
 use Rattle.cover_records.specs.Outcomes.{Checked, passes, fails, checkNet, Mapped, covered, unreachable, mapped, mapSizes, mapChecked, mapSized, mapOutcome, written}
 use Rattle.cover_records.specs.LoaderImage.{imageBytes, isLent, loaded}
-use Rattle.cover_records.specs.LoaderOutcome.{LoaderOutcome, beside, tooShort, loaderWritten, loaderChecked, loaderFit, loaderSized, loaderOutcome}
+use Rattle.cover_records.specs.LoaderOutcome.{beside, loaderWritten, loaderChecked, loaderFit, loaderSized, loaderOutcome}
 
 -- ---- none lent
 

@@ -1,43 +1,39 @@
 -- Laws of the loader area: what the certificate says of it.
 use mathlib.Core.Path.{_≡_, refl, sym, subst, subst-refl, ap, ap₂, _∙_, pathJ}
 use mathlib.Core.Bool.{Bool, true, false, cond, _&&_}
-use mathlib.Core.List.{List, [], _∷_, map}
-use mathlib.Core.Logic.{_⊎_, inl, inr}
+use mathlib.Core.List.{List}
 use Prim.Native.Nat.{ℕ, zero, suc, _%_, _^_, _≤_, _<_, suc-le-suc, zero-le}
-use native.Mathlib.Nat.{mod-lt, mod-eq-of-lt}
+use native.Mathlib.Nat.{mod-eq-of-lt}
 use native.Mathlib.Omega.{arith}
 use borrow.Author.Tests.{lt-ltb, le-ltb}
-use lib.Dec.{ltb}
 use lib.IntN.{ℤ}
 use lib.ListN.{length, getD}
-use lib.Pow.{pow-pos}
 use Rattle.limits.specs.Limits.{loaderArea, mostK, scratchArea}
 use Rattle.limits.specs.Courses.{long}
-use Rattle.sequences.specs.Member.{_∈_, here, there}
+use Rattle.sequences.specs.Member.{_∈_}
 use Rattle.net_model.specs.Net.{Net}
 use Rattle.net_model.specs.Checks.{Passed}
 use Rattle.net_model.specs.Copies.{Copy, copy}
 use Rattle.net_model.specs.Runs.{Run}
-use Rattle.net_model.specs.Tables.{bit, apply, index, valueIn, tableOf}
-use Rattle.net_model.specs.FullTables.{repeatedTable, fullOf}
-use Rattle.cone_values.specs.Words.{bit-mod, bit-index, index-small, pack-same, pack-bits}
+use Rattle.net_model.specs.Tables.{bit, valueIn, tableOf}
+use Rattle.net_model.specs.FullTables.{repeatedTable}
 use Rattle.cone_values.specs.Values.{table-small}
-use Rattle.cone_values.specs.FullTableLaws.{Agree, repeated-bit, repeated-low, full-bit, full-repeated}
-use Rattle.cover_theory.specs.Covers.{Cover, Lut, lut, LeastPeriod}
-use Rattle.cover_theory.specs.Board.{Carries, Brought, none, next}
+use Rattle.cone_values.specs.FullTableLaws.{repeated-low, repeated-period, repeated-apply, full-bit, full-repeated}
+use Rattle.cover_theory.specs.Covers.{Cover, Lut}
+use Rattle.cover_theory.specs.Board.{Brought, none, next}
 use Rattle.cover_theory.specs.Joined.{key?}
-use Rattle.cover_theory.specs.Key.{Key, Entry, entries, asCover, asLut}
-use Rattle.cover_theory.specs.KeyOf.{entryOf, entries-in, roots-gate}
+use Rattle.cover_theory.specs.Key.{Key, Entry, entries, asCover}
+use Rattle.cover_theory.specs.KeyOf.{entries-in, roots-gate}
 use Rattle.cover_theory.specs.KeyUnique.{entries-unique}
-use Rattle.cover_theory.specs.Period.{leastPeriod, leastKey, leastPeriod-is, leastPeriod-unique}
+use Rattle.cover_theory.specs.Period.{leastKey, leastPeriod-is, leastPeriod-unique}
 use Rattle.cover_theory.specs.Written.{noEntry, lut-asCover}
 use Rattle.cover_records.specs.Accepted.{accepted-runs}
 use Rattle.cover_records.specs.CoverBytes.{coverBytes}
-use Rattle.cover_records.specs.LoaderImage.{imageBytes, isLent, loaded}
+use Rattle.cover_records.specs.LoaderImage.{imageBytes, loaded}
 use Rattle.cover_records.specs.LoaderLaws.{no-loader}
 use Rattle.cover_records.specs.LoaderOutcome.{LoaderOutcome, beside, tooShort, loaderWritten, loaderChecked, loaderFit, loaderSized, loaderOutcome}
 use Rattle.cover_records.specs.Marking.{TablesRight}
-use Rattle.cover_records.specs.Outcomes.{Answer, accepted, turnedBack, Checked, passes, fails, checkNet, cleared, written, Mapped, covered, unreachable, forTarget, mapped, mapSizes, MapOutcome, mapWritten, mapChecked, mapSized, mapOutcome}
+use Rattle.cover_records.specs.Outcomes.{accepted, turnedBack, Checked, passes, fails, checkNet, cleared, written, Mapped, covered, unreachable, forTarget, mapped, mapSizes, MapOutcome, mapWritten, mapChecked, mapSized, mapOutcome}
 use Rattle.demands.specs.TurnedBack.{IsNet, MapFails}
 use Rattle.demands.specs.Calls.{MapCall, mapDone, MapBad, MapNet, Asked}
 use Rattle.demands.specs.CallLaws.{turned-not, accepted-not, map-told, untouched, leaves, keyed}
@@ -45,25 +41,6 @@ use Rattle.demands.specs.MapEndsLaws.{map-sized, map-taken}
 use Rattle.demands.specs.OrderLaws.{one-net, net-range}
 use Rattle.demands.specs.Demand3.{map-fit}
 use Rattle.demands.specs.LoaderArea.{loaderDone, loadedNumber, SatisfiedWhole, LoaderArea}
-
--- ---- numbers
-
--- numbers that agree on their lowest n bits have one remainder
-same-remainder : (n x y : ℕ) → Agree n x y → x % 2 ^ n ≡ y % 2 ^ n
-same-remainder n x y g =
-    sym (pack-bits n (x % 2 ^ n) (mod-lt x (pow-pos n)))
-    ∙ pack-same (bit (x % 2 ^ n)) (bit (y % 2 ^ n)) n (λ j h. bit-mod n x j h ∙ g j h ∙ sym (bit-mod n y j h))
-    ∙ pack-bits n (y % 2 ^ n) (mod-lt y (pow-pos n))
-
--- **whatever stands on the unused inputs**
-repeated-period : (n t x y : ℕ) → x < 64 → y < 64 → Agree n x y → bit (repeatedTable n t) x ≡ bit (repeatedTable n t) y
-repeated-period n t x y h k g = repeated-bit n t x h ∙ ap (bit t) (same-remainder n x y g) ∙ sym (repeated-bit n t y k)
-
--- **a repeated table gives the table's value where the first inputs carry its pins' values**
-repeated-apply : (t : ℕ) (bs : List Bool) (x : ℕ) → x < 64 → ((j : ℕ) → j < length bs → bit x j ≡ getD bs j false) → bit (repeatedTable (length bs) t) x ≡ apply t bs
-repeated-apply t bs x h g =
-    repeated-bit (length bs) t x h
-    ∙ ap (bit t) (same-remainder (length bs) x (index bs) (λ j k. g j k ∙ sym (bit-index bs j k)) ∙ mod-eq-of-lt (index-small bs))
 
 -- ---- a key's LUTs
 
@@ -82,7 +59,7 @@ module _ {N : Net} {k φ : ℕ} (K : Key N k φ) where
       let g = roots-gate K (t .0) (t .1) in
       subst (λ (d : Entry). loadedNumber d % 2 ^ (2 ^ length (d .leaves)) ≡ d .table) (sym (t .2))
       (repeated-low (length (K .leaves (t .0))) (tableOf N (t .0) (K .cone (t .0)) (K .leaves (t .0)))
-      (omega (arith, few, ap length (K .isLeaves (t .0) g), K .cut (t .0) g .few)) (table-small N (t .0) (K .cone (t .0)) (K .leaves (t .0))))
+      (omega (arith, few, ap length (K .isLeaves (t .0) g), K .cut (t .0) g .few)) ∙ mod-eq-of-lt (table-small N (t .0) (K .cone (t .0)) (K .leaves (t .0))))
 
 -- ---- runs
 

@@ -1,7 +1,7 @@
 -- `cone_words::twice` meets its contract: the shifted word and the sum fit 64 bits.
 use borrow.Author.Needs.{needs}
 use native.Mathlib.Omega.{arith}
-use Rattle.cone_words.specs.WholeWordLaws.{few-choices, one-shifted}
+use Rattle.cone_words.specs.WholeWordLaws.{one-shifted}
 use Rattle.cone_words.specs.RepeatLaws.{twice-small, twice-word}
 use Rattle.cone_words.proofs.twice.Statement.{statement}
 use Rattle.cone_words.proofs.twice.Tie as tie

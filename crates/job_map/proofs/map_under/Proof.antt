@@ -3,7 +3,7 @@ use denote.Ref.{now}
 use mathlib.Core.Path.{sym, _∙_}
 use native.Mathlib.Omega.{arith}
 use lib.ListN.{length, drop, length-append}
-use lib.Seq.{length-take-le, length-front}
+use lib.Seq.{length-take-le}
 use Rattle.job_sizes.specs.SizeLaws.{fit, sizes-small, zero-of, told-short, told-fits}
 use Rattle.job_map.specs.MapSizing.{map-sizes, map-short, map-rest}
 use borrow.Author.Needs.{needs}
