@@ -1,4 +1,4 @@
--- Laws of LUTs' tables: the walk's cone gives the table of the cut, and one gate after the other is tabulated.
+-- Laws of LUTs' full tables: the walk's cone gives the table of the cut, and one gate after the other is tabulated.
 use mathlib.Core.Path.{_≡_, refl, sym, ap, ap₂, subst, _∙_}
 use mathlib.Core.Bool.{Bool, true, false, true≢false, false≢true}
 use mathlib.Core.List.{List}
@@ -16,7 +16,7 @@ use Rattle.net_model.specs.ArrayLaws.{length-copiesFrom, getD-copiesFrom}
 use Rattle.cone_theory.specs.CopyOrder.{levels}
 use Rattle.cone_theory.specs.Part.{cone-determined}
 use Rattle.cone_theory.specs.Reach.{reachOf, reach}
-use Rattle.cone_values.specs.Values.{table-same}
+use Rattle.cone_values.specs.FullTableLaws.{full-same}
 use Rattle.cone_copies.specs.CopyLists.{copiesIn}
 use Rattle.cone_copies.specs.CopyListLaws.{length-copiesIn}
 use Rattle.cone_walk.specs.WalkTold.{numberOf, Walk}
@@ -34,7 +34,7 @@ module _ {I G : ℕ} {ps so co ts ln lb : List ℕ} {n g : ℕ} {c : Cone} (w : 
         let i = w .cone e N d in
         let l = w .leaves e N d in
         t N d b i l (w .order e N d A)
-        ∙ table-same (levels A) i l (length (copiesIn ln lb n) * reachOf N) (λ x m. let a = reach R i l x m in omega arith) (J .cone) (cone-determined i (J .isCone) l (J .isLeaves));
+        ∙ full-same (levels A) i l (length (copiesIn ln lb n) * reachOf N) (λ x m. let a = reach R i l x m in omega arith) (J .cone) (cone-determined i (J .isCone) l (J .isLeaves));
   }
 
   -- no cut has these leaves

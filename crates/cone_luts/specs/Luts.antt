@@ -1,4 +1,4 @@
--- Definitions: the tables of LUTs kept in arrays, and what a program that computes them asks and tells. Gate g has its leaves from place stride·g on.
+-- Definitions: the full tables of LUTs kept in arrays, and what a program that computes them asks and tells. Gate g has its leaves from place stride·g on.
 use mathlib.Core.Path.{_≡_}
 use mathlib.Core.Bool.{true, false}
 use mathlib.Core.List.{List}
@@ -9,17 +9,17 @@ use Rattle.net_model.specs.Checks.{Loopless}
 use Rattle.net_model.specs.Copies.{Copy, IsCut, Rising}
 use Rattle.net_model.specs.Arrays.{stride, copiesFrom}
 use Rattle.net_model.specs.Wired.{Wired}
-use Rattle.net_model.specs.Tables.{tableOf}
+use Rattle.net_model.specs.FullTables.{fullOf}
 use Rattle.cone_theory.specs.Ranks.{Ranked}
 use Rattle.cone_copies.specs.CopyLists.{SmallWires}
 use Rattle.cone_table.specs.ConeWords.{Tabled}
 use Rattle.cone_luts.specs.declared.Tried.{Tried}
 
--- r is the table of the LUT of gate g with leaves L, for every net with this wiring and these tables where L is a cut.
+-- r is the full table of the LUT of gate g with leaves L, for every net with this wiring and these tables where L is a cut.
 pub record LutTable (I G : ℕ) (ps so co ts : List ℕ) (L : List Copy) (g r : ℕ) : Type 0 where
-  pub table : (N : Net) → Wired N I G ps so co → Tabled N I G ts → Ranked N → Loopless N → (k : ℕ) (J : IsCut N k (I + g) L) → r ≡ tableOf N (I + g) (J .cone) L
+  pub table : (N : Net) → Wired N I G ps so co → Tabled N I G ts → Ranked N → Loopless N → (k : ℕ) (J : IsCut N k (I + g) L) → r ≡ fullOf N (I + g) (J .cone) L
 
--- whether the leaves L are a cut of gate g, and then the LUT's table, for every net with this wiring and these tables
+-- whether the leaves L are a cut of gate g, and then the LUT's full table, for every net with this wiring and these tables
 pub record LutTried (I G : ℕ) (ps so co ts : List ℕ) (L : List Copy) (g : ℕ) (r : Tried) : Type 0 where
   pub cut : r .none ≡ false → (N : Net) → Wired N I G ps so co → (k : ℕ) → length L ≤ k → IsCut N k (I + g) L
   pub table : r .none ≡ false → LutTable I G ps so co ts L g (r .table)
@@ -44,7 +44,7 @@ pub record Tabulates (I G : ℕ) (ps so co ts marks sizes nodes backs : List ℕ
   pub few : (g : ℕ) → g < G → ¬ (getD marks g 0 ≡ 0) → getD sizes g 0 ≤ stride
   pub rising : (g : ℕ) → g < G → ¬ (getD marks g 0 ≡ 0) → Rising (copiesFrom nodes backs (stride * g) (getD sizes g 0))
 
--- r is the table of gate g, where it has a mark
+-- r is the full table of gate g, where it has a mark
 pub record GateTable (I G : ℕ) (ps so co ts marks sizes nodes backs : List ℕ) (g r : ℕ) : Type 0 where
   pub marked : ¬ (getD marks g 0 ≡ 0) → LutTable I G ps so co ts (copiesFrom nodes backs (stride * g) (getD sizes g 0)) g r
 

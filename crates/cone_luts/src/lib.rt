@@ -1,4 +1,4 @@
-// The LUT over given leaves: whether they are a cut of a gate, and the table over the cone between. The tables of a cover's LUTs.
+// The LUT over given leaves: whether they are a cut of a gate, and the full table over the cone between. The full tables of a cover's LUTs.
 // The first bytes of work are the walk's table of marks: all 0 before and after.
 use cone_descent::clear;
 use cone_descent::walk;
@@ -16,7 +16,7 @@ ghost use Rattle.net_model.specs.Arrays.{stride, copiesFrom};
 ghost use Rattle.cone_descent.specs.Descent.{Clear};
 ghost use Rattle.cone_luts.specs.Luts.{Row, LutTried, GateTable, Tabulates, Tabulated};
 
-// Whether leaves are no cut, and the table where they are one.
+// Whether leaves are no cut, and the full table where they are one.
 pub struct Tried {
     pub none: bool,
     pub table: u64,
@@ -119,7 +119,7 @@ pub fn try_row(
     )
 }
 
-// The table of the LUT of gate g, 0 where it has no mark.
+// The full table of the LUT of gate g, 0 where it has no mark.
 fn gate_table(
     inputs: usize,
     gates: usize,
@@ -159,7 +159,7 @@ fn gate_table(
     t.table
 }
 
-// The tables of all gates with a mark.
+// The full tables of all gates with a mark.
 pub fn tabulate(
     inputs: usize,
     gates: usize,

@@ -9,7 +9,8 @@ use Rattle.sequences.specs.Member.{_∈_}
 use Rattle.net_model.specs.Net.{Net, gate}
 use Rattle.net_model.specs.Wired.{Wired}
 use Rattle.net_model.specs.Copies.{Copy, copy, IsCone, IsLeaves, Rising}
-use Rattle.net_model.specs.Tables.{bit, atLeaf, valueIn, tableOf}
+use Rattle.net_model.specs.Tables.{bit, atLeaf, valueIn}
+use Rattle.net_model.specs.FullTables.{fullOf}
 use Rattle.cone_words.specs.LeafWords.{Composed}
 use Rattle.cone_copies.specs.CopyLists.{copiesIn, sourceAt, SmallWires, Room, Bounded, SourcesFirst}
 use Rattle.cone_descent.specs.Descent.{wideMost, Marked}
@@ -58,7 +59,7 @@ pub record WordsSettled (I G : ℕ) (ps sources counts tables : List ℕ) (L : L
   pub right : (N : Net) → Wired N I G ps sources counts → Tabled N I G tables → IsLeaves N (copiesIn nodes backs len) L → SourcesFirst N (copiesIn nodes backs len)
       → Right N L (copiesIn nodes backs p) words n
 
--- r is the LUT's table for every such net, where C is a cone of v
+-- r is the LUT's full table for every such net, where C is a cone of v
 abbrev pub TableOver : ℕ → ℕ → List ℕ → List ℕ → List ℕ → List ℕ → List Copy → List Copy → ℕ → ℕ → Type 0
 TableOver I G ps sources counts tables L C v r =
-    (N : Net) → Wired N I G ps sources counts → Tabled N I G tables → IsCone N v C → IsLeaves N C L → SourcesFirst N C → r ≡ tableOf N v C L
+    (N : Net) → Wired N I G ps sources counts → Tabled N I G tables → IsCone N v C → IsLeaves N C L → SourcesFirst N C → r ≡ fullOf N v C L

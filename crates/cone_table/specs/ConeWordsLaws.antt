@@ -4,7 +4,7 @@ use mathlib.Core.Bool.{Bool, true, false, cond}
 use mathlib.Core.List.{List, [], _∷_, map}
 use mathlib.Core.Logic.{_⊎_, inl, inr}
 use Prim.Native.Nat.{ℕ, zero, suc, _+_, _-_, _*_, _/_, _%_, _^_, _≤_, _<_}
-use native.Mathlib.Nat.{not-suc-le-zero, le-of-suc-le-suc, add-zero, add-suc, suc-add, pow-le-pow-right}
+use native.Mathlib.Nat.{not-suc-le-zero, le-of-suc-le-suc, add-zero, add-suc, suc-add}
 use native.Mathlib.Omega.{arith}
 use lib.ListN.{length, getD, set, take}
 use Rattle.limits.specs.Limits.{mostPins, mostTable}
@@ -14,13 +14,14 @@ use Rattle.net_model.specs.Arrays.{stride, pinsIn, copyAt}
 use Rattle.net_model.specs.ArrayLaws.{pinAt}
 use Rattle.net_model.specs.Wired.{Wired}
 use Rattle.net_model.specs.Copies.{Copy, copy, Feeds, IsLeaves, Rising}
-use Rattle.net_model.specs.Tables.{bit, apply, feeding, same, atLeaf, valueIn, tableOf}
+use Rattle.net_model.specs.Tables.{bit, apply, feeding, same, atLeaf, valueIn}
+use Rattle.net_model.specs.FullTables.{fullOf}
 use Rattle.cone_theory.specs.Basics.{member?}
 use Rattle.cone_values.specs.Words.{bit-half}
 use Rattle.cone_values.specs.Values.{same-true, same-refl, atLeaf-out}
+use Rattle.cone_values.specs.FullTableLaws.{full-word}
 use Rattle.cone_values.specs.RunLaws.{map-map}
 use Rattle.cone_words.specs.LeafWords.{LeafWord, valuesAt}
-use Rattle.cone_words.specs.WholeWordLaws.{few-choices, pack-word}
 use Rattle.sequences.specs.Tests.{First}
 use Rattle.cone_copies.specs.CopyLists.{copiesIn, sourceAt, SmallWires, Bounded, SourcesFirst}
 use Rattle.cone_copies.specs.CopyListLaws.{length-copiesIn, getD-copiesIn, in-copiesIn, found-in, missing, each-set, member}
@@ -136,13 +137,10 @@ fed-before {N} {L} nodes backs len p leaves first h y f = go (member? y (copiesI
         inl (in-equal (sym (q .2) ∙ getD-copiesIn nodes backs len (q .0) (copy 0 0) (omega (arith, q .1))) (in-copiesIn nodes backs p (q .0) (q .1)))
     go (no m) = inr (leaves .complete y (record { outside = m; member = copyAt nodes backs p; isMember = in-copiesIn nodes backs len p h; feeds = f }))
 
--- the lowest bits of the root's word are the table
-table-right : (N : Net) (v : ℕ) (L C : List Copy) (words : List ℕ) (p : ℕ) → p < length C → getD C p (copy 0 0) ≡ copy v 0 → length L ≤ mostPins → Right N L C words 64
-    → getD words p 0 % 2 ^ (2 ^ length L) ≡ tableOf N v C L
-unfolding tableOf
-table-right N v L C words p h e few right =
-    pack-word (λ i. valueIn N L i (length C) (copy v 0)) (2 ^ length L) (getD words p 0)
-    (λ i k. right p h i (omega (arith, k, few-choices (length L) few)) (length C) h ∙ ap (valueIn N L i (length C)) e)
+-- the root's word is the full table
+table-right : (N : Net) (v : ℕ) (L C : List Copy) (words : List ℕ) (p : ℕ) → p < length C → getD C p (copy 0 0) ≡ copy v 0 → getD words p 0 < 2 ^ 64 → Right N L C words 64
+    → getD words p 0 ≡ fullOf N v C L
+table-right N v L C words p h e small right = full-word N v C L (getD words p 0) small (λ x k. right p h x k (length C) h ∙ ap (valueIn N L x (length C)) e)
 
 -- ---- for every net with this wiring and these tables
 
@@ -187,20 +185,16 @@ module _ {I G : ℕ} {ps sources counts tables : List ℕ} {L : List Copy} where
       → WordsSettled I G ps sources counts tables L nodes backs len words n len
   settled-all {nodes} {backs} {words} {len} {n} e s = subst (WordsSettled I G ps sources counts tables L nodes backs len words n) e s
 
--- the last word is the table, where the root is last
-pub table-last : {I G : ℕ} {ps sources counts tables : List ℕ} (ln lb : List ℕ) (n : ℕ) (nodes backs : List ℕ) (len : ℕ) (words : List ℕ) (v : ℕ) → 1 ≤ len
-    → n ≤ mostPins → WordsSettled I G ps sources counts tables (copiesIn ln lb n) nodes backs len words 64 len → copyAt nodes backs (len - 1) ≡ copy v 0
-    → TableOver I G ps sources counts tables (copiesIn ln lb n) (copiesIn nodes backs len) v (getD words (len - 1) 0 % 2 ^ (2 ^ n))
-table-last ln lb n nodes backs len words v some few s e N w tabled cone leaves first =
-    ap (λ (x : ℕ). getD words (len - 1) 0 % 2 ^ (2 ^ x)) (sym many)
-    ∙ table-right N v (copiesIn ln lb n) (copiesIn nodes backs len) words (len - 1) (omega (arith, length-copiesIn nodes backs len)) (getD-copiesIn nodes backs len (len - 1) (copy 0 0) last ∙ e)
-    (omega (arith, many, few)) (s .right N w tabled leaves first)
+-- the last word is the full table, where the root is last
+pub table-last : {I G : ℕ} {ps sources counts tables : List ℕ} (L : List Copy) (nodes backs : List ℕ) (len : ℕ) (words : List ℕ) (v : ℕ) → 1 ≤ len
+    → WordsSettled I G ps sources counts tables L nodes backs len words 64 len → copyAt nodes backs (len - 1) ≡ copy v 0
+    → TableOver I G ps sources counts tables L (copiesIn nodes backs len) v (getD words (len - 1) 0)
+table-last L nodes backs len words v some s e N w tabled cone leaves first =
+    table-right N v L (copiesIn nodes backs len) words (len - 1) (omega (arith, length-copiesIn nodes backs len)) (getD-copiesIn nodes backs len (len - 1) (copy 0 0) last ∙ e)
+    (s .small (len - 1) last) (s .right N w tabled leaves first)
   where
     last : len - 1 < len
     last = omega arith
-
-    many : length (copiesIn ln lb n) ≡ n
-    many = length-copiesIn ln lb n
 
 -- ---- for callers
 

@@ -167,7 +167,7 @@ fn fill_words(
     words
 }
 
-// The table of the LUT over the cone with these leaves, in one pass over the cone, whose last copy is the root.
+// The full table of the LUT over the cone with these leaves, 64 bits, in one pass over the cone, whose last copy is the root.
 pub fn table(
     inputs: usize,
     gates: usize,
@@ -202,6 +202,5 @@ pub fn table(
         len,
         marks,
     );
-    let word = words[len - 1];
-    cone_words::low(word, n)
+    words[len - 1]
 }

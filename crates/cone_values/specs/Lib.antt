@@ -1,3 +1,4 @@
 pub mod Words
 pub mod Values
+pub mod FullTableLaws
 pub mod RunLaws

@@ -5,8 +5,10 @@ use mathlib.Core.List.{List, [], _∷_, map}
 use Prim.Native.Nat.{ℕ, zero, suc, _+_, _*_, _/_, _%_, _^_, _≤_, _<_}
 use native.Mathlib.Nat.{pow-suc, mul-comm, div-div-eq-div-mul, not-suc-le-zero, le-of-suc-le-suc}
 use native.Mathlib.Omega.{arith}
+use lib.Arith.{mod-mul}
 use lib.Dec.{eqb}
 use lib.ListN.{length, getD}
+use lib.Pow.{pow-pos}
 use Rattle.net_model.specs.Tables.{bit, asNumber, index, apply, pack}
 
 pub asNumber-small : (b : Bool) → asNumber b ≤ 1
@@ -90,3 +92,22 @@ pack-bits (suc n) w h =
     let b = pack-same (λ i. bit w (suc i)) (bit (w / 2)) n (λ i k. bit-half w i) in
     let c = low-bit w in
     omega arith
+
+-- the lowest n bits of a number pack to its remainder by 2 to the n
+pub pack-low : (n w : ℕ) → pack (bit w) n ≡ w % 2 ^ n
+unfolding pack
+pack-low zero w = omega arith
+pack-low (suc n) w =
+    let a = pack-low n (w / 2) in
+    let b = pack-same (λ i. bit w (suc i)) (bit (w / 2)) n (λ i k. bit-half w i) in
+    let c = low-bit w in
+    let d = ap (λ (m : ℕ). w % m) (pow-suc 2 n) ∙ mod-mul w {m = 2 ^ n} {c = 2} (pow-pos n) (omega arith) in
+    omega arith
+
+-- **what the lowest n bits pack to is the word's remainder by 2 to the n**
+pub pack-word : (f : ℕ → Bool) (n w : ℕ) → ((i : ℕ) → i < n → bit w i ≡ f i) → w % 2 ^ n ≡ pack f n
+pack-word f n w h = sym (pack-low n w) ∙ pack-same (bit w) f n h
+
+-- so a remainder by 2 to the n has the number's bits below n
+pub bit-mod : (n w i : ℕ) → i < n → bit (w % 2 ^ n) i ≡ bit w i
+bit-mod n w i h = ap (λ (x : ℕ). bit x i) (sym (pack-low n w)) ∙ bit-pack (bit w) n i h

@@ -7,15 +7,13 @@ use Prim.Native.Nat.{ℕ, zero, suc, _+_, _-_, _*_, _/_, _%_, _^_, _≤_, _<_}
 use native.Mathlib.Decide.{ℕ-discrete}
 use native.Mathlib.Nat.{zero-div, not-suc-le-zero, le-of-suc-le-suc, pow-suc, mul-assoc, mul-comm, pow-le-pow-right}
 use native.Mathlib.Omega.{arith}
-use lib.Arith.{mod-mul}
 use lib.Bits.{bitAnd, bitXor, and-mask, and-shr, and-mod, xor-shr, xor-mod}
 use lib.Dec.{eqb}
 use lib.ListN.{length, getD, set, take, length-set}
-use lib.Pow.{pow-pos}
 use lib.Seq.{getD-set-same, getD-set-other}
 use Rattle.limits.specs.Limits.{mostPins}
 use Rattle.net_model.specs.Tables.{bit, asNumber, index, pack}
-use Rattle.cone_values.specs.Words.{bit-half, bit-pack, low-bit, pack-same, pack-small}
+use Rattle.cone_values.specs.Words.{bit-mod, pack-low, pack-small}
 use Rattle.cone_words.specs.LeafWords.{valuesAt, Composed}
 use Rattle.cone_words.specs.LeafWordLaws.{ones-bits}
 use Rattle.cone_words.specs.WholeWords.{Muxed, Repeated, Spread, Folded, Halved, Halving, masks}
@@ -160,23 +158,9 @@ pub half-left : (m j : ℕ) → j < m → 2 ^ (m - j) ≡ 2 * 2 ^ (m - suc j)
 half-left m j h = let e : m - j ≡ suc (m - suc j) = omega (arith, h) in ap (λ (k : ℕ). 2 ^ k) e ∙ (pow-suc 2 (m - suc j) ∙ mul-comm (2 ^ (m - suc j)) 2)
 
 -- ---- the lowest bits of a word
-pack-low : (n w : ℕ) → pack (bit w) n ≡ w % 2 ^ n
-unfolding pack
-pack-low zero w = omega arith
-pack-low (suc n) w =
-    let a = pack-low n (w / 2) in
-    let b = pack-same (λ i. bit w (suc i)) (bit (w / 2)) n (λ i k. bit-half w i) in
-    let c = low-bit w in
-    let d = ap (λ (m : ℕ). w % m) (pow-suc 2 n) ∙ mod-mul w {m = 2 ^ n} {c = 2} (pow-pos n) (omega arith) in
-    omega arith
-
--- **what the lowest n bits pack to is the word's remainder by 2 to the n**
-pub pack-word : (f : ℕ → Bool) (n w : ℕ) → ((i : ℕ) → i < n → bit w i ≡ f i) → w % 2 ^ n ≡ pack f n
-pack-word f n w h = sym (pack-low n w) ∙ pack-same (bit w) f n h
-
 pub composed-low : {table : ℕ} {words : List ℕ} {m r : ℕ} (n : ℕ) → n ≤ 64 → Composed table words m 64 r → Composed table words m n (r % 2 ^ n)
 composed-low {table} {words} {m} {r} n h c = record {
-  bits = λ i k. ap (λ (w : ℕ). bit w i) (sym (pack-low n r)) ∙ (bit-pack (bit r) n i k ∙ c .bits i (omega (arith, h, k)));
+  bits = λ i k. bit-mod n r i k ∙ c .bits i (omega (arith, h, k));
   small = subst (λ (w : ℕ). w < 2 ^ n) (pack-low n r) (pack-small (bit r) n);
 }
 

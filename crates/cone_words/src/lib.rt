@@ -5,6 +5,7 @@ ghost use Prim.Native.Nat.{_+_, _*_, _%_, _^_, _≤_, _<_};
 ghost use lib.ListN.{length, getD};
 ghost use Rattle.limits.specs.Limits.{mostPins};
 ghost use Rattle.net_model.specs.Tables.{bit, asNumber};
+ghost use Rattle.net_model.specs.FullTables.{repeatedTable};
 ghost use Rattle.cone_words.specs.LeafWords.{LeafWord, Composed};
 ghost use Rattle.cone_words.specs.WholeWords.{Muxed, Repeated, Spread, Folded, Halved};
 
@@ -130,4 +131,27 @@ pub fn low(word: u64, n: usize) -> u64
     ensures { λ r. ⌜ r ≡ word % 2 ^ (2 ^ n) ⌝ }
 {
     word & MASKS[n]
+}
+
+// A word of 2^j bits, twice.
+fn twice(word: u64, j: usize) -> u64
+    requires { ⌜ (j < mostPins) × (word < 2 ^ (2 ^ j)) ⌝ }
+    ensures { λ r. ⌜ r ≡ word + word * 2 ^ (2 ^ j) ⌝ }
+{
+    let bits: usize = 1 << j;
+    word + (word << bits)
+}
+
+// The lowest 2^n bits of a table, repeated until 64 bits are full.
+pub fn whole(table: u64, n: usize) -> u64
+    requires { ⌜ n ≤ mostPins ⌝ }
+    ensures { λ r. ⌜ r ≡ repeatedTable n table ⌝ }
+{
+    let mut word = low(table, n);
+    let mut j = n;
+    while j < PINS {
+        word = twice(word, j);
+        j += 1;
+    }
+    word
 }

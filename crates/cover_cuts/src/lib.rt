@@ -1,13 +1,15 @@
 // Checks 14 and 15 of a candidate's LUTs: leaves that are cuts of their roots, tables that are right. The first bytes of work are the walk's table of marks: all 0 before and after.
 use cone_luts::try_row;
+use cone_words::low;
+use cone_words::whole;
 use limits::LUTS;
-ghost use Prim.Native.Nat.{_+_, _≤_, _<_};
-ghost use lib.ListN.{length};
-ghost use Rattle.limits.specs.Limits.{mostLuts, mostTable};
+ghost use Prim.Native.Nat.{ℕ, _+_, _≤_, _<_};
+ghost use lib.ListN.{length, getD};
+ghost use Rattle.limits.specs.Limits.{mostLuts, mostPins, mostTable};
 ghost use Rattle.cone_descent.specs.Descent.{Clear};
-ghost use Rattle.cover_cuts.specs.Cuts.{Cutting, CutsTried, Compared, CutsTold};
+ghost use Rattle.cover_cuts.specs.Cuts.{Cutting, CutsTried, WrongTold, Compared, CutsTold};
 
-// Whether some LUT's leaves are no cut. Where none are, right has the tables.
+// Whether some LUT's leaves are no cut. Where none are, right has the full tables.
 fn no_cuts(
     inputs: usize,
     gates: usize,
@@ -55,14 +57,28 @@ fn no_cuts(
     false
 }
 
-// Whether the first n tables differ.
-fn differ(a: &[u64], b: &[u64], n: usize) -> bool
-    requires { ⌜ (n ≤ length (now a)) × (n ≤ length (now b)) ⌝ }
-    ensures { λ r. ⌜ Compared (now (a .entry)) (now (b .entry)) n r ⌝ }
+// Whether a table is not the short form of the full table of a LUT with n leaves: it has a bit behind the first 2^n, or is another one when repeated.
+fn is_wrong(table: u64, n: usize, full: u64) -> bool
+    requires { ⌜ n ≤ mostPins ⌝ }
+    ensures { λ r. ⌜ WrongTold table n full r ⌝ }
+{
+    if low(table, n) != table {
+        return true;
+    }
+    if whole(table, n) != full {
+        return true;
+    }
+    false
+}
+
+// Whether some of the first n tables is not the short form of its full one.
+fn some_wrong(tables: &[u64], sizes: &[usize], fulls: &[u64], n: usize) -> bool
+    requires { ⌜ (n ≤ length (now tables)) × (n ≤ length (now sizes)) × (n ≤ length (now fulls)) × ((i : ℕ) → i < n → getD (now sizes) i 0 ≤ mostPins) ⌝ }
+    ensures { λ r. ⌜ Compared (now (tables .entry)) (now (sizes .entry)) (now (fulls .entry)) n r ⌝ }
 {
     let mut i = 0;
     while i < n {
-        if a[i] != b[i] {
+        if is_wrong(tables[i], sizes[i], fulls[i]) {
             return true;
         }
         i += 1;
@@ -109,7 +125,7 @@ pub fn check_luts(
         &mut right,
         work,
     );
-    let wrong = differ(luts, &right, n);
+    let wrong = some_wrong(luts, sizes, &right, n);
     if uncut {
         return 14;
     }

@@ -19,3 +19,6 @@ pub mod CheckLaws
 pub mod ShortCover
 pub mod CoverRefusals
 pub mod TapLaws
+pub mod LoaderImage
+pub mod LoaderOutcome
+pub mod LoaderLaws

@@ -16,7 +16,7 @@ use Rattle.net_model.specs.Tables.{asNumber}
 use Rattle.cone_values.specs.Words.{asNumber-small}
 use Rattle.cover_theory.specs.Key.{Entry}
 use Rattle.cover_records.specs.CoverBytes.{notZero, lutBytes, allLutBytes, coverBytes}
-use Rattle.cover_records.specs.Kept.{Kept, entryAt, entriesFrom, entriesIn}
+use Rattle.cover_records.specs.Kept.{Kept, shortTable, entryAt, entriesFrom, entriesIn}
 use Rattle.cover_writer.specs.Writing.{bytesAt, marked, lutOf, LutsAsked}
 
 pub entries-split : (a : Kept) (g n m : ℕ) → entriesFrom a g (n + m) ≡ entriesFrom a g n ++ entriesFrom a (g + n) m
@@ -73,7 +73,8 @@ unfolding bytesAt entriesFrom allLutBytes
 at-none a g e = rw e refl
 
 pub at-some : (a : Kept) (g : ℕ) → (getD (a .marks) g 0 ≡ 0 → ⊥)
-    → bytesAt a g ≡ lutBytes false (lutOf (a .inputs + g) (a .nodes) (a .backs) (stride * g) (getD (a .sizes) g 0) (lag (a .period) (getD (a .labels) (a .inputs + g) (pos 0))) (getD (a .tables) g 0))
+    → bytesAt a g ≡ lutBytes false (lutOf (a .inputs + g) (a .nodes) (a .backs) (stride * g) (getD (a .sizes) g 0) (lag (a .period) (getD (a .labels) (a .inputs + g) (pos 0)))
+    (shortTable (getD (a .sizes) g 0) (getD (a .tables) g 0)))
 unfolding bytesAt entriesFrom entryAt allLutBytes
 at-some a g n = rw (ne-eqb (getD (a .marks) g 0) 0 n) (append-nil (lutBytes false (entryAt a g)))
 

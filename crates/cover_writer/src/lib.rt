@@ -1,4 +1,5 @@
 // A cover kept in arrays, written as a cover record: each LUT into the part of the area that starts behind the last one.
+use cone_words::low;
 use limits::PINS;
 use net_fields::table_bytes;
 ghost use mathlib.Core.Path.{_≡_};
@@ -125,7 +126,7 @@ fn write_lag(lag: i64, area: &mut [u8]) -> usize
 }
 
 // The low n bytes of a table, low first.
-fn write_table(table: u64, n: usize, area: &mut [u8]) -> usize
+pub fn write_table(table: u64, n: usize, area: &mut [u8]) -> usize
     requires { ⌜ n ≤ length (now area) ⌝ }
     ensures { λ r. ⌜ Wrote (toBytes n table) (now (area .entry)) (now (area .exit)) r ⌝ }
 {
@@ -191,7 +192,7 @@ fn write_lut(
     b + write_values(lag, table, n, &mut area[b..])
 }
 
-// The LUT of gate g, where it has one.
+// The LUT of gate g, where it has one, with the short form of its table.
 fn write_gate(
     s: CoverHead,
     labels: &[i64],
@@ -211,7 +212,9 @@ fn write_gate(
     }
     let root = s.inputs + g;
     let lag = lag_of(labels[root], s.period);
-    write_lut(root, nodes, backs, PINS * g, sizes[g], lag, tables[g], area)
+    let n = sizes[g];
+    let table = low(tables[g], n);
+    write_lut(root, nodes, backs, PINS * g, n, lag, table, area)
 }
 
 // The LUTs, each behind the last.

@@ -35,10 +35,10 @@ use Rattle.demands.specs.Demand2.{accepts, accepted-if, right-runs, righ
 use Rattle.demands.specs.Right.{Wrote}
 use Rattle.demands.specs.Demand3.{wrote-key, limits, map-fit, met-written, least-written}
 
-turned-not : {m n : ℕ} → turnedBack m ≡ accepted n → ⊥
+pub turned-not : {m n : ℕ} → turnedBack m ≡ accepted n → ⊥
 turned-not e = let z : _≡_ {A = ℕ} 0 1 = cc in omega arith
 
-accepted-not : {m n : ℕ} → accepted m ≡ turnedBack n → ⊥
+pub accepted-not : {m n : ℕ} → accepted m ≡ turnedBack n → ⊥
 accepted-not e = let z : _≡_ {A = ℕ} 0 1 = cc in omega arith
 
 accepted-same : {m n : ℕ} → accepted m ≡ accepted n → m ≡ n

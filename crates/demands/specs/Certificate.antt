@@ -38,6 +38,8 @@ use Rattle.demands.specs.MarkEndsLaws.{mark-range}
 use Rattle.demands.specs.Right.{RightRecord, Wrote}
 use Rattle.demands.specs.ShortCourse.{ShortCourse}
 use Rattle.demands.specs.ShortCourseLaws.{short-course}
+use Rattle.demands.specs.LoaderArea.{LoaderArea}
+use Rattle.demands.specs.LoaderAreaLaws.{loader-area}
 use Rattle.demands.specs.CallLaws as law
 use Rattle.demands.specs.Roots.{accepted-told}
 use Rattle.demands.specs.SharedCount.{SharedCount}
@@ -108,6 +110,8 @@ pub record Certificate : Type 0 where
   pub lookup : LeafLookup seekOf
   -- ---- Document 02, E8: the short course, fields in `ShortCourse`. The contracts of `job_map: short_map` and `job_mark: short_mark` equate what they do with the outcomes of its rules.
   pub course : ShortCourse
+  -- ---- Document 02, E4: tables for the loader, fields in `LoaderArea`. The contract of `job_map: map_loader` equates what it does, for all arguments, with `loaderOutcome`.
+  pub loader : LoaderArea
 
 -- **All of it is proved.**
 pub certificate : Certificate
@@ -142,4 +146,5 @@ certificate = record {
   shared = shared-count;
   lookup = leaf-lookup;
   course = short-course;
+  loader = loader-area;
 }

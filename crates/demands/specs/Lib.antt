@@ -14,4 +14,6 @@ pub mod CallLaws
 pub mod Roots
 pub mod ShortCourse
 pub mod ShortCourseLaws
+pub mod LoaderArea
+pub mod LoaderAreaLaws
 pub mod Certificate

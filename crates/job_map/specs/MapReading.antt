@@ -20,7 +20,7 @@ use Rattle.net_reader.specs.ReadAnswer.{arraysOf, resultOf}
 use Rattle.net_reader.specs.WalkFacts.{read-gives, read-facts}
 use Rattle.net_reader.specs.ReadWires.{room-read}
 use Rattle.net_reader.specs.declared.NetRead.{NetRead}
-use Rattle.job_sizes.specs.Sizes.{Fit}
+use Rattle.job_sizes.specs.Sizes.{Fit, LoaderFits}
 use Rattle.job_sizes.specs.SizeLaws.{fit-within}
 use Rattle.job_settle.specs.Settling.{Settling}
 use Rattle.job_record.specs.Mapping.{Mapping, MapsTo, MapsNet}
@@ -31,16 +31,17 @@ module _ (R : Rules) (k target : ℕ) (bytes : List ℕ) (r : NetRead) (net ts :
   N = netIn (arraysOf (r .sizes) net ts)
 
   -- **refusals 4 to 8**
-  pub walk-refused : (area : List ℕ) {n : ℕ} → n < 256 → r .verdict ≡ Refused n → MapsTo R k target bytes area area (turnedBack n)
-  walk-refused area {n} h v = maps-refused R k target n bytes area h (e ∙ ap (λ (x : Verdict). outcome x N []) v)
+  pub walk-refused : (area loader : List ℕ) {n : ℕ} → n < 256 → r .verdict ≡ Refused n → MapsTo R k target bytes area area loader loader (turnedBack n)
+  walk-refused area loader {n} h v = maps-refused R k target n bytes area loader h (e ∙ ap (λ (x : Verdict). outcome x N []) v)
 
   module _ (offered : Offered R) (v : r .verdict ≡ Read) {k′ target′ : ℕ} (a : k′ ≡ k) (b : target′ ≡ target) where
-    pub walk-mapping : {area work : List ℕ} → length net ≡ mostPacked → length ts ≡ mostGates → Fit R k target (length area) (length work) → Mapping k′ target′ (r .sizes) net ts area work
-    walk-mapping {area} {work} ln lt fit =
+    pub walk-mapping : {area work loader : List ℕ} → length net ≡ mostPacked → length ts ≡ mostGates → Fit R k target (length area) (length work) → LoaderFits (length loader)
+        → Mapping k′ target′ (r .sizes) net ts area work loader
+    walk-mapping {area} {work} {loader} ln lt fit load =
         let f = fit-within (offered-within offered) fit in
         let gives = read-gives R k bytes r net ts e v in
         let facts = read-facts R k bytes r net ts e v offered in
-        subst₂ (λ (x y : ℕ). Mapping x y (r .sizes) net ts area work) (sym a) (sym b) (record {
+        subst₂ (λ (x y : ℕ). Mapping x y (r .sizes) net ts area work loader) (sym a) (sym b) (record {
           settling = record {
             facts = facts;
             room = room-read facts ln lt;
@@ -52,7 +53,8 @@ module _ (R : Rules) (k target : ℕ) (bytes : List ℕ) (r : NetRead) (net ts :
           };
           room = f .room;
           space = f .space;
+          load = load;
         })
 
-    pub walk-maps : {area area′ : List ℕ} {answer : Answer} → MapsNet k′ target′ N area area′ answer → MapsTo R k target bytes area area′ answer
-    walk-maps {area} {area′} {answer} m = subst₂ (λ (x y : ℕ). MapsNet x y N area area′ answer) a b m .maps R offered bytes (read-gives R k bytes r net ts e v)
+    pub walk-maps : {area area′ loader loader′ : List ℕ} {answer : Answer} → MapsNet k′ target′ N area area′ loader loader′ answer → MapsTo R k target bytes area area′ loader loader′ answer
+    walk-maps {area} {area′} {loader} {loader′} {answer} m = subst₂ (λ (x y : ℕ). MapsNet x y N area area′ loader loader′ answer) a b m .maps R offered bytes (read-gives R k bytes r net ts e v)

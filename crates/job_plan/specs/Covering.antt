@@ -1,5 +1,5 @@
 -- What was found, chosen and tabulated is the written cover.
-use mathlib.Core.Path.{_≡_, refl, sym, ap, subst, _∙_}
+use mathlib.Core.Path.{_≡_, refl, sym, ap, ap₂, subst, _∙_}
 use mathlib.Core.List.{List, map}
 use Prim.Native.Nat.{ℕ, _+_, _*_, _≤_, _<_}
 use native.Mathlib.Omega.{arith}
@@ -9,16 +9,19 @@ use Rattle.integers.specs.Lag.{lag}
 use Rattle.sequences.specs.Member.{_∈_}
 use Rattle.net_model.specs.Net.{Net, IsGate}
 use Rattle.net_model.specs.Arrays.{stride, pinsIn, copiesFrom}
+use Rattle.net_model.specs.ArrayLaws.{length-copiesFrom}
 use Rattle.net_model.specs.Wired.{Wired}
 use Rattle.net_model.specs.WiredLaws.{wired-gate, gate-wired}
 use Rattle.net_model.specs.Checks.{Passed}
 use Rattle.net_model.specs.Copies.{Copy, IsCut, Rising}
 use Rattle.net_model.specs.Tables.{tableOf}
+use Rattle.net_model.specs.FullTables.{repeatedTable, fullOf}
+use Rattle.cone_values.specs.FullTableLaws.{full-low, full-repeated}
 use Rattle.label_theory.specs.Labels.{Reachable}
 use Rattle.cover_theory.specs.Key.{Key, Root, Entry, entries}
 use Rattle.cover_theory.specs.KeyOf.{keyOf, entryOf, root-gate}
 use Rattle.cover_theory.specs.KeyUnique.{numbers-unique}
-use Rattle.cover_records.specs.Kept.{Kept, kept, entryAt, entriesFrom, entriesIn}
+use Rattle.cover_records.specs.Kept.{Kept, kept, shortTable, entryAt, entriesFrom, entriesIn, Whole}
 use Rattle.cone_table.specs.ConeWords.{Tabled}
 use Rattle.cut_circuit.specs.Bridge.{Holds}
 use Rattle.signed.specs.Range.{labelIn}
@@ -95,16 +98,32 @@ module _ {s : Extent} {net os oc : List ℕ} {n : ℕ} {tops : List ℕ} {k targ
       abbrev a : Kept
       a = kept (s .inputs) (s .gates) r ls marks sizes nodes backs luts
 
-      -- the leaves are a cut, and the table is its table
-      table-is : (g : ℕ) → g < s .gates → ¬ (getD marks g 0 ≡ 0) → getD luts g 0 ≡ tableOf N (s .inputs + g) (key .cone (s .inputs + g)) (key .leaves (s .inputs + g))
-      table-is g h m =
+      -- the leaves are a cut, and the number is its full table
+      full-is : (g : ℕ) → g < s .gates → ¬ (getD marks g 0 ≡ 0) → getD luts g 0 ≡ fullOf N (s .inputs + g) (key .cone (s .inputs + g)) (key .leaves (s .inputs + g))
+      full-is g h m =
           let v = wired-gate wired g h in
           let c = key .cut (s .inputs + g) v in
           let L = copiesFrom nodes backs (stride * g) (getD sizes g 0) in
           let e : L ≡ c .leaves = leaves-are g h m ∙ key .isLeaves (s .inputs + g) v in
-          subst (λ (X : List Copy). (i : IsCut N k (s .inputs + g) X) → getD luts g 0 ≡ tableOf N (s .inputs + g) (i .cone) X) e (tab .each g h .marked m .table N wired T (S .ranked) (S .loopless) k)
+          subst (λ (X : List Copy). (i : IsCut N k (s .inputs + g) X) → getD luts g 0 ≡ fullOf N (s .inputs + g) (i .cone) X) e (tab .each g h .marked m .table N wired T (S .ranked) (S .loopless) k)
           (record { cone = c .cone; isCone = c .isCone; isLeaves = c .isLeaves; few = c .few })
-          ∙ ap (λ (C : List Copy). tableOf N (s .inputs + g) C (c .leaves)) (sym (key .isCone (s .inputs + g) v)) ∙ ap (tableOf N (s .inputs + g) (key .cone (s .inputs + g))) (sym (key .isLeaves (s .inputs + g) v))
+          ∙ ap (λ (C : List Copy). fullOf N (s .inputs + g) C (c .leaves)) (sym (key .isCone (s .inputs + g) v)) ∙ ap (fullOf N (s .inputs + g) (key .cone (s .inputs + g))) (sym (key .isLeaves (s .inputs + g) v))
+
+      many : (g : ℕ) → g < s .gates → ¬ (getD marks g 0 ≡ 0) → getD sizes g 0 ≡ length (key .leaves (s .inputs + g))
+      many g h m = sym (length-copiesFrom nodes backs (stride * g) (getD sizes g 0)) ∙ ap length (leaves-are g h m)
+
+      -- its low bits are the table
+      table-is : (g : ℕ) → g < s .gates → ¬ (getD marks g 0 ≡ 0)
+          → shortTable (getD sizes g 0) (getD luts g 0) ≡ tableOf N (s .inputs + g) (key .cone (s .inputs + g)) (key .leaves (s .inputs + g))
+      table-is g h m =
+          ap₂ shortTable (many g h m) (full-is g h m)
+          ∙ full-low N (s .inputs + g) (key .cone (s .inputs + g)) (key .leaves (s .inputs + g)) (let e = many g h m in let f = few-leaves g h m in omega arith)
+
+      -- and the number is the table repeated
+      whole-at : (g : ℕ) → g < s .gates → ¬ (getD marks g 0 ≡ 0) → getD luts g 0 ≡ repeatedTable (getD sizes g 0) (shortTable (getD sizes g 0) (getD luts g 0))
+      whole-at g h m =
+          full-is g h m ∙ full-repeated N (s .inputs + g) (key .cone (s .inputs + g)) (key .leaves (s .inputs + g))
+          ∙ sym (ap₂ repeatedTable (many g h m) (table-is g h m))
 
       entry-is : (g : ℕ) → g < s .gates → ¬ (getD marks g 0 ≡ 0) → entryAt a g ≡ entryOf key (s .inputs + g)
       unfolding entryAt
@@ -146,6 +165,7 @@ module _ {s : Extent} {net os oc : List ℕ} {n : ℕ} {tops : List ℕ} {k targ
         labels = λ v g. label-is v;
         small = λ g h. f .fine .small (s .inputs + g);
         few = few-leaves;
+        whole = record { each = whole-at };
       }
 
 -- **the cover**

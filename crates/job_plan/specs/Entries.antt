@@ -13,7 +13,7 @@ use Rattle.integers.specs.Lag.{lag}
 use Rattle.net_model.specs.Arrays.{stride, copiesFrom}
 use Rattle.sequences.specs.Member.{_∈_, here, there, not-in-nil}
 use Rattle.cover_theory.specs.Key.{Entry, RisingNumbers}
-use Rattle.cover_records.specs.Kept.{Kept, entryAt, entriesFrom, entriesIn}
+use Rattle.cover_records.specs.Kept.{Kept, shortTable, entryAt, entriesFrom, entriesIn}
 
 module _ (a : Kept) where
   -- the marked gates among n, from gate g on
@@ -91,7 +91,7 @@ entries-labels a ls g (suc n) e = go (entries-labels a ls (suc g) n (λ h p q. e
       root = a .inputs + g;
       leaves = copiesFrom (a .nodes) (a .backs) (stride * g) (getD (a .sizes) g 0);
       lag = lag (a .period) (e g (omega arith) (omega arith) i);
-      table = getD (a .tables) g 0;
+      table = shortTable (getD (a .sizes) g 0) (getD (a .tables) g 0);
     }
 
     go : entriesFrom a (suc g) n ≡ entriesFrom (withLabels a ls) (suc g) n → (t : Bool)

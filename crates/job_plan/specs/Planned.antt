@@ -12,7 +12,7 @@ use Rattle.limits.specs.Limits.{leastK, mostK, mostPeriod, mostTable, mostHeld}
 use Rattle.label_theory.specs.Labels.{Reachable}
 use Rattle.cover_theory.specs.Covers.{LeastPeriod}
 use Rattle.cover_theory.specs.Key.{Key, entries}
-use Rattle.cover_records.specs.Kept.{Kept, kept, entriesIn}
+use Rattle.cover_records.specs.Kept.{Kept, kept, entriesIn, Whole}
 use Rattle.signed.specs.Range.{Small}
 use Rattle.net_reader.specs.ReadAnswer.{arraysOf}
 use Rattle.net_reader.specs.WalkFacts.{WalkFacts}
@@ -38,6 +38,7 @@ pub record Covered (N : Net) (k target : ℕ) (a : Kept) : Type 0 where
   pub labels : (v : ℕ) → IsGate N v → key .label v ≡ getD (a .labels) v (pos 0)
   pub small : (g : ℕ) → g < a .gates → Small (getD (a .labels) (a .inputs + g) (pos 0))
   pub few : (g : ℕ) → g < a .gates → ¬ (getD (a .marks) g 0 ≡ 0) → getD (a .sizes) g 0 ≤ stride
+  pub whole : Whole a
 
 -- A period of 0 says that the target is not reachable; else the cover is there.
 pub record Planned (N : Net) (k target : ℕ) (a : Kept) : Type 0 where

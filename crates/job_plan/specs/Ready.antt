@@ -61,6 +61,7 @@ covered-with {N} {a = a} {ls} same c i g = record {
   labels = λ v q. c .labels v q ∙ same v (let h = q .high in omega arith);
   small = λ x h. subst Small (same (a .inputs + x) (omega arith)) (c .small x h);
   few = c .few;
+  whole = record { each = c .whole .each };
 }
   where
     entries-are : entriesIn a ≡ entriesIn (withLabels a ls)

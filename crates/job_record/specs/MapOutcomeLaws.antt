@@ -19,6 +19,8 @@ use Rattle.cover_theory.specs.Period.{leastPeriod, leastKey, leastPeriod-is, le
 use Rattle.cover_records.specs.CoverBytes.{coverBytes}
 use Rattle.cover_records.specs.Kept.{Kept, entriesIn}
 use Rattle.cover_records.specs.Outcomes.{Answer, accepted, turnedBack, MapOutcome, Checked, passes, fails, checkNet, Mapped, covered, unreachable, forTarget, mapped, mapWritten, mapChecked, cleared, written}
+use Rattle.cover_records.specs.LoaderImage.{loaded}
+use Rattle.cover_records.specs.LoaderOutcome.{loaderWritten, loaderChecked}
 use Rattle.cover_records.specs.CheckLaws.{check-refused, check-loop, check-unreached, check-unled, check-passes}
 use Rattle.job_plan.specs.Planned.{Covered}
 use Rattle.job_plan.specs.Mapped.{mapped-none, mapped-some}
@@ -40,12 +42,13 @@ offered-bytes is-long φ es = refl
 offered-bytes is-short φ es = refl
 
 -- a check failed
-pub maps-fails : (R : Rules) (k target n : ℕ) (net area : List ℕ) → n < 256 → checkNet R k net ≡ fails n → MapsTo R k target net area area (turnedBack n)
-unfolding mapChecked
-maps-fails R k target n net area h e = record { small = h; outcome = λ s. ap (λ (c : Checked k). mapChecked R k target c area s) e }
+pub maps-fails : (R : Rules) (k target n : ℕ) (net area loader : List ℕ) → n < 256 → checkNet R k net ≡ fails n → MapsTo R k target net area area loader loader (turnedBack n)
+unfolding mapChecked loaderChecked
+maps-fails R k target n net area loader h e =
+    record { small = h; outcome = λ s. ap (λ (c : Checked k). mapChecked R k target c area s) e; image = ap (λ (c : Checked k). loaderChecked k target c loader) e }
 
-pub maps-refused : (R : Rules) (k target n : ℕ) (net area : List ℕ) → n < 256 → netReader R k net ≡ refused n → MapsTo R k target net area area (turnedBack n)
-maps-refused R k target n net area h e = maps-fails R k target n net area h (check-refused R k net n e)
+pub maps-refused : (R : Rules) (k target n : ℕ) (net area loader : List ℕ) → n < 256 → netReader R k net ≡ refused n → MapsTo R k target net area area loader loader (turnedBack n)
+maps-refused R k target n net area loader h e = maps-fails R k target n net area loader h (check-refused R k net n e)
 
 -- ---- a net that passes
 
@@ -63,6 +66,23 @@ module _ (R : Rules) {N : Net} {k : ℕ} (P : Passed N k) where
   unfolding mapWritten
   written-none target h n area s = ap (λ (m : Mapped N k). mapWritten R m area s) (mapped-none P target h n)
 
+module _ {N : Net} {k : ℕ} (P : Passed N k) (target : ℕ) (loader : List ℕ) where
+  -- **the definition's image is the one of the arrays**
+  loader-cover : {a : Kept} → Covered N k target a → loaderWritten (mapped N k target P) loader ≡ loaded (entriesIn a) loader
+  unfolding loaderWritten
+  loader-cover {a} c =
+      let f = mapped-some P target c in
+      ap (λ (m : Mapped N k). loaderWritten m loader) (f .is) ∙ ap (λ (es : List Entry). loaded es loader) (entries-unique P (f .key) (c .key) ∙ c .same)
+
+  loader-kept : 1 ≤ target → ¬ Reachable N k target → loaderWritten (mapped N k target P) loader ≡ loader
+  unfolding loaderWritten
+  loader-kept h n = ap (λ (m : Mapped N k). loaderWritten m loader) (mapped-none P target h n)
+
+-- the loader area for a net that passes
+loader-as : (R : Rules) (k target : ℕ) (net loader : List ℕ) (N : Net) (P : Passed N k) → checkNet R k net ≡ passes N P → loaderChecked k target (checkNet R k net) loader ≡ loaderWritten (mapped N k target P) loader
+unfolding loaderChecked
+loader-as R k target net loader N P e = ap (λ (c : Checked k). loaderChecked k target c loader) e
+
 -- the outcome for a net that passes
 passes-as : (R : Rules) (k target : ℕ) (net area : List ℕ) (N : Net) (P : Passed N k) → checkNet R k net ≡ passes N P → {o : List ℕ → MapOutcome}
     → ((s : List ℕ) → mapWritten R (mapped N k target P) area s ≡ o s) → (s : List ℕ) → mapChecked R k target (checkNet R k net) area s ≡ o s
@@ -70,22 +90,22 @@ unfolding mapChecked
 passes-as R k target net area N P e f s = ap (λ (c : Checked k). mapChecked R k target c area s) e ∙ f s
 
 -- a refusal's number may be named by any equal one
-refused-as : {R : Rules} {k target n r : ℕ} {net area : List ℕ} → r ≡ n → MapsTo R k target net area area (turnedBack n) → MapsTo R k target net area area (turnedBack r)
-refused-as {R} {k} {target} {net = net} {area = area} e m = subst (λ (x : ℕ). MapsTo R k target net area area (turnedBack x)) (sym e) m
+refused-as : {R : Rules} {k target n r : ℕ} {net area loader : List ℕ} → r ≡ n → MapsTo R k target net area area loader loader (turnedBack n) → MapsTo R k target net area area loader loader (turnedBack r)
+refused-as {R} {k} {target} {net = net} {area = area} {loader = loader} e m = subst (λ (x : ℕ). MapsTo R k target net area area loader loader (turnedBack x)) (sym e) m
 
-module _ {k target : ℕ} {N : Net} (area : List ℕ) where
+module _ {k target : ℕ} {N : Net} (area loader : List ℕ) where
   -- **a refusal**
-  pub net-refused : {a : Kept} {r : ℕ} → SettledAs k target N a r → 0 < r → MapsNet k target N area area (turnedBack r)
+  pub net-refused : {a : Kept} {r : ℕ} → SettledAs k target N a r → 0 < r → MapsNet k target N area area loader loader (turnedBack r)
   net-refused (settling.loops e n) h =
-      record { maps = λ R o net q. refused-as e (maps-fails R k target 9 net area (omega arith) (check-loop R k net N [] q n)) }
+      record { maps = λ R o net q. refused-as e (maps-fails R k target 9 net area loader (omega arith) (check-loop R k net N [] q n)) }
   net-refused (settling.cutOff e l n) h =
-      record { maps = λ R o net q. refused-as e (maps-fails R k target 10 net area (omega arith) (check-unreached R k net N [] q l n)) }
+      record { maps = λ R o net q. refused-as e (maps-fails R k target 10 net area loader (omega arith) (check-unreached R k net N [] q l n)) }
   net-refused (settling.idle e l t n) h =
-      record { maps = λ R o net q. refused-as e (maps-fails R k target 11 net area (omega arith) (check-unled R k net N [] q l t n)) }
+      record { maps = λ R o net q. refused-as e (maps-fails R k target 11 net area loader (omega arith) (check-unled R k net N [] q l t n)) }
   net-refused (settling.unreachable e P h′ n) h = record {
     maps = λ R o net q.
         let t = check-passes R k net N [] q (P .loopless) (P .reached) (P .leading) in
-        refused-as e (record { small = omega arith; outcome = passes-as R k target net area N (t .0) (t .1) (written-none R (t .0) target h′ n area) });
+        refused-as e (record { small = omega arith; outcome = passes-as R k target net area N (t .0) (t .1) (written-none R (t .0) target h′ n area); image = loader-as R k target net loader N (t .0) (t .1) ∙ loader-kept (t .0) target loader h′ n });
   }
   net-refused (settling.covered e P c) h = absurd (none e h)
     where
@@ -93,13 +113,14 @@ module _ {k target : ℕ} {N : Net} (area : List ℕ) where
       none e h = omega arith
 
   -- its number as a byte
-  pub net-refused-as : {a : Kept} {r n : ℕ} → SettledAs k target N a r → 0 < r → n ≡ r → MapsNet k target N area area (turnedBack n)
-  net-refused-as t h e = subst (λ (x : ℕ). MapsNet k target N area area (turnedBack x)) (sym e) (net-refused t h)
+  pub net-refused-as : {a : Kept} {r n : ℕ} → SettledAs k target N a r → 0 < r → n ≡ r → MapsNet k target N area area loader loader (turnedBack n)
+  net-refused-as t h e = subst (λ (x : ℕ). MapsNet k target N area area loader loader (turnedBack x)) (sym e) (net-refused t h)
 
   -- **a cover**
-  pub net-covered : {a : Kept} {area′ : List ℕ} {n : ℕ} → CoverSettled k target N a → length (coverBytes long (a .period) (entriesIn a)) ≤ coverArea
-      → n ≡ length (coverBytes long (a .period) (entriesIn a)) → area′ ≡ written (coverBytes long (a .period) (entriesIn a)) area → MapsNet k target N area area′ (accepted n)
-  net-covered {a} {area′} {n} u few d e = record {
+  pub net-covered : {a : Kept} {area′ loader′ : List ℕ} {n : ℕ} → CoverSettled k target N a → length (coverBytes long (a .period) (entriesIn a)) ≤ coverArea
+      → n ≡ length (coverBytes long (a .period) (entriesIn a)) → area′ ≡ written (coverBytes long (a .period) (entriesIn a)) area → loader′ ≡ loaded (entriesIn a) loader
+      → MapsNet k target N area area′ loader loader′ (accepted n)
+  net-covered {a} {area′} {loader′} {n} u few d e i = record {
     maps = λ R o net q.
         let P = u .passed in
         let t = check-passes R k net N [] q (P .loopless) (P .reached) (P .leading) in
@@ -108,5 +129,6 @@ module _ {k target : ℕ} {N : Net} (area : List ℕ) where
           outcome = λ s. passes-as R k target net area N (t .0) (t .1) (written-cover R (t .0) target (u .cover) area) s
               ∙ ap (λ (bytes : List ℕ). writing R bytes area s) (offered-bytes o (a .period) (entriesIn a))
               ∙ ap₂ (λ (m : ℕ) (l : List ℕ). record { answer = accepted m; area = l; scratch = cleared (R .scratch) s }) (sym d) (sym e);
+          image = loader-as R k target net loader N (t .0) (t .1) ∙ loader-cover (t .0) target loader (u .cover) ∙ sym i;
         };
   }

@@ -1,4 +1,5 @@
-// Checks 9 to 12 of a net read, and its cover as a record in the cover area.
+// Checks 9 to 12 of a net read, its cover as a record in the cover area, and the image in the loader area if one is lent.
+use cover_image::write_image;
 use cover_writer::write_cover;
 use inputs::narrow;
 use job_settle::settle;
@@ -26,9 +27,10 @@ pub fn map_read(
     target: usize,
     area: &mut [u8],
     work: &mut [u8],
+    loader: &mut [u8],
 ) -> Answer
-    requires { ⌜ Mapping k target z (now net) (now tables) (now area) (now work) ⌝ }
-    ensures { λ r. ⌜ MapsNet k target (netIn (arraysOf z (now (net .entry)) (now (tables .entry)))) (now (area .entry)) (now (area .exit)) (answerOf r) ⌝ }
+    requires { ⌜ Mapping k target z (now net) (now tables) (now area) (now work) (now loader) ⌝ }
+    ensures { λ r. ⌜ MapsNet k target (netIn (arraysOf z (now (net .entry)) (now (tables .entry)))) (now (area .entry)) (now (area .exit)) (now (loader .entry)) (now (loader .exit)) (answerOf r) ⌝ }
 {
     let mut seen = [0usize; GATES];
     let mut noted = [0usize; GATES];
@@ -70,5 +72,6 @@ pub fn map_read(
         &luts,
         area,
     );
+    write_image(&marks, &luts, z.gates, loader);
     Answer::Length(n)
 }

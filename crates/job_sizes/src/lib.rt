@@ -1,8 +1,9 @@
-// Checks 1, 2 and 3 under rules, by the lengths of the areas.
+// Checks 1, 2 and 3 under rules, by the lengths of the areas, and 20.
 use limits::LEAST_K;
+use limits::LOADER;
 use limits::Rules;
 ghost use mathlib.Core.Path.{_≡_};
-ghost use Rattle.job_sizes.specs.Sizes.{sizesOf};
+ghost use Rattle.job_sizes.specs.Sizes.{sizesOf, loaderSize};
 
 // 0, or the number of the first that fails.
 pub fn check_sizes(k: u32, target: u32, area: usize, scratch: usize, rules: Rules) -> u8
@@ -22,6 +23,19 @@ pub fn check_sizes(k: u32, target: u32, area: usize, scratch: usize, rules: Rule
     }
     if scratch < rules.scratch {
         return 3;
+    }
+    0
+}
+
+// 20 where a lent loader area is too short, else 0. An area of length 0 is not lent.
+pub fn check_loader(loader: usize) -> u8
+    ensures { λ r. ⌜ r ≡ loaderSize loader ⌝ }
+{
+    if loader == 0 {
+        return 0;
+    }
+    if loader < LOADER {
+        return 20;
     }
     0
 }

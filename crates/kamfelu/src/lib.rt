@@ -1,4 +1,4 @@
-// The library for other programs: map and mark of both courses, the root lookup and align, each with one number for its answer, and the classes
+// The library for other programs: map and mark of both courses, map with a loader area, the root lookup and align, each with one number for its answer, and the classes
 // of three-input tables.
 use captures::Alignment;
 use captures::NO_SHIFT;
@@ -7,6 +7,7 @@ use job_find::Found;
 use job_find::find_root;
 use job_judge::Grade;
 use job_map::map;
+use job_map::map_loader;
 use job_map::short_map;
 use job_mark::mark;
 use job_mark::short_mark;
@@ -20,6 +21,7 @@ ghost use Rattle.limits.specs.Courses.{long, short};
 ghost use Rattle.lutclass.specs.Classes.{IsClass};
 ghost use Rattle.lutclass.specs.ClassTable.{shipped};
 ghost use Rattle.cover_records.specs.Outcomes.{mapOutcome, markOutcome};
+ghost use Rattle.cover_records.specs.LoaderOutcome.{loaderOutcome};
 ghost use Rattle.job_record.specs.MapAnswers as map;
 ghost use Rattle.job_judge.specs.MarkAnswers as mark;
 ghost use Rattle.captures.specs.AlignOutcome.{alignOutcome};
@@ -65,7 +67,26 @@ pub extern "C" fn kamfelu_map(
     map_code(answer)
 }
 
-// The same for the short course.
+// Map with a loader area, which gets the image; of length 0 it is not lent.
+#[no_mangle]
+pub extern "C" fn kamfelu_map_loader(
+    net: &[u8],
+    k: u32,
+    target: u32,
+    cover: &mut [u8],
+    scratch: &mut [u8],
+    loader: &mut [u8],
+) -> i64
+    ensures answer { λ r. ⌜ r ≡ coded (loaderOutcome long (now (net .entry)) k target (now (cover .entry)) (now (scratch .entry)) (now (loader .entry)) .answer) ⌝ }
+    ensures area { λ _. ⌜ now (cover .exit) ≡ loaderOutcome long (now (net .entry)) k target (now (cover .entry)) (now (scratch .entry)) (now (loader .entry)) .area ⌝ }
+    ensures scratch { λ _. ⌜ now (scratch .exit) ≡ loaderOutcome long (now (net .entry)) k target (now (cover .entry)) (now (scratch .entry)) (now (loader .entry)) .scratch ⌝ }
+    ensures loader { λ _. ⌜ now (loader .exit) ≡ loaderOutcome long (now (net .entry)) k target (now (cover .entry)) (now (scratch .entry)) (now (loader .entry)) .loader ⌝ }
+{
+    let answer = map_loader(net, k, target, cover, scratch, loader);
+    map_code(answer)
+}
+
+// Map of the short course.
 #[no_mangle]
 pub extern "C" fn kamfelu_short_map(
     net: &[u8],

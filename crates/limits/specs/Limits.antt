@@ -34,6 +34,10 @@ coverArea = 962
 abbrev pub scratchArea : ℕ
 scratchArea = 65536
 
+-- document 02, E4: "20, a lent loader area is under 256 bytes"
+abbrev pub loaderArea : ℕ
+loaderArea = 256
+
 -- document 02, E8: "nets of at most 8 gates and k at most 4"
 abbrev pub shortGates : ℕ
 shortGates = 8

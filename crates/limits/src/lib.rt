@@ -3,7 +3,7 @@
 ghost use mathlib.Core.Path.{_≡_};
 ghost use Prim.Native.Nat.{_≤_};
 ghost use Rattle.limits.specs.Courses.{long, short};
-ghost use Rattle.limits.specs.Limits.{mostInputs, mostGates, mostOutputs, leastK, mostK, mostCount, mostPeriod, mostLuts, coverArea, scratchArea, shortGates, shortK, mostPins, mostItems, mostNodes, mostPlaces, mostLeaves, mostCopies, mostReach, mostBeyond, mostTable, mostList, mostStack, mostHeld, mostPacked, textRoom, refusalRoom, lineRoom, inputRoom};
+ghost use Rattle.limits.specs.Limits.{mostInputs, mostGates, mostOutputs, leastK, mostK, mostCount, mostPeriod, mostLuts, coverArea, scratchArea, loaderArea, shortGates, shortK, mostPins, mostItems, mostNodes, mostPlaces, mostLeaves, mostCopies, mostReach, mostBeyond, mostTable, mostList, mostStack, mostHeld, mostPacked, textRoom, refusalRoom, lineRoom, inputRoom};
 
 pub const INPUTS: usize = 16;
 
@@ -24,6 +24,8 @@ pub const LUTS: usize = 32;
 pub const AREA: usize = 962;
 
 pub const SCRATCH: usize = 65536;
+
+pub const LOADER: usize = 256;
 
 pub const SHORT_GATES: usize = 8;
 
@@ -88,6 +90,7 @@ pub struct Limits {
     pub luts: usize,
     pub area: usize,
     pub scratch: usize,
+    pub loader: usize,
     pub short_gates: usize,
     pub short_k: u32,
     pub pins: usize,
@@ -122,6 +125,7 @@ pub fn agree() -> Limits
     ensures luts { λ r. ⌜ r .luts ≡ mostLuts ⌝ }
     ensures area { λ r. ⌜ r .area ≡ coverArea ⌝ }
     ensures scratch { λ r. ⌜ r .scratch ≡ scratchArea ⌝ }
+    ensures loader { λ r. ⌜ r .loader ≡ loaderArea ⌝ }
     ensures short_gates { λ r. ⌜ r .«short_gates» ≡ shortGates ⌝ }
     ensures short_k { λ r. ⌜ r .«short_k» ≡ shortK ⌝ }
     ensures pins { λ r. ⌜ r .pins ≡ mostPins ⌝ }
@@ -154,6 +158,7 @@ pub fn agree() -> Limits
         luts: LUTS,
         area: AREA,
         scratch: SCRATCH,
+        loader: LOADER,
         short_gates: SHORT_GATES,
         short_k: SHORT_K,
         pins: PINS,

@@ -2,6 +2,7 @@ pub mod Net
 pub mod Checks
 pub mod Copies
 pub mod Tables
+pub mod FullTables
 pub mod Runs
 pub mod CopyLaws
 pub mod Arrays

@@ -12,7 +12,7 @@ use Rattle.net_model.specs.Arrays.{stride, copiesFrom}
 use Rattle.net_model.specs.ArrayLaws.{length-copiesFrom}
 use Rattle.net_model.specs.Net.{Net}
 use Rattle.cover_theory.specs.Key.{Entry}
-use Rattle.cover_records.specs.Kept.{Kept, entryAt, entriesFrom, entriesIn, labelAt}
+use Rattle.cover_records.specs.Kept.{Kept, shortTable, entryAt, entriesFrom, entriesIn, labelAt}
 use Rattle.cover_records.specs.Listing.{decimal, signed, tableText, leafText, lutLine, lutLines, coverText, registerCount, lutWord, labelWord, lagWord, tableWord, leavesWord, newline, periodWord, lutsWord, registersWord}
 use Rattle.cover_writer.specs.Writing.{marked}
 use Rattle.cover_writer.specs.CoverBytesLaws.{entries-split, count-entries}
@@ -47,11 +47,11 @@ regroup f a b c d e = simp append-assoc
 
 module _ (a : Kept) (g : ℕ) where
   line-text : lutLine (labelAt a) (entryAt a g)
-      ≡ lineFront (a .inputs + g) (labelAt a (a .inputs + g)) (lag (a .period) (labelAt a (a .inputs + g))) ++ lineBack (getD (a .sizes) g 0) (getD (a .tables) g 0) (a .nodes) (a .backs) (stride * g)
+      ≡ lineFront (a .inputs + g) (labelAt a (a .inputs + g)) (lag (a .period) (labelAt a (a .inputs + g))) ++ lineBack (getD (a .sizes) g 0) (shortTable (getD (a .sizes) g 0) (getD (a .tables) g 0)) (a .nodes) (a .backs) (stride * g)
   unfolding lutLine entryAt lineFront lineBack
   line-text =
       let L = copiesFrom (a .nodes) (a .backs) (stride * g) (getD (a .sizes) g 0) in
-      let t = getD (a .tables) g 0 in
+      let t = shortTable (getD (a .sizes) g 0) (getD (a .tables) g 0) in
       ap (λ (n : ℕ). lutWord ++ decimal (a .inputs + g) ++ labelWord ++ signed (labelAt a (a .inputs + g)) ++ lagWord ++ signed (lag (a .period) (labelAt a (a .inputs + g))) ++ tableWord ++ tableText n t ++ leavesWord ++ leafText L ++ newline)
       (length-copiesFrom (a .nodes) (a .backs) (stride * g) (getD (a .sizes) g 0))
       ∙ regroup (lutWord ++ decimal (a .inputs + g) ++ labelWord ++ signed (labelAt a (a .inputs + g)) ++ lagWord ++ signed (lag (a .period) (labelAt a (a .inputs + g)))) tableWord (tableText (getD (a .sizes) g 0) t) leavesWord (leafText L) newline
@@ -61,7 +61,7 @@ module _ (a : Kept) (g : ℕ) where
   line-none m = rw m refl
 
   pub line-some : (getD (a .marks) g 0 ≡ 0 → ⊥)
-      → lineAt a g ≡ lineFront (a .inputs + g) (labelAt a (a .inputs + g)) (lag (a .period) (labelAt a (a .inputs + g))) ++ lineBack (getD (a .sizes) g 0) (getD (a .tables) g 0) (a .nodes) (a .backs) (stride * g)
+      → lineAt a g ≡ lineFront (a .inputs + g) (labelAt a (a .inputs + g)) (lag (a .period) (labelAt a (a .inputs + g))) ++ lineBack (getD (a .sizes) g 0) (shortTable (getD (a .sizes) g 0) (getD (a .tables) g 0)) (a .nodes) (a .backs) (stride * g)
   unfolding lineAt entriesFrom lutLines
   line-some m = rw (ne-eqb (getD (a .marks) g 0) 0 m) (append-nil (lutLine (labelAt a) (entryAt a g)) ∙ line-text)
 

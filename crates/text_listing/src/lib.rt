@@ -1,4 +1,5 @@
 // The listing's text of a cover kept in arrays.
+use cone_words::low;
 use cover_registers::count_registers;
 use cover_writer::count_luts;
 use limits::PINS;
@@ -73,7 +74,7 @@ fn put_back(
     put_byte(10, d, out)
 }
 
-// The line of gate g, where it has a LUT.
+// The line of gate g, where it has a LUT, with the short form of its table.
 fn put_gate(
     inputs: usize,
     gates: usize,
@@ -97,7 +98,9 @@ fn put_gate(
     let root = inputs + g;
     let lag = lag_of(labels[root], period);
     let a = put_front(root, labels[root], lag, at, out);
-    put_back(sizes[g], tables[g], nodes, backs, PINS * g, a, out)
+    let n = sizes[g];
+    let table = low(tables[g], n);
+    put_back(n, table, nodes, backs, PINS * g, a, out)
 }
 
 // The lines of the gates from gate g on.

@@ -1,6 +1,7 @@
 -- `cover_cuts::check_luts` meets its contract.
 use denote.Ref.{now}
-use Rattle.cover_cuts.specs.CutLaws.{told-no-cut, told-wrong, told-right}
+use native.Mathlib.Omega.{arith}
+use Rattle.cover_cuts.specs.CutLaws.{few-leaves, told-no-cut, told-wrong, told-right}
 use borrow.Author.Needs.{needs}
 use Rattle.cover_cuts.proofs.check_luts.Statement.{statement}
 use Rattle.cover_cuts.proofs.check_luts.Tie as tie
@@ -11,11 +12,13 @@ slice-aggregate-no-cuts c = search needs
 no-cuts-requires : tie.Need-no-cuts-requires
 no-cuts-requires c κs = search needs
 
-slice-aggregate-differ : tie.Need-slice-aggregate-differ
-slice-aggregate-differ c = search needs
+slice-aggregate-some-wrong : tie.Need-slice-aggregate-some-wrong
+slice-aggregate-some-wrong c = search needs
 
-differ-requires : tie.Need-differ-requires
-differ-requires c κs = search needs
+some-wrong-requires : tie.Need-some-wrong-requires
+some-wrong-requires c κs =
+    let p = c .before .before .before .before .before .before .before .before .before .before .before .before .before .before .before .before .before .pre .0 in
+    (p .2, p .0 .atSizes, omega (arith, c .before .before .before .before .no-cuts .kept .1 .1 .1 .1 .1 .1 .1 .1 .1 .1 .1 .1 .0, p .1), few-leaves (p .0))
 
 same-length : tie.Need-same-length
 same-length c = search needs
@@ -34,7 +37,7 @@ same-length-2 c = search needs
 returns-2 : tie.Need-returns-2
 returns-2 c =
     let start = c .before .before .before .before .before .before .before .before .before .before .before .before .before .before .before .before .before .before .before .before in (
-      told-wrong (start .pre .0 .0) (now (start .args .luts)) (c .before .before .before .before .before .before .before .no-cuts .ensures .0) (c .before .if1 .left) (c .before .before .differ
+      told-wrong (start .pre .0 .0) (now (start .args .luts)) (c .before .before .before .before .before .before .before .no-cuts .ensures .0) (c .before .if1 .left) (c .before .before .some-wrong
           .ensures) (c .if2 .taken),
       c .before .before .before .before .before .before .before .no-cuts .ensures .1,
     )
@@ -45,7 +48,7 @@ same-length-3 c = search needs
 returns-3 : tie.Need-returns-3
 returns-3 c =
     let start = c .before .before .before .before .before .before .before .before .before .before .before .before .before .before .before .before .before .before .before .before in (
-      told-right (start .pre .0 .0) (now (start .args .luts)) (c .before .before .before .before .before .before .before .no-cuts .ensures .0) (c .before .if1 .left) (c .before .before .differ
+      told-right (start .pre .0 .0) (now (start .args .luts)) (c .before .before .before .before .before .before .before .no-cuts .ensures .0) (c .before .if1 .left) (c .before .before .some-wrong
           .ensures) (c .if2 .left),
       c .before .before .before .before .before .before .before .no-cuts .ensures .1,
     )
@@ -56,8 +59,8 @@ check-luts-spec =
     (tie.spec
     slice-aggregate-no-cuts
     no-cuts-requires
-    slice-aggregate-differ
-    differ-requires
+    slice-aggregate-some-wrong
+    some-wrong-requires
     same-length
     returns
     same-length-2

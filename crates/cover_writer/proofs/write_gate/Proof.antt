@@ -11,7 +11,7 @@ use mir.Val.{toZ, ofZ}
 use denote.Ref.{now}
 use Rattle.integers.specs.Lag.{lag}
 use Rattle.net_model.specs.Arrays.{stride}
-use Rattle.cover_records.specs.Kept.{Kept, kept}
+use Rattle.cover_records.specs.Kept.{Kept, shortTable, kept}
 use Rattle.signed.specs.Range.{Small, room}
 use Rattle.signed.specs.RangeLaws.{back, small-fits}
 use Rattle.cover_writer.specs.Writing.{LutAsked, GateAsked, LutHeld}
@@ -40,7 +40,7 @@ module _ (a : Kept) (g : ℕ) {area : List ℕ} (p : GateAsked a g area) (m : ge
       let f = e ∙ ap (lag (a .period)) (back label (small-fits label (held .label))) in
       ap (λ (z : ℤ). toZ w64 (ofZ w64 z)) f ∙ back (lag (a .period) label) (lag-fits (held .smallLag))
 
-  lut-asked : LutAsked (a .inputs + g) (a .nodes) (a .backs) (stride * g) (getD (a .sizes) g 0) (lag (a .period) label) (getD (a .tables) g 0) area
+  lut-asked : LutAsked (a .inputs + g) (a .nodes) (a .backs) (stride * g) (getD (a .sizes) g 0) (lag (a .period) label) (shortTable (getD (a .sizes) g 0) (getD (a .tables) g 0)) area
   unfolding label
   lut-asked =
       let h = p .arrays in
@@ -85,30 +85,31 @@ lag-of-requires c κs =
     lag-asked (kept (start .args .s .inputs) (start .args .s .gates) (start .args .s .period) (now (start .args .labels)) (now (start .args .marks)) (now (start .args .sizes))
     (now (start .args .nodes)) (now (start .args .backs)) (now (start .args .tables))) (start .args .g) (start .pre) (c .before .before .if1 .left)
 
+mul-n : tie.Need-mul-n
+mul-n c = search needs
+
+shared-slice-read-n : tie.Need-shared-slice-read-n
+shared-slice-read-n c = search needs
+
+mul-low : tie.Need-mul-low
+mul-low c = search needs
+
+shared-slice-read-low : tie.Need-shared-slice-read-low
+shared-slice-read-low c = search needs
+
+low-requires : tie.Need-low-requires
+low-requires c κs = c .before .before .before .before .before .before .before .before .before .before .before .before .before .pre .luts .each (c .before .before .before .before .before .before .before .before .before .before .before .before .before .args .g) (c .before .before .before .before .before .before .before .before .before .before .before .before .before .pre .gate) (c .before .before .before .before .before .if1 .left) .few
+
 mul-write-lut : tie.Need-mul-write-lut
 mul-write-lut c = search needs
-
-mul-write-lut-2 : tie.Need-mul-write-lut-2
-mul-write-lut-2 c = search needs
-
-shared-slice-read-write-lut : tie.Need-shared-slice-read-write-lut
-shared-slice-read-write-lut c = search needs
-
-mul-write-lut-3 : tie.Need-mul-write-lut-3
-mul-write-lut-3 c = search needs
-
-shared-slice-read-write-lut-2 : tie.Need-shared-slice-read-write-lut-2
-shared-slice-read-write-lut-2 c = search needs
 
 write-lut-requires : tie.Need-write-lut-requires
 unfolding label
 write-lut-requires c κs =
-    let lag-of = c .before .before .before .lag-of in
-    let if1 = c .before .before .before .before .before .before .if1 in
-    let start = c .before .before .before .before .before .before .before .before .before .before .before .before .before .before in
+    let start = c .before .before .before .before .before .before .before .before .before .before .before .before .before .before .before in
     let a = (kept (start .args .s .inputs) (start .args .s .gates) (start .args .s .period) (now (start .args .labels)) (now (start .args .marks)) (now (start .args .sizes))
     (now (start .args .nodes)) (now (start .args .backs)) (now (start .args .tables))) in
-    rw (lagged a (start .args .g) (start .pre) (if1 .left) (lag-of .result) (lag-of .ensures)) (lut-asked a (start .args .g) (start .pre) (if1 .left))
+    rw (c .before .low .ensures, lagged a (start .args .g) (start .pre) (c .before .before .before .before .before .before .before .if1 .left) (c .before .before .before .before .lag-of .result) (c .before .before .before .before .lag-of .ensures)) (lut-asked a (start .args .g) (start .pre) (c .before .before .before .before .before .before .before .if1 .left))
 
 same-length : tie.Need-same-length
 same-length c = search needs
@@ -116,12 +117,10 @@ same-length c = search needs
 returns-2 : tie.Need-returns-2
 unfolding label
 returns-2 c =
-    let lag-of = c .before .before .before .before .before .before .lag-of in
-    let if1 = c .before .before .before .before .before .before .before .before .before .if1 in
-    let start = c .before .before .before .before .before .before .before .before .before .before .before .before .before .before .before .before .before in
+    let start = c .before .before .before .before .before .before .before .before .before .before .before .before .before .before .before .before .before .before in
     let a = (kept (start .args .s .inputs) (start .args .s .gates) (start .args .s .period) (now (start .args .labels)) (now (start .args .marks)) (now (start .args .sizes))
     (now (start .args .nodes)) (now (start .args .backs)) (now (start .args .tables))) in
-    rw (at-some a (start .args .g) (if1 .left)) (rw (lagged a (start .args .g) (start .pre) (if1 .left) (lag-of .result) (lag-of .ensures)) at (c .before .before .write-lut .ensures))
+    rw (at-some a (start .args .g) (c .before .before .before .before .before .before .before .before .before .before .if1 .left)) (rw (c .before .before .before .before .low .ensures, lagged a (start .args .g) (start .pre) (c .before .before .before .before .before .before .before .before .before .before .if1 .left) (c .before .before .before .before .before .before .before .lag-of .result) (c .before .before .before .before .before .before .before .lag-of .ensures)) at (c .before .before .write-lut .ensures))
 
 pub write-gate-spec : {M : Type 1} → statement M
 write-gate-spec =
@@ -134,11 +133,12 @@ write-gate-spec =
     mul-lag-of
     shared-slice-copy-out-lag-of
     lag-of-requires
+    mul-n
+    shared-slice-read-n
+    mul-low
+    shared-slice-read-low
+    low-requires
     mul-write-lut
-    mul-write-lut-2
-    shared-slice-read-write-lut
-    mul-write-lut-3
-    shared-slice-read-write-lut-2
     write-lut-requires
     same-length
     returns-2)

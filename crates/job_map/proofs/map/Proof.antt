@@ -1,12 +1,16 @@
--- `job_map::map` meets its contract: map under document 01's rules.
-use mathlib.Core.Path.{sym, ap, subst, _∙_}
+-- `job_map::map` meets its contract: map under document 01's rules, with no loader area.
+use mathlib.Core.Path.{refl, sym, ap, subst, _∙_}
 use denote.Ref.{now}
 use Rattle.limits.specs.Courses.{Offered, is-long}
 use Rattle.limits.specs.declared.Rules.{Rules}
 use Rattle.cover_records.specs.Outcomes.{mapOutcome}
+use Rattle.job_map.specs.MapSizing.{map-alone}
 use borrow.Author.Needs.{needs}
 use Rattle.job_map.proofs.map.Statement.{statement}
 use Rattle.job_map.proofs.map.Tie as tie
+
+slice-aggregate-map-under : tie.Need-slice-aggregate-map-under
+slice-aggregate-map-under c = search needs
 
 long-course-requires : tie.Need-long-course-requires
 long-course-requires c κs = search needs
@@ -22,10 +26,20 @@ same-length-2 c = search needs
 
 returns : tie.Need-returns
 returns c =
-    let a = c .before .before .before .before .before .before .before .before .before .before .before .args in
-    let m = c .before .before .before .before .map-under .ensures in
-    (ap (λ (R : Rules). mapOutcome R (now (a .net)) (a .k) (a .target) (now (a .area)) (now (a .scratch))) (sym (c .before .before .before .before .before .long-course .ensures)) ∙ m .0, m .1)
+    let a = c .before .before .before .before .before .before .before .before .before .before .before .before .before .args in
+    let m = c .before .before .before .before .before .map-under .ensures in (
+      ap (λ (R : Rules). mapOutcome R (now (a .net)) (a .k) (a .target) (now (a .area)) (now (a .scratch))) (sym (c .before .before .before .before .before .before .long-course .ensures))
+          ∙ map-alone _ (now (a .net)) (a .k) (a .target) (now (a .area)) (now (a .scratch)) _ refl (m .0),
+      m .1,
+    )
 
 pub map-spec : {M : Type 1} → statement M
 map-spec =
-    tie.close (tie.spec long-course-requires map-under-requires same-length same-length-2 returns)
+    tie.close
+    (tie.spec
+    slice-aggregate-map-under
+    long-course-requires
+    map-under-requires
+    same-length
+    same-length-2
+    returns)

@@ -15,18 +15,18 @@ slice-aggregate-read-net-2 : tie.Need-slice-aggregate-read-net-2
 slice-aggregate-read-net-2 c = search needs
 
 read-net-requires : tie.Need-read-net-requires
-read-net-requires c κs = let offered = c .before .before .before .before .before .pre .0 in (offered, room-offered offered refl refl)
+read-net-requires c κs = let offered = c .before .before .before .before .before .before .pre .0 in (offered, room-offered offered refl refl)
 
 enum-known-v : tie.Need-enum-known-v
 enum-known-v c = search needs
 
--- the walk refused: the area as it was
+-- the walk refused: the areas as they were
 returns : tie.Need-returns
 returns c =
     let small : c .before .v .given .0 .0 < 256 = search needs in
-    let a = c .before .before .before .before .before .before .before .before .before .before .before .args in
+    let a = c .before .before .before .before .before .before .before .before .before .before .before .before .args in
     let read = c .before .before .before .before .before .read-net in
-    walk-refused (a .rules) (a .k) (a .target) (now (a .bytes)) (read .result) _ _ (read .ensures) (now (a .area)) small (c .before .v .given .1)
+    walk-refused (a .rules) (a .k) (a .target) (now (a .bytes)) (read .result) _ _ (read .ensures) (now (a .area)) (now (a .loader)) small (c .before .v .given .1)
 
 enum-told : tie.Need-enum-told
 enum-told c = search needs
@@ -45,10 +45,10 @@ word-requires-2 c κs = search needs
 
 map-read-requires : tie.Need-map-read-requires
 map-read-requires c κs =
-    let read = c .before .before .before .before .before .before .before .before .before .before .read-net in
-    let start = c .before .before .before .before .before .before .before .before .before .before .before .before .before .before .before .before in
+    let read = c .before .before .before .before .before .before .before .before .before .before .before .read-net in
+    let start = c .before .before .before .before .before .before .before .before .before .before .before .before .before .before .before .before .before .before in
     walk-mapping (start .args .rules) (start .args .k) (start .args .target) (now (start .args .bytes)) (read .result) _ _ (read .ensures) (start .pre .0)
-    (c .before .before .before .before .before .before .enum-told .given .1) (c .before .before .before .word .ensures) (c .before .before .word2 .ensures) (read .kept .1 .1 .1 .0) (read .kept .1 .1 .1 .1 .0) (start .pre .1)
+    (c .before .before .before .before .before .before .before .enum-told .given .1) (c .before .before .before .before .word .ensures) (c .before .before .before .word2 .ensures) (read .kept .1 .1 .1 .0) (read .kept .1 .1 .1 .1 .0) (start .pre .1 .0) (start .pre .1 .1)
 
 same-length : tie.Need-same-length
 same-length c = search needs
@@ -56,12 +56,15 @@ same-length c = search needs
 same-length-2 : tie.Need-same-length-2
 same-length-2 c = search needs
 
+same-length-3 : tie.Need-same-length-3
+same-length-3 c = search needs
+
 returns-2 : tie.Need-returns-2
 returns-2 c =
-    let read = c .before .before .before .before .before .before .before .before .before .before .before .before .before .before .before .before .read-net in
-    let start = c .before .before .before .before .before .before .before .before .before .before .before .before .before .before .before .before .before .before .before .before .before .before in
+    let read = c .before .before .before .before .before .before .before .before .before .before .before .before .before .before .before .before .before .before .before .read-net in
+    let start = c .before .before .before .before .before .before .before .before .before .before .before .before .before .before .before .before .before .before .before .before .before .before .before .before .before .before in
     walk-maps (start .args .rules) (start .args .k) (start .args .target) (now (start .args .bytes)) (read .result) _ _ (read .ensures) (start .pre .0)
-    (c .before .before .before .before .before .before .before .before .before .before .before .before .enum-told .given .1) (c .before .before .before .before .before .before .before .before .before .word .ensures) (c .before .before .before .before .before .before .before .before .word2 .ensures) (c .before .before .before .before .before .map-read .ensures)
+    (c .before .before .before .before .before .before .before .before .before .before .before .before .before .before .before .enum-told .given .1) (c .before .before .before .before .before .before .before .before .before .before .before .before .word .ensures) (c .before .before .before .before .before .before .before .before .before .before .before .word2 .ensures) (c .before .before .before .before .before .before .before .map-read .ensures)
 
 pub map-bytes-spec : {M : Type 1} → statement M
 map-bytes-spec =
@@ -80,4 +83,5 @@ map-bytes-spec =
     map-read-requires
     same-length
     same-length-2
+    same-length-3
     returns-2)

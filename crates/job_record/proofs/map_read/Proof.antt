@@ -35,7 +35,7 @@ slice-aggregate-settle-8 c = search needs
 
 settle-requires : tie.Need-settle-requires
 settle-requires c κs =
-    let start = c .before .before .before .before .before .before .before .before .before .before .before .before .before .before in
+    let start = c .before .before .before .before .before .before .before .before .before .before .before .before .before .before .before in
     let f = start .pre .settling .facts in
     (start .pre .settling, ((omega (arith, f .gates-high), omega (arith, f .gates-high)), (omega (arith, start .pre .space), omega (arith, f .gates-high, f .inputs-high), zero-room (start .args .z .gates) (f .gates-high))))
 
@@ -49,7 +49,7 @@ same-length-2 : tie.Need-same-length-2
 same-length-2 c = search needs
 
 returns : tie.Need-returns
-returns c = net-refused-as _ (c .before .before .before .before .before .before .before .before .before .before .before .before .before .before .settle .ensures .0) (c .before .if1 .taken) (c .narrow .ensures)
+returns c = net-refused-as _ _ (c .before .before .before .before .before .before .before .before .before .before .before .before .before .before .settle .ensures .0) (omega (arith, c .before .if1 .taken)) (c .narrow .ensures)
 
 slice-aggregate-write-cover : tie.Need-slice-aggregate-write-cover
 slice-aggregate-write-cover c = search needs
@@ -73,14 +73,30 @@ write-cover-requires : tie.Need-write-cover-requires
 write-cover-requires c κs =
     let k = c .before .before .before .before .before .before .before .before .before .before .before .before .before .before .before .before .before .before .before .before .settle .kept .1 .1 .1 .1 .1 .1 .1 .1 in
     let u = cover-settled (c .before .before .before .before .before .before .before .before .before .before .before .before .before .before .before .before .before .before .before .before .settle .ensures .0) (omega (arith, c .before .before .before .before .before .before .before .if1 .left)) in
-    cover-writable (c .before .before .before .before .before .before .before .before .before .before .before .before .before .before .before .before .before .before .before .before .before .before .before .before .before .before .before .before .before .before .before .before .before .before .before .pre .settling) refl refl (record {
+    cover-writable (c .before .before .before .before .before .before .before .before .before .before .before .before .before .before .before .before .before .before .before .before .before .before .before .before .before .before .before .before .before .before .before .before .before .before .before .before .pre .settling) refl refl (record {
       atLabels = k .0;
       atMarks = k .1 .0;
       atSizes = k .1 .1 .0;
       atNodes = k .1 .1 .1 .0;
       atBacks = k .1 .1 .1 .1 .0;
       atTables = k .1 .1 .1 .1 .1 .0;
-    }) (u .passed) (u .cover) _ (c .before .before .before .before .before .before .before .before .before .before .before .before .before .before .before .before .before .before .before .before .before .before .before .before .before .before .before .before .before .before .before .before .before .before .before .pre .room)
+    }) (u .passed) (u .cover) _ (c .before .before .before .before .before .before .before .before .before .before .before .before .before .before .before .before .before .before .before .before .before .before .before .before .before .before .before .before .before .before .before .before .before .before .before .before .pre .room)
+
+slice-aggregate-write-image : tie.Need-slice-aggregate-write-image
+slice-aggregate-write-image c = search needs
+
+slice-aggregate-write-image-2 : tie.Need-slice-aggregate-write-image-2
+slice-aggregate-write-image-2 c = search needs
+
+write-image-requires : tie.Need-write-image-requires
+write-image-requires c κs =
+    let k = c .before .before .before .before .before .before .before .before .before .before .before .before .before .before .before .before .before .before .before .before .before .before .before .before .before .before .settle .kept .1 .1 .1 .1 .1 .1 .1 .1 in
+    let f = c .before .before .before .before .before .before .before .before .before .before .before .before .before .before .before .before .before .before .before .before .before .before .before .before .before .before .before .before .before .before .before .before .before .before .before .before .before .before .before .before .before .before .pre .settling .facts in
+    record {
+      atMarks = omega (arith, k .1 .0, f .gates-high);
+      atLuts = omega (arith, k .1 .1 .1 .1 .1 .0, f .gates-high);
+      room = λ n. omega (arith, c .before .before .before .before .before .before .before .before .before .before .before .before .before .before .before .before .before .before .before .before .before .before .before .before .before .before .before .before .before .before .before .before .before .before .before .before .before .before .before .before .before .before .pre .load n, f .gates-high);
+    }
 
 same-length-3 : tie.Need-same-length-3
 same-length-3 c = search needs
@@ -91,10 +107,13 @@ same-length-4 c = search needs
 same-length-5 : tie.Need-same-length-5
 same-length-5 c = search needs
 
+same-length-6 : tie.Need-same-length-6
+same-length-6 c = search needs
+
 returns-2 : tie.Need-returns-2
 returns-2 c =
-    let k = c .before .before .before .before .before .before .before .before .before .before .before .before .before .before .before .before .before .before .before .before .before .before .before .settle .kept .1 .1 .1 .1 .1 .1 .1 .1 in
-    let u = cover-settled (c .before .before .before .before .before .before .before .before .before .before .before .before .before .before .before .before .before .before .before .before .before .before .before .settle .ensures .0) (omega (arith, c .before .before .before .before .before .before .before .before .before .before .if1 .left)) in
+    let k = c .before .before .before .before .before .before .before .before .before .before .before .before .before .before .before .before .before .before .before .before .before .before .before .before .before .before .before .before .before .settle .kept .1 .1 .1 .1 .1 .1 .1 .1 in
+    let u = cover-settled (c .before .before .before .before .before .before .before .before .before .before .before .before .before .before .before .before .before .before .before .before .before .before .before .before .before .before .before .before .before .settle .ensures .0) (omega (arith, c .before .before .before .before .before .before .before .before .before .before .before .before .before .before .before .before .if1 .left)) in
     let l : Long _ = record {
       atLabels = k .0;
       atMarks = k .1 .0;
@@ -103,7 +122,8 @@ returns-2 c =
       atBacks = k .1 .1 .1 .1 .0;
       atTables = k .1 .1 .1 .1 .1 .0;
     } in
-    net-covered _ u (cover-small (c .before .before .before .before .before .before .before .before .before .before .before .before .before .before .before .before .before .before .before .before .before .before .before .before .before .before .before .before .before .before .before .before .before .before .before .before .before .before .pre .settling) refl refl l (u .passed) (u .cover)) (c .before .before .write-cover .ensures .0) (c .before .before .write-cover .ensures .1)
+    net-covered _ _ u (cover-small (c .before .before .before .before .before .before .before .before .before .before .before .before .before .before .before .before .before .before .before .before .before .before .before .before .before .before .before .before .before .before .before .before .before .before .before .before .before .before .before .before .before .before .before .before .before .pre .settling) refl refl l (u .passed) (u .cover)) (c .before .before .before .before .before .before .before .before .write-cover .ensures .0) (c .before .before .before .before .before .before .before .before .write-cover .ensures .1)
+    (c .before .before .write-image .ensures .image _ (record { gates-are = refl; marks-are = refl; luts-are = refl }) (u .cover .whole))
 
 pub map-read-spec : {M : Type 1} → statement M
 map-read-spec =
@@ -129,7 +149,11 @@ map-read-spec =
     slice-aggregate-write-cover-5
     slice-aggregate-write-cover-6
     write-cover-requires
+    slice-aggregate-write-image
+    slice-aggregate-write-image-2
+    write-image-requires
     same-length-3
     same-length-4
     same-length-5
+    same-length-6
     returns-2)

@@ -112,31 +112,33 @@ put-front-requires c κs =
       omega arith,
     )
 
+mul-n : tie.Need-mul-n
+mul-n c = search needs
+
+shared-slice-read-n : tie.Need-shared-slice-read-n
+shared-slice-read-n c = search needs
+
+mul-low : tie.Need-mul-low
+mul-low c = search needs
+
+shared-slice-read-low : tie.Need-shared-slice-read-low
+shared-slice-read-low c = search needs
+
+low-requires : tie.Need-low-requires
+low-requires c κs = c .before .before .before .before .before .before .before .before .before .before .before .before .before .before .before .before .before .pre .luts .each (c .before .before .before .before .before .before .before .before .before .before .before .before .before .before .before .before .before .args .g) (c .before .before .before .before .before .before .before .before .before .before .before .before .before .before .before .before .before .pre .gate) (c .before .before .before .before .before .before .before .before .before .if1 .left) .few
+
 mul-put-back : tie.Need-mul-put-back
 mul-put-back c = search needs
-
-shared-slice-read-put-back : tie.Need-shared-slice-read-put-back
-shared-slice-read-put-back c = search needs
-
-mul-put-back-2 : tie.Need-mul-put-back-2
-mul-put-back-2 c = search needs
-
-shared-slice-read-put-back-2 : tie.Need-shared-slice-read-put-back-2
-shared-slice-read-put-back-2 c = search needs
-
-mul-put-back-3 : tie.Need-mul-put-back-3
-mul-put-back-3 c = search needs
 
 put-back-requires : tie.Need-put-back-requires
 unfolding label
 put-back-requires c κs =
-    let start = c .before .before .before .before .before .before .before .before .before .before .before .before .before .before .before .before .before .before in
+    let start = c .before .before .before .before .before .before .before .before .before .before .before .before .before .before .before .before .before .before .before in
     let h = start .pre .arrays in
     let i = start .pre .gate in
     let f = held (kept (start .args .inputs) (start .args .gates) (start .args .period) (now (start .args .labels)) (now (start .args .marks)) (now (start .args .sizes))
-    (now (start .args .nodes)) (now (start .args .backs)) (now (start .args .tables))) (start .args .g) (start .args .at) (start .pre)
-    (c .before .before .before .before .before .before .before .before .before .before .if1 .left) .few in
-    ((f, omega arith, omega arith), put-room 283 (c .before .before .before .before .before .put-front .ensures) (start .pre .room))
+    (now (start .args .nodes)) (now (start .args .backs)) (now (start .args .tables))) (start .args .g) (start .args .at) (start .pre) (c .before .before .before .before .before .before .before .before .before .before .before .if1 .left) .few in
+    ((f, omega arith, omega arith), put-room 283 (c .before .before .before .before .before .before .put-front .ensures) (start .pre .room))
 
 same-length : tie.Need-same-length
 same-length c = search needs
@@ -144,14 +146,11 @@ same-length c = search needs
 returns-2 : tie.Need-returns-2
 unfolding label
 returns-2 c =
-    let lag-of = c .before .before .before .before .before .before .before .before .before .before .before .lag-of in
-    let if1 = c .before .before .before .before .before .before .before .before .before .before .before .before .before .if1 in
-    let start = c .before .before .before .before .before .before .before .before .before .before .before .before .before .before .before .before .before .before .before .before .before in
-    put-same (sym (line-some (kept (start .args .inputs) (start .args .gates) (start .args .period) (now (start .args .labels)) (now (start .args .marks))
-    (now (start .args .sizes)) (now (start .args .nodes)) (now (start .args .backs)) (now (start .args .tables))) (start .args .g) (if1 .left)))
-    (put-then (front (kept (start .args .inputs) (start .args .gates) (start .args .period) (now (start .args .labels)) (now (start .args .marks)) (now (start .args .sizes))
-    (now (start .args .nodes)) (now (start .args .backs)) (now (start .args .tables))) (start .args .g) (start .args .at) (start .pre) (if1 .left) (lag-of .result)
-    (lag-of .ensures) (c .before .before .before .before .before .before .before .before .put-front .ensures)) (c .before .before .put-back .ensures))
+    let start = c .before .before .before .before .before .before .before .before .before .before .before .before .before .before .before .before .before .before .before .before .before .before in
+    let a = (kept (start .args .inputs) (start .args .gates) (start .args .period) (now (start .args .labels)) (now (start .args .marks)) (now (start .args .sizes))
+    (now (start .args .nodes)) (now (start .args .backs)) (now (start .args .tables))) in
+    put-same (sym (line-some a (start .args .g) (c .before .before .before .before .before .before .before .before .before .before .before .before .before .before .if1 .left)))
+    (put-then (front a (start .args .g) (start .args .at) (start .pre) (c .before .before .before .before .before .before .before .before .before .before .before .before .before .before .if1 .left) (c .before .before .before .before .before .before .before .before .before .before .before .before .lag-of .result) (c .before .before .before .before .before .before .before .before .before .before .before .before .lag-of .ensures) (c .before .before .before .before .before .before .before .before .before .put-front .ensures)) (rw (c .before .before .before .before .low .ensures) at (c .before .before .put-back .ensures)))
 
 pub put-gate-spec : {M : Type 1} → statement M
 put-gate-spec =
@@ -167,11 +166,12 @@ put-gate-spec =
     mul-put-front
     shared-slice-copy-out-put-front
     put-front-requires
+    mul-n
+    shared-slice-read-n
+    mul-low
+    shared-slice-read-low
+    low-requires
     mul-put-back
-    shared-slice-read-put-back
-    mul-put-back-2
-    shared-slice-read-put-back-2
-    mul-put-back-3
     put-back-requires
     same-length
     returns-2)
