@@ -9,7 +9,7 @@ use second::generate::{random_net, wild_net, Shape};
 use second::jobs::{Course, COVER_BYTES, LONG, SCRATCH_BYTES, SHORT};
 use second::listing::{listing_within, GAVE_UP};
 use second::mark::check_cover;
-use second::{read_net, read_record, Answer, Limits, Random};
+use second::{read_net, read_record, Answer, Areas, Limits, Random};
 use std::collections::BTreeMap;
 use std::thread::Builder;
 
@@ -244,8 +244,12 @@ impl Sides {
         let [cover, other_cover] = &mut self.cover;
         let [scratch, other_scratch] = &mut self.scratch;
         let course = self.course;
-        let expected =
-            second::map_within(course, LIMITS, net, k, target, other_cover, other_scratch);
+        let areas = Areas {
+            cover: other_cover,
+            scratch: other_scratch,
+            loader: &mut [],
+        };
+        let expected = second::map_within(course, LIMITS, net, k, target, areas);
         let found = if course == SHORT {
             kamfelu::short_map(net, k, target, cover, scratch)
         } else {
