@@ -4,13 +4,14 @@
 use crate::nets::{net_a, net_b, net_c, of_family, FAMILIES};
 use crate::programs::printed;
 use second::damage::{candidate, damaged, damaged_net};
-use second::encode::{encode, encode_with_holes};
+use second::encode::{encode, encode_with_holes, random_section, with_section};
 use second::generate::{random_net, wild_net, Shape};
 use second::jobs::{Course, COVER_BYTES, LONG, SCRATCH_BYTES, SHORT};
 use second::listing::{listing_within, GAVE_UP};
 use second::loader::{image, LOADER_BYTES};
 use second::mark::check_cover;
-use second::{read_net, read_record, Answer, Areas, Limits, Random};
+use second::net::SECTIONS;
+use second::{parse_net, read_net, read_record, Answer, Areas, Limits, Random};
 use std::collections::BTreeMap;
 use std::thread::Builder;
 
@@ -418,6 +419,7 @@ impl Sides {
             return;
         };
         let mut bytes = encode_with_holes(&net, random);
+        bytes = some_section(random, bytes);
         match random.below(20) {
             0 => bytes = damaged_net(random, &bytes),
             1 => record = damaged(random, &record),
@@ -501,11 +503,23 @@ pub fn some_net(random: &mut Random) -> (Vec<u8>, usize) {
         4 => random.pick(&[net_a as fn() -> Vec<u8>, net_c, || net_b(0), || net_b(1)])(),
         _ => encode_with_holes(&random_net(random, &shape), random),
     };
+    let bytes = some_section(random, bytes);
     let bytes = match random.below(10) {
         0..=2 => damaged_net(random, &bytes),
         _ => bytes,
     };
     (bytes, pins)
+}
+
+/// Where nets with a section are taken, now and then one behind a net that is read; it changes no answer.
+fn some_section(random: &mut Random, net: Vec<u8>) -> Vec<u8> {
+    if !SECTIONS || random.chance(75) {
+        return net;
+    }
+    match parse_net(&net, 6) {
+        Ok(read) => with_section(&net, &random_section(read.nodes(), random)),
+        Err(_) => net,
+    }
 }
 
 /// The listing program on a random net, against the second mapper's text.

@@ -4,7 +4,6 @@
 mod common;
 
 use common::{map, mark, net_a, net_b, net_bytes, net_c, GateText, AND};
-use second::bench::MOST_STEPS;
 use second::damage::damaged;
 use second::encode::{encode, encode_with_holes, random_section, with_section};
 use second::generate::{random_net, wild_net, Shape};
@@ -394,7 +393,7 @@ fn the_last_step() {
     assert_eq!(bench(2, &net, &[0, 0]), "refused 10\n");
     let net = net_bytes(1, &[(&[(0, 0), (1, 1)], XOR)], &[(1, 0)]);
     let net = with_section(&net, &[0, 0]);
-    let most = MOST_STEPS;
+    let most = 65_535;
     for (steps, over, lines) in [
         (most - 1, 0, most - 1),
         (most - 1, 1, most - 1),
