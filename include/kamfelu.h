@@ -16,13 +16,13 @@ extern "C" {
      contents of any argument.
    - Each pointer points to as many bytes as the length behind it says, for the whole call. A pointer may be NULL where
      its length is 0.
-   - Areas that are written (cover, scratch) overlap no other area, and no other thread uses them during the call. Net
-     and record are only read.
+   - Areas that are written (cover, scratch, loader) overlap no other area, and no other thread uses them during the
+     call. Net and record are only read.
    - A call takes less than 256 KiB of the calling thread's stack.
    - The library keeps nothing between calls; calls on different areas may run at the same time.
 
-   Refusals. Map checks 1 to 12, mark 1, 3 to 11 and 13 to 18, find root 19, align 23; the first that fails is told, of 4
-   to 8 the first met in one walk over the net's bytes.
+   Refusals. Map checks 1 to 12, and 20 between 3 and 4 where a loader area is lent; mark 1, 3 to 11 and 13 to 18, find
+   root 19, align 23. The first that fails is told, of 4 to 8 the first met in one walk over the net's bytes.
 
     1  k is not 2 to 6.
     2  The target is above 32.
@@ -50,6 +50,7 @@ extern "C" {
    18  Some chain of LUTs without a register between them is longer than the period.
    19  The record ends or breaks its layout before a root that is not below the gate, or before its last LUT's end (find
        root only).
+   20  A loader area is lent that has fewer than 256 bytes (map with a loader area only).
    23  A capture has more than 4,096 words (align only). */
 
 /* Map: a cover of a net for LUTs with k inputs that meets the target, or the least period for target 0.
@@ -66,6 +67,22 @@ extern "C" {
    target. */
 int64_t kamfelu_map(const uint8_t *net, size_t net_length, uint32_t k, uint32_t target, uint8_t *cover, size_t cover_length,
                     uint8_t *scratch, size_t scratch_length);
+
+/* Map with a loader area: the same, and an image of the cover's tables for the chip's loader.
+
+   net, k, target, cover, scratch   as for kamfelu_map
+   loader                           the loader area, at least 256 bytes, else refusal 20; with length 0 none is lent, and
+                                    the call is kamfelu_map
+
+   Returns what kamfelu_map returns, and leaves the same in cover area and scratch. If a loader area is lent and the record
+   has n LUTs (its second byte), the first 8 n bytes of the loader area are then the image: eight bytes for each LUT, in
+   the record's order, the first byte lowest. Bit x of a LUT's 64 bits is bit x mod 2^m of its table, m being the number of
+   its leaves: the table repeated until they are full, so that inputs 0 to m - 1 are its leaves and what stands on the
+   others changes nothing. Bytes behind the image are kept, and all of the loader area after a refusal. Refusal 20 is told
+   after 3 and before 4; the scratch's first 65,536 bytes are then 0. */
+int64_t kamfelu_map_loader(const uint8_t *net, size_t net_length, uint32_t k, uint32_t target, uint8_t *cover,
+                           size_t cover_length, uint8_t *scratch, size_t scratch_length, uint8_t *loader,
+                           size_t loader_length);
 
 /* Mark: whether a record is that of a cover of a net for LUTs with k inputs that meets the period it states, and by how
    much that period is above the least one.

@@ -1,6 +1,7 @@
 //! Kamfelu's proved jobs, called through their static library: [`map`] and [`mark`] for LUT covers
-//! with moved registers, [`short_map`] and [`short_mark`] for those of the short course, [`find_root`]
-//! for a stored cover, [`class`] for three-input tables, [`align`] for two captures of one unit.
+//! with moved registers, [`map_loader`] for a cover and its tables as a chip's loader takes them,
+//! [`short_map`] and [`short_mark`] for the short course, [`find_root`] for a stored cover, [`class`]
+//! for three-input tables, [`align`] for two captures of one unit.
 //!
 //! `make library` in the repository writes `target/staticlib/libkamfelu.a`, which the build script
 //! links (x86-64 Linux). A project of your own names this folder:
@@ -25,6 +26,9 @@ pub const COVER_AREA: usize = 962;
 /// The least length of a scratch, in bytes.
 pub const SCRATCH: usize = 65_536;
 
+/// The least length of a loader area that is not empty, in bytes: no image is longer.
+pub const LOADER_AREA: usize = 256;
+
 /// More than the stack that a call takes, in bytes. A thread may have so little:
 ///
 /// ```
@@ -47,6 +51,19 @@ extern "C" {
         cover_len: usize,
         scratch: *mut u8,
         scratch_len: usize,
+    ) -> i64;
+
+    fn kamfelu_map_loader(
+        net: *const u8,
+        net_len: usize,
+        k: u32,
+        target: u32,
+        cover: *mut u8,
+        cover_len: usize,
+        scratch: *mut u8,
+        scratch_len: usize,
+        loader: *mut u8,
+        loader_len: usize,
     ) -> i64;
 
     fn kamfelu_mark(
@@ -167,6 +184,61 @@ pub fn map(
     scratch: &mut [u8],
 ) -> Result<usize, u8> {
     map_by(kamfelu_map, net, k, target, cover, scratch)
+}
+
+/// [`map`], and an image of the cover's tables for the chip's loader, which takes 64 bits for each
+/// LUT.
+///
+/// - `net`, `k`, `target`, `cover`, `scratch`: as for [`map`].
+/// - `loader`: the loader area, at least [`LOADER_AREA`] bytes. Where it is empty none is lent, and
+///   the call is [`map`].
+///
+/// `Ok` has the length of the cover record, as for [`map`]. The image then stands in front of the
+/// loader area, if one is lent: eight bytes for each LUT, in the record's order, the first byte
+/// lowest; the record's second byte is the number of LUTs. A LUT's 64 bits are its table, repeated
+/// until they are full: what stands on inputs that it does not use changes nothing. Bytes behind the
+/// image are kept.
+///
+/// `Err` has the number of the refusal: 20 for a loader area that is too short, told after 3 and
+/// before 4, else as for [`map`]. Cover area and loader area are then as they were; the scratch is
+/// left as by [`map`], and its first [`SCRATCH`] bytes are 0 after 20 too.
+///
+/// ```
+/// use kamfelu::{map_loader, COVER_AREA, LOADER_AREA, SCRATCH};
+///
+/// let net = [2, 3, 1, 3, 0, 0, 1, 8, 3, 2, 2, 4, 1, 6, 1, 0, 3, 1, 0, 4]; // net A
+/// let (mut cover, mut scratch) = ([0; COVER_AREA], vec![0; SCRATCH]);
+/// let mut loader = [0; LOADER_AREA];
+/// let answer = map_loader(&net, 2, 0, &mut cover, &mut scratch, &mut loader);
+/// assert_eq!((answer, cover[1]), (Ok(16), 2)); // two LUTs, with the tables 8 and 9
+/// assert_eq!(loader[..8], [0x88; 8]);
+/// assert_eq!(loader[8..16], [0x99; 8]);
+/// let answer = map_loader(&net, 2, 0, &mut cover, &mut scratch, &mut loader[..255]);
+/// assert_eq!(answer, Err(20));
+/// ```
+pub fn map_loader(
+    net: &[u8],
+    k: u32,
+    target: u32,
+    cover: &mut [u8],
+    scratch: &mut [u8],
+    loader: &mut [u8],
+) -> Result<usize, u8> {
+    // SAFETY: each pointer goes with its slice's length, and the slices are apart.
+    told(unsafe {
+        kamfelu_map_loader(
+            net.as_ptr(),
+            net.len(),
+            k,
+            target,
+            cover.as_mut_ptr(),
+            cover.len(),
+            scratch.as_mut_ptr(),
+            scratch.len(),
+            loader.as_mut_ptr(),
+            loader.len(),
+        )
+    })
 }
 
 /// Whether a record is that of a cover of a net for LUTs with k inputs that meets the period it

@@ -1,10 +1,11 @@
-/* A pointer may be NULL where its length is 0: each area of map, mark, find root and align in turn, then all of them. */
+/* A pointer may be NULL where its length is 0: each area of map with and without a loader area, mark, find root and
+   align in turn, then all of them. */
 #include "kamfelu.h"
 #include <stdio.h>
 
 static const uint8_t net[] = {2, 3, 1, 3, 0, 0, 1, 8, 3, 2, 2, 4, 1, 6, 1, 0, 3, 1, 0, 4}; /* net A */
 static const uint8_t record[] = {2, 2, 2, 2, 0, 0, 1, 8, 4, 2, 2, 2, 4, 1, 0, 9};           /* its cover, k 2 */
-static uint8_t cover[962], scratch[65536];
+static uint8_t cover[962], scratch[65536], loader[256];
 static const uint16_t words[16];
 static int wrong;
 
@@ -48,6 +49,26 @@ int main(void)
     expect("map, nothing, k 7", kamfelu_map(NULL, 0, 7, 33, NULL, 0, NULL, 0), -1);
 
     fill();
+    expect("loader, no loader area", kamfelu_map_loader(net, 20, 2, 0, cover, 962, scratch, 65536, NULL, 0), 16);
+    expect_scratch("loader, no loader area", 0);
+    fill();
+    expect("loader, no net", kamfelu_map_loader(NULL, 0, 2, 0, cover, 962, scratch, 65536, loader, 256), -4);
+    expect_scratch("loader, no net", 0);
+    fill();
+    expect("loader, no net, short", kamfelu_map_loader(NULL, 0, 2, 0, cover, 962, scratch, 65536, loader, 255), -20);
+    expect_scratch("loader, no net, short", 0);
+    fill();
+    expect("loader, no cover area", kamfelu_map_loader(net, 20, 2, 0, NULL, 0, scratch, 65536, loader, 255), -3);
+    expect_scratch("loader, no cover area", 7);
+    expect("loader, no scratch", kamfelu_map_loader(net, 20, 2, 0, cover, 962, NULL, 0, loader, 255), -3);
+    fill();
+    expect("loader, no net, no loader area", kamfelu_map_loader(NULL, 0, 2, 0, cover, 962, scratch, 65536, NULL, 0), -4);
+    expect_scratch("loader, no net, no loader area", 0);
+    expect("loader, nothing", kamfelu_map_loader(NULL, 0, 2, 0, NULL, 0, NULL, 0, NULL, 0), -3);
+    expect("loader, nothing, target 33", kamfelu_map_loader(NULL, 0, 2, 33, NULL, 0, NULL, 0, NULL, 0), -2);
+    expect("loader, nothing, k 7", kamfelu_map_loader(NULL, 0, 7, 33, NULL, 0, NULL, 0, NULL, 0), -1);
+
+    fill();
     expect("mark, no net", kamfelu_mark(NULL, 0, 2, record, 16, scratch, 65536), -4);
     expect_scratch("mark, no net", 0);
     fill();
@@ -68,6 +89,10 @@ int main(void)
 
     /* The same areas without NULL. */
     expect("map", kamfelu_map(net, 20, 2, 0, cover, 962, scratch, 65536), 16);
+    expect("loader", kamfelu_map_loader(net, 20, 2, 0, cover, 962, scratch, 65536, loader, 256), 16);
+    expect("loader, first byte", loader[0], 0x88);
+    expect("loader, last byte", loader[15], 0x99);
+    expect("loader, byte behind", loader[16], 0);
     expect("mark", kamfelu_mark(net, 20, 2, record, 16, scratch, 65536), 0);
     expect("find root", kamfelu_find_root(record, 16, 4), 8);
     expect("align", kamfelu_align(words, 16, words, 16), 0);

@@ -1,15 +1,17 @@
 //! The library against the second mapper on random nets and candidates: answers, cover
-//! areas and scratch, whole.
+//! areas, loader areas and scratch, whole.
 
 use crate::nets::{net_a, net_b, net_c, of_family, FAMILIES};
 use crate::programs::printed;
 use second::damage::{candidate, damaged, damaged_net};
-use second::encode::{encode, encode_with_holes};
+use second::encode::{encode, encode_with_holes, random_section, with_section};
 use second::generate::{random_net, wild_net, Shape};
 use second::jobs::{Course, COVER_BYTES, LONG, SCRATCH_BYTES, SHORT};
 use second::listing::{listing_within, GAVE_UP};
+use second::loader::{image, LOADER_BYTES};
 use second::mark::check_cover;
-use second::{read_net, read_record, Answer, Limits, Random};
+use second::net::SECTIONS;
+use second::{parse_net, read_net, read_record, Answer, Areas, Limits, Random};
 use std::collections::BTreeMap;
 use std::thread::Builder;
 
@@ -56,7 +58,7 @@ pub struct Tally {
     /// The second mapper gave up.
     pub skipped: u64,
     /// Answers by refusal, 0 where there was none.
-    pub seen: [u64; 19],
+    pub seen: [u64; 21],
     /// Answers without refusal by length or excess.
     pub done: BTreeMap<u32, u64>,
     /// Pairs whose least period is above 1.
@@ -172,16 +174,23 @@ pub fn random_calls(
     tally
 }
 
-/// Map of some nets: every k from 0 to 8 and the huge ones, with these targets and the huge ones.
-pub fn all_maps(course: Course, nets: &[Vec<u8>], targets: &[u32]) {
+/// Map of some nets: every k from 0 to 8 and the huge ones, with these targets and the huge ones;
+/// with loader areas of these lengths, or without.
+pub fn all_maps(course: Course, nets: &[Vec<u8>], targets: &[u32], loaders: &[Option<usize>]) {
     let tally = on_threads(|thread, threads| {
         let mut random = Random::new(thread);
         let mut sides = Sides::of(course, &mut random);
         for net in nets.iter().skip(thread as usize).step_by(threads as usize) {
             for k in (0..=8).chain(HUGE) {
                 for target in targets.iter().copied().chain(HUGE) {
-                    let lengths = (COVER_BYTES + 1, SCRATCH_BYTES + 1);
-                    sides.map(&mut random, net, k, target, lengths);
+                    for &loader in loaders {
+                        let lengths = Lengths {
+                            cover: COVER_BYTES + 1,
+                            scratch: SCRATCH_BYTES + 1,
+                            loader,
+                        };
+                        sides.map(&mut random, net, k, target, lengths);
+                    }
                 }
             }
         }
@@ -191,6 +200,14 @@ pub fn all_maps(course: Course, nets: &[Vec<u8>], targets: &[u32]) {
     tally.fail_on_differences();
 }
 
+/// The lengths of the areas lent to map; without a loader area it is the call that takes none.
+#[derive(Clone, Copy, Debug)]
+pub struct Lengths {
+    pub cover: usize,
+    pub scratch: usize,
+    pub loader: Option<usize>,
+}
+
 /// The areas of both mappers, filled with the same bytes before each call.
 pub struct Sides {
     course: Course,
@@ -198,6 +215,7 @@ pub struct Sides {
     /// Of the library and of the second mapper.
     pub cover: [Vec<u8>; 2],
     pub scratch: [Vec<u8>; 2],
+    pub loader: [Vec<u8>; 2],
     pub tally: Tally,
 }
 
@@ -208,11 +226,13 @@ impl Sides {
 
     /// Map and mark of a course.
     pub fn of(course: Course, random: &mut Random) -> Sides {
+        let areas = || [Vec::new(), Vec::new()];
         Sides {
             course,
             noise: (0..200_000).map(|_| random.byte()).collect(),
-            cover: [Vec::new(), Vec::new()],
-            scratch: [Vec::new(), Vec::new()],
+            cover: areas(),
+            scratch: areas(),
+            loader: areas(),
             tally: Tally::default(),
         }
     }
@@ -229,27 +249,32 @@ impl Sides {
         Sides::fill(&mut self.scratch, &self.noise[at..at + length]);
     }
 
-    /// Map of one pair of net and target; lengths are those of cover area and scratch.
-    pub fn map(
-        &mut self,
-        random: &mut Random,
-        net: &[u8],
-        k: u32,
-        target: u32,
-        lengths: (usize, usize),
-    ) {
+    /// Map of one pair of net and target.
+    pub fn map(&mut self, random: &mut Random, net: &[u8], k: u32, target: u32, lengths: Lengths) {
         let at = random.below(100_000);
-        Sides::fill(&mut self.cover, &self.noise[at..at + lengths.0]);
-        self.fill_scratch(random, lengths.1);
+        Sides::fill(&mut self.cover, &self.noise[at..at + lengths.cover]);
+        let length = lengths.loader.unwrap_or(0);
+        if length > 0 {
+            let at = random.below(100_000);
+            Sides::fill(&mut self.loader, &self.noise[at..at + length]);
+        } else {
+            Sides::fill(&mut self.loader, &[]);
+        }
+        self.fill_scratch(random, lengths.scratch);
         let [cover, other_cover] = &mut self.cover;
         let [scratch, other_scratch] = &mut self.scratch;
+        let [loader, other_loader] = &mut self.loader;
         let course = self.course;
-        let expected =
-            second::map_within(course, LIMITS, net, k, target, other_cover, other_scratch);
-        let found = if course == SHORT {
-            kamfelu::short_map(net, k, target, cover, scratch)
-        } else {
-            kamfelu::map(net, k, target, cover, scratch)
+        let areas = Areas {
+            cover: other_cover,
+            scratch: other_scratch,
+            loader: other_loader,
+        };
+        let expected = second::map_within(course, LIMITS, net, k, target, areas);
+        let found = match (lengths.loader, course) {
+            (None, SHORT) => kamfelu::short_map(net, k, target, cover, scratch),
+            (None, _) => kamfelu::map(net, k, target, cover, scratch),
+            (Some(_), _) => kamfelu::map_loader(net, k, target, cover, scratch, loader),
         };
         self.tally.count(expected);
         if expected == Answer::GaveUp {
@@ -259,28 +284,40 @@ impl Sides {
                     let checked = read_net(net, k).expect("a good net");
                     let read = read_record(&checked, k, &cover[..length]);
                     other_cover[..length].copy_from_slice(&cover[..length]);
-                    read.and_then(|read| check_cover(&checked, &read)).is_ok()
-                        && (target == 0 || u32::from(cover[0]) == target)
+                    read.is_ok_and(|read| {
+                        if !other_loader.is_empty() {
+                            let image = image(&read);
+                            other_loader[..image.len()].copy_from_slice(&image);
+                        }
+                        check_cover(&checked, &read).is_ok()
+                    }) && (target == 0 || u32::from(cover[0]) == target)
                 }
                 Err(number) => number == 12 && target != 0,
             };
             other_scratch[..SCRATCH_BYTES].fill(0);
-            let same = fits && cover == other_cover && scratch == other_scratch;
-            let told = || format!("net {net:?} k {k} target {target}: found {found:?}");
+            let same =
+                fits && cover == other_cover && scratch == other_scratch && loader == other_loader;
+            let told = || {
+                format!("net {net:?} k {k} target {target} lengths {lengths:?}: found {found:?}")
+            };
             self.tally.check(same, told);
             return;
         }
         let done = matches!(expected, Answer::Done(_));
         self.tally.deep += u64::from(done && target == 0 && other_cover[0] > 1);
         let answered = answer(found);
-        let same = answered == expected && cover == other_cover && scratch == other_scratch;
+        let same = answered == expected
+            && cover == other_cover
+            && scratch == other_scratch
+            && loader == other_loader;
         let told = || {
             let differs = |a: &[u8], b: &[u8]| a.iter().zip(b).position(|(a, b)| a != b);
             format!(
-                "net {net:?} k {k} target {target} lengths {lengths:?}: expected {expected:?}, \
-                 found {answered:?}, first other byte of cover {:?}, of scratch {:?}",
+                "net {net:?} k {k} target {target} {lengths:?}: expected {expected:?}, \
+                 found {answered:?}, first other byte of cover {:?}, of scratch {:?}, of loader {:?}",
                 differs(cover, other_cover),
-                differs(scratch, other_scratch)
+                differs(scratch, other_scratch),
+                differs(loader, other_loader)
             )
         };
         self.tally.check(same, told);
@@ -329,14 +366,34 @@ impl Sides {
 
     /// Map of a random net at its least period and at some targets.
     pub fn random_maps(&mut self, random: &mut Random) {
+        self.some_maps(random, |_| None);
+    }
+
+    /// The same with a loader area.
+    pub fn random_loads(&mut self, random: &mut Random) {
+        self.some_maps(random, |random| Some(some_loader(random)));
+    }
+
+    fn some_maps(&mut self, random: &mut Random, loader: fn(&mut Random) -> Option<usize>) {
         let (net, pins) = some_net(random);
         let k = some_k(random, pins);
-        self.map(random, &net, k, 0, (COVER_BYTES, SCRATCH_BYTES));
+        let lengths = Lengths {
+            cover: COVER_BYTES,
+            scratch: SCRATCH_BYTES,
+            loader: loader(random),
+        };
+        self.map(random, &net, k, 0, lengths);
         // The record's first byte, the least period where there was one.
         let least = u32::from(self.cover[1][0] % 33);
         for _ in 0..random.within(1, 4) {
             let target = some_target(random, least);
-            let lengths = some_lengths(random);
+            let (cover, scratch) = some_lengths(random);
+            let loader = loader(random);
+            let lengths = Lengths {
+                cover,
+                scratch,
+                loader,
+            };
             self.map(random, &net, k, target, lengths);
         }
     }
@@ -362,6 +419,7 @@ impl Sides {
             return;
         };
         let mut bytes = encode_with_holes(&net, random);
+        bytes = some_section(random, bytes);
         match random.below(20) {
             0 => bytes = damaged_net(random, &bytes),
             1 => record = damaged(random, &record),
@@ -386,6 +444,16 @@ fn answer(found: Result<usize, u8>) -> Answer {
     match found {
         Ok(number) => Answer::Done(number as u32),
         Err(number) => Answer::Refused(number),
+    }
+}
+
+/// Mostly a loader area that is long enough; none and short ones among them.
+fn some_loader(random: &mut Random) -> usize {
+    match random.below(10) {
+        0 => 0,
+        1 => random.pick(&[1, 8, 16, 128, 254, 255]),
+        2 => random.pick(&[300, 1000, 65_536]),
+        _ => random.within(LOADER_BYTES, LOADER_BYTES + 1),
     }
 }
 
@@ -435,11 +503,23 @@ pub fn some_net(random: &mut Random) -> (Vec<u8>, usize) {
         4 => random.pick(&[net_a as fn() -> Vec<u8>, net_c, || net_b(0), || net_b(1)])(),
         _ => encode_with_holes(&random_net(random, &shape), random),
     };
+    let bytes = some_section(random, bytes);
     let bytes = match random.below(10) {
         0..=2 => damaged_net(random, &bytes),
         _ => bytes,
     };
     (bytes, pins)
+}
+
+/// Where nets with a section are taken, now and then one behind a net that is read; it changes no answer.
+fn some_section(random: &mut Random, net: Vec<u8>) -> Vec<u8> {
+    if !SECTIONS || random.chance(75) {
+        return net;
+    }
+    match parse_net(&net, 6) {
+        Ok(read) => with_section(&net, &random_section(read.nodes(), random)),
+        Err(_) => net,
+    }
 }
 
 /// The listing program on a random net, against the second mapper's text.

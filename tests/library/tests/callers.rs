@@ -5,8 +5,12 @@ use std::path::{Path, PathBuf};
 use std::process::Command;
 
 /// The examples, and what each prints.
-const PRINTED: [(&str, &str); 4] = [
+const PRINTED: [(&str, &str); 5] = [
     ("map_and_mark", "map: 16 bytes, period 2\nmark: excess 1\n"),
+    (
+        "loader",
+        "map: 16 bytes, 2 LUTs\n88 88 88 88 88 88 88 88\n99 99 99 99 99 99 99 99\n",
+    ),
     ("class", "class of 232: 23\n"),
     ("align", "align: shift 3\n"),
     (

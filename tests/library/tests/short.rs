@@ -26,7 +26,7 @@ fn random_candidates() {
 #[test]
 fn hand_made_nets_with_all_k() {
     let targets: Vec<u32> = (0..=9).chain(31..=34).collect();
-    all_maps(SHORT, &hand_made(), &targets);
+    all_maps(SHORT, &hand_made(), &targets, &[None]);
 }
 
 /// Both courses on the same inputs: the same within both, and beyond 1, then 5.

@@ -115,7 +115,9 @@ fn the_stack_fits_256_kib() {
         }
     }
     let all = functions(&lines.join("\n"));
-    assert!(all.contains_key("kamfelu_map") && all.contains_key("kamfelu_mark"));
+    for job in ["kamfelu_map", "kamfelu_map_loader", "kamfelu_mark"] {
+        assert!(all.contains_key(job), "{job}");
+    }
 
     let mut total = ROOM;
     for (name, function) in &all {
@@ -127,7 +129,8 @@ fn the_stack_fits_256_kib() {
     assert!(total <= STACK, "{total} bytes");
 }
 
-/// Map and mark on nets of all families, at all k, in a thread with so little stack.
+/// Map, with and without a loader area, and mark on nets of all families, at all k, in a thread with so little
+/// stack.
 #[test]
 fn calls_in_a_small_thread() {
     let mut random = Random::new(4100);
@@ -141,6 +144,7 @@ fn calls_in_a_small_thread() {
     let work = move || {
         let mut scratch = vec![0u8; kamfelu::SCRATCH];
         let mut cover = vec![0u8; kamfelu::COVER_AREA];
+        let mut loader = vec![0u8; kamfelu::LOADER_AREA];
         let mut accepted = 0;
         for net in &nets {
             for k in 2..=6 {
@@ -149,6 +153,8 @@ fn calls_in_a_small_thread() {
                 };
                 let excess = kamfelu::mark(net, k, &cover[..length], &mut scratch);
                 assert_eq!(excess, Ok(0));
+                let loaded = kamfelu::map_loader(net, k, 0, &mut cover, &mut scratch, &mut loader);
+                assert_eq!(loaded, Ok(length));
                 accepted += 1;
             }
         }

@@ -38,17 +38,18 @@ pub fn cone_of(net: &Net, v: usize, leaves: &[NodeCopy]) -> Option<Vec<NodeCopy>
 
 /// The value of v:0 for each choice of leaf values, leaf j being bit j.
 pub fn lut_table(net: &Net, v: usize, leaves: &[NodeCopy]) -> u64 {
-    let mut table = 0;
-    for choice in 0..1u64 << leaves.len() {
-        let mut known: BTreeMap<NodeCopy, bool> = BTreeMap::new();
-        for (j, &leaf) in leaves.iter().enumerate() {
-            known.insert(leaf, choice >> j & 1 == 1);
-        }
-        if value(net, NodeCopy { node: v, d: 0 }, &mut known) {
-            table |= 1 << choice;
-        }
-    }
-    table
+    let choices = 0..1u64 << leaves.len();
+    choices
+        .filter(|&choice| lut_value(net, v, leaves, choice))
+        .map(|choice| 1 << choice)
+        .sum()
+}
+
+/// The value of v:0 where leaf j carries bit j of a choice; further bits are on no leaf.
+pub fn lut_value(net: &Net, v: usize, leaves: &[NodeCopy], choice: u64) -> bool {
+    let carried = |(j, &leaf): (usize, &NodeCopy)| (leaf, choice >> j & 1 == 1);
+    let mut known: BTreeMap<NodeCopy, bool> = leaves.iter().enumerate().map(carried).collect();
+    value(net, NodeCopy { node: v, d: 0 }, &mut known)
 }
 
 /// The value of a gate's copy from the known ones.

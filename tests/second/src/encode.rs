@@ -1,7 +1,7 @@
-//! The record of a net.
+//! The record of a net, and a section behind it.
 
 use crate::bytes::put_table;
-use crate::net::{Gate, Net};
+use crate::net::{Gate, Net, MOST_PAST, SECTION_BIT};
 use crate::random::Random;
 
 /// The pin maps without holes.
@@ -16,6 +16,19 @@ pub fn encode_with_holes(net: &Net, random: &mut Random) -> Vec<u8> {
         random.shuffle(&mut places);
         places[..pins].iter().map(|j| 1 << j).sum()
     })
+}
+
+/// A net's record with a section behind it.
+pub fn with_section(net: &[u8], section: &[u8]) -> Vec<u8> {
+    let mut bytes = [net, section].concat();
+    bytes[0] |= SECTION_BIT;
+    bytes
+}
+
+/// Any values before step 0 for so many nodes.
+pub fn random_section(nodes: usize, random: &mut Random) -> Vec<u8> {
+    let past = |_| random.byte() & MOST_PAST;
+    (0..nodes).map(past).collect()
 }
 
 fn encode_with(net: &Net, mut map: impl FnMut(usize) -> u8) -> Vec<u8> {

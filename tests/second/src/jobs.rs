@@ -1,7 +1,8 @@
 //! The jobs map and mark with all refusals, and what they do to the areas.
 
-use crate::cover::{read_record, write_record};
+use crate::cover::{read_record, write_record, Cover};
 use crate::cuts::Limits;
+use crate::loader::{image, LOADER_BYTES};
 use crate::mark::check_cover;
 use crate::net::{read_net, Net};
 use crate::solve::{least_period_within, solve, Stop};
@@ -41,9 +42,33 @@ impl From<Stop> for Answer {
     }
 }
 
+/// The areas lent to map. A loader area of length 0 counts as none.
+pub struct Areas<'a> {
+    pub cover: &'a mut [u8],
+    pub scratch: &'a mut [u8],
+    pub loader: &'a mut [u8],
+}
+
 /// The cover of a net for k and a target is written to the cover area.
 pub fn map(net: &[u8], k: u32, target: u32, cover: &mut [u8], scratch: &mut [u8]) -> Answer {
-    map_within(LONG, Limits::default(), net, k, target, cover, scratch)
+    map_loader(net, k, target, cover, scratch, &mut [])
+}
+
+/// Map, and the cover's image is written to the loader area if one is lent.
+pub fn map_loader(
+    net: &[u8],
+    k: u32,
+    target: u32,
+    cover: &mut [u8],
+    scratch: &mut [u8],
+    loader: &mut [u8],
+) -> Answer {
+    let areas = Areas {
+        cover,
+        scratch,
+        loader,
+    };
+    map_within(LONG, Limits::default(), net, k, target, areas)
 }
 
 /// The same of a course, with limits of one's own.
@@ -53,8 +78,7 @@ pub fn map_within(
     net: &[u8],
     k: u32,
     target: u32,
-    cover: &mut [u8],
-    scratch: &mut [u8],
+    areas: Areas,
 ) -> Answer {
     if !(2..=course.k).contains(&k) {
         return Answer::Refused(1);
@@ -62,21 +86,35 @@ pub fn map_within(
     if target > MOST_TARGET {
         return Answer::Refused(2);
     }
-    if cover.len() < COVER_BYTES || scratch.len() < SCRATCH_BYTES {
+    if areas.cover.len() < COVER_BYTES || areas.scratch.len() < SCRATCH_BYTES {
         return Answer::Refused(3);
     }
-    match map_record(course, limits, net, k, target) {
-        Ok(record) => {
-            cover[..record.len()].copy_from_slice(&record);
-            scratch[..SCRATCH_BYTES].fill(0);
-            Answer::Done(record.len() as u32)
-        }
-        Err(Stop::Refused(number)) => {
-            scratch[..SCRATCH_BYTES].fill(0);
-            Answer::Refused(number)
-        }
-        Err(Stop::GaveUp) => Answer::GaveUp,
+    let short = (1..LOADER_BYTES).contains(&areas.loader.len());
+    let mapped = if short {
+        Err(Stop::Refused(20))
+    } else {
+        map_cover(course, limits, net, k, target)
+    };
+    let answer = match mapped {
+        Ok(cover) => Answer::Done(write(&cover, areas.cover, areas.loader)),
+        Err(stop) => Answer::from(stop),
+    };
+    if answer != Answer::GaveUp {
+        areas.scratch[..SCRATCH_BYTES].fill(0);
     }
+    answer
+}
+
+/// The record to the cover area and, if a loader area is lent, the image to that; the
+/// record's length.
+fn write(cover: &Cover, area: &mut [u8], loader: &mut [u8]) -> u32 {
+    let record = write_record(cover);
+    area[..record.len()].copy_from_slice(&record);
+    if !loader.is_empty() {
+        let image = image(cover);
+        loader[..image.len()].copy_from_slice(&image);
+    }
+    record.len() as u32
 }
 
 /// A net of a course. Where its second byte says too many gates the walk ends there at the latest,
@@ -88,16 +126,16 @@ fn net_of(course: Course, net: &[u8], k: u32) -> Result<Net, Stop> {
     read_net(net, k).map_err(Stop::Refused)
 }
 
-fn map_record(
+fn map_cover(
     course: Course,
     limits: Limits,
     net: &[u8],
     k: u32,
     target: u32,
-) -> Result<Vec<u8>, Stop> {
+) -> Result<Cover, Stop> {
     let net = net_of(course, net, k)?;
     let (cover, _) = solve(&net, k, target, limits)?;
-    Ok(write_record(&cover))
+    Ok(cover)
 }
 
 /// The excess of a candidate's record: its period less the least period.

@@ -7,6 +7,7 @@
 //! On nets with too many cuts it gives up and says so. The jobs of document 02 have their own modules.
 
 pub mod align;
+pub mod bench;
 pub mod bytes;
 pub mod classes;
 pub mod cone;
@@ -19,6 +20,7 @@ pub mod generate;
 pub mod jobs;
 pub mod labels;
 pub mod listing;
+pub mod loader;
 pub mod mark;
 pub mod net;
 pub mod programs;
@@ -27,14 +29,17 @@ pub mod run;
 pub mod solve;
 
 pub use align::align;
+pub use bench::{bench, Bench};
 pub use classes::class_table;
-pub use cone::{cone_of, lut_table};
+pub use cone::{cone_of, lut_table, lut_value};
 pub use cover::{read_record, write_record, Cover, Lut};
 pub use cuts::{all_cuts, all_cuts_within, Cut, CutSets, Limits};
 pub use find::find_root;
-pub use jobs::{map, map_within, mark, mark_within, Answer};
+pub use jobs::{map, map_loader, map_within, mark, mark_within, Answer, Areas};
 pub use labels::{chosen_cut, lag_of, least_labels, least_labels_over, Outcome};
 pub use listing::{listing, listing_within};
-pub use net::{check_net, parse_net, read_net, Gate, Net, NodeCopy, Output, Pin};
+pub use net::{
+    check_net, parse_net, parse_with_section, read_net, Gate, Net, NodeCopy, Output, Pin, Section,
+};
 pub use random::Random;
 pub use solve::{least_period, solve, Stop};

@@ -1,10 +1,10 @@
-//! `second listing`, `second map`, `second mark`, `second reading` and `second classes` over
-//! standard input and output.
+//! `second listing`, `second map`, `second mark`, `second bench`, `second reading` and `second classes`
+//! over standard input and output.
 //!
 //! Exit codes: 0 also for refusals, 2 for a wrong call, 3 where it gave up.
 
 use second::listing::GAVE_UP;
-use second::programs::{classes, listing, map, mark, reading};
+use second::programs::{bench, classes, listing, map, mark, reading};
 use std::io::{Read, Write};
 use std::process::ExitCode;
 
@@ -14,10 +14,11 @@ fn main() -> ExitCode {
         [verb] if verb == "listing" => listing,
         [verb] if verb == "map" => map,
         [verb] if verb == "mark" => mark,
+        [verb] if verb == "bench" => bench,
         [verb] if verb == "reading" => reading,
         [verb] if verb == "classes" => classes,
         _ => {
-            eprintln!("usage: second listing | map | mark | reading | classes");
+            eprintln!("usage: second listing | map | mark | bench | reading | classes");
             return ExitCode::from(2);
         }
     };

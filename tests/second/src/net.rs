@@ -1,4 +1,4 @@
-//! The net: its record read with the refusals 4 to 8, and the checks 9 to 11.
+//! The net: its record read with the refusals 4 to 8, with a last section or without, and the checks 9 to 11.
 
 use crate::bytes::Walk;
 
@@ -7,6 +7,14 @@ pub const MOST_INPUTS: u8 = 16;
 pub const MOST_GATES: u8 = 32;
 pub const MOST_OUTPUTS: u8 = 16;
 pub const MOST_COUNT: u8 = 3;
+
+/// The bit of the first byte that says that a section follows (document 02, E5), and the largest byte of one.
+pub const SECTION_BIT: u8 = 1 << 7;
+pub const MOST_PAST: u8 = 7;
+
+/// Whether map, mark, the listing and the reader take nets with a section; where not, its bit makes the
+/// inputs too many. The bench always takes them.
+pub const SECTIONS: bool = false;
 
 /// A pin reads `source` through `count` registers.
 #[derive(Clone, Copy, Debug, PartialEq, Eq)]
@@ -32,6 +40,9 @@ pub struct Net {
     pub gates: Vec<Gate>,
     pub outputs: Vec<Output>,
 }
+
+/// A byte for each node, inputs first: bits 0 to 2 are its values one, two and three steps before step 0.
+pub type Section = Vec<u8>;
 
 /// The copy `node:d`, the node seen d registers back. Ordered by node, then by d.
 #[derive(Clone, Copy, Debug, PartialEq, Eq, PartialOrd, Ord, Hash)]
@@ -130,11 +141,22 @@ impl Net {
     }
 }
 
-/// Read a net record; 4 to 8, the first met counting.
+/// Read a net record; 4 to 8, the first met counting. A section changes nothing of the net.
 pub fn parse_net(bytes: &[u8], k: u32) -> Result<Net, u8> {
+    parse(bytes, k, SECTIONS).map(|(net, _)| net)
+}
+
+/// The same with the section, if the record has one.
+pub fn parse_with_section(bytes: &[u8], k: u32) -> Result<(Net, Option<Section>), u8> {
+    parse(bytes, k, true)
+}
+
+fn parse(bytes: &[u8], k: u32, sections: bool) -> Result<(Net, Option<Section>), u8> {
     let mut walk = Walk::new(bytes, 4);
     let within = |most: u8| move |byte: u8| (1..=most).contains(&byte);
-    let inputs = usize::from(walk.take_if(5, within(MOST_INPUTS))?);
+    let bit = if sections { SECTION_BIT } else { 0 };
+    let first = walk.take_if(5, |byte| within(MOST_INPUTS)(byte & !bit))?;
+    let inputs = usize::from(first & !bit);
     let gates = usize::from(walk.take_if(5, within(MOST_GATES))?);
     let outputs = walk.take_if(5, within(MOST_OUTPUTS))?;
     let nodes = inputs + gates;
@@ -149,8 +171,14 @@ pub fn parse_net(bytes: &[u8], k: u32) -> Result<Net, u8> {
     for _ in 0..outputs {
         net.outputs.push(parse_output(&mut walk, nodes)?);
     }
+    let section = if first & bit == 0 {
+        None
+    } else {
+        let past = (0..nodes).map(|_| walk.take_if(6, |byte| byte <= MOST_PAST));
+        Some(past.collect::<Result<Section, u8>>()?)
+    };
     if walk.at_end() {
-        Ok(net)
+        Ok((net, section))
     } else {
         Err(8)
     }

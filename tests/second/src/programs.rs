@@ -1,5 +1,6 @@
 //! What the programs print for the bytes they are given.
 
+use crate::bench::{self};
 use crate::classes::class_table;
 use crate::jobs::{self, Answer, COVER_BYTES, SCRATCH_BYTES};
 use crate::listing::{self, refused, GAVE_UP};
@@ -50,6 +51,14 @@ pub fn mark(given: &[u8]) -> Vec<u8> {
         Answer::Refused(number) => refused(number).into_bytes(),
         Answer::GaveUp => GAVE_UP.as_bytes().to_vec(),
     }
+}
+
+/// k, the net's length in two bytes, net, two bytes for each step: a line of 0s and 1s for each step, or
+/// `refused N`.
+pub fn bench(given: &[u8]) -> Vec<u8> {
+    let (net, pairs) = net_and_rest(given);
+    let text = bench::bench(byte(given, 0), net, pairs);
+    text.unwrap_or_else(refused).into_bytes()
 }
 
 /// Cases one behind the other, each k, the net's length in two bytes and the net: for

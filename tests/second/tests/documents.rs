@@ -2,7 +2,7 @@
 //! Names stand in backquotes, in the forms that docs/TRACE.md gives; a bare name behind a comma
 //! belongs to the crate or file of the name before. Each test prints all stale names at once.
 
-use std::collections::BTreeSet;
+use std::collections::{BTreeMap, BTreeSet};
 use std::fs;
 use std::path::{Path, PathBuf};
 
@@ -319,8 +319,44 @@ fn refusals_of_the_header() {
             wrong.push(format!("{place}: not in the header"));
         }
     }
-    assert_eq!(numbers, (1..=19).chain([23]).collect::<Vec<u8>>());
+    assert_eq!(numbers, (1..=20).chain([23]).collect::<Vec<u8>>());
     fail_on(wrong);
+}
+
+/// The functions behind a word, such as `fn`, and the number of their parameters; a slice counts twice.
+fn functions<'a>(text: &'a str, word: &str) -> BTreeMap<&'a str, usize> {
+    let mut all = BTreeMap::new();
+    for part in text.split(word).skip(1) {
+        let (name, rest) = part.split_once('(').expect("parameters");
+        let list = rest.split(')').next().expect("an end");
+        let parameters = list
+            .split(',')
+            .filter(|parameter| !parameter.trim().is_empty());
+        let count = parameters.map(|parameter| 1 + usize::from(parameter.contains('[')));
+        all.insert(name.trim(), count.sum());
+    }
+    all
+}
+
+/// Header and Rust crate declare the same functions, with as many parameters, those of the library among them.
+#[test]
+fn functions_of_the_library() {
+    let header = read("include/kamfelu.h");
+    let outside = header
+        .split("/*")
+        .map(|part| part.split("*/").last().unwrap());
+    let declared = outside
+        .collect::<String>()
+        .replace(" kamfelu_", " fn kamfelu_");
+    let declared = functions(&declared, " fn ");
+    let wrapper = read("rust/src/lib.rs");
+    let (_, block) = wrapper.split_once("\nextern \"C\" {").expect("a block");
+    let block = block.split("\n}").next().expect("its end");
+    assert_eq!(functions(block, " fn "), declared);
+    let library = read("crates/kamfelu/src/lib.rt");
+    for (name, count) in functions(&library, "\npub extern \"C\" fn ") {
+        assert_eq!(declared.get(name), Some(&count), "{name}");
+    }
 }
 
 /// What a caller must know of the stack is one sentence.

@@ -1,7 +1,10 @@
 //! docs/FORMATS.md: its bytes are those of the example files, and its shell lines make files for which
 //! the programs print what it says. The second mapper stands for the programs.
 
+use second::bytes::table_bytes;
+use second::loader::image;
 use second::programs::{listing, map, mark};
+use second::{read_net, solve, Cover, Limits, Lut, NodeCopy};
 use std::fs;
 use std::path::Path;
 use std::process::Command;
@@ -66,6 +69,41 @@ fn cover_of_net_a() {
     assert_eq!(marked, file("examples/mark-a.bin"));
     assert!(marked.ends_with(&cover));
     assert_eq!(mark(&marked), b"excess 1\n");
+}
+
+#[test]
+fn loader_image() {
+    let heading = "The loader image";
+    let net = read_net(&file("examples/net-a.bin")[2..], 2).expect("net A");
+    let (cover, _) = solve(&net, 2, 0, Limits::default()).expect("a cover");
+    assert_eq!(column(heading), image(&cover));
+    // A row for each number of leaves: a table as the record has it, then its image, if that is another.
+    let text = section(heading);
+    let cells = text.lines().map(|line| line.split('|').map(str::trim));
+    let rows = cells.map(|cells| cells.collect::<Vec<&str>>());
+    let rows = rows.filter(|row| row.len() > 4 && row[1].parse::<usize>().is_ok());
+    let mut leaves = 0;
+    for row in rows {
+        leaves += 1;
+        let numbers = row[1..3].iter().map(|cell| cell.parse());
+        assert!(numbers.eq([Ok(leaves), Ok(1 << leaves)]), "{row:?}");
+        let mut quoted = row[4].split('`').skip(1).step_by(2).map(bytes);
+        let table = quoted.next().expect("a table");
+        assert_eq!(table.len(), table_bytes(leaves));
+        let places = (0..).step_by(8).zip(&table);
+        let lut = Lut {
+            root: 6,
+            leaves: (0..leaves).map(|node| NodeCopy { node, d: 0 }).collect(),
+            lag: 0,
+            table: places.map(|(at, &byte)| u64::from(byte) << at).sum(),
+        };
+        let cover = Cover {
+            period: 1,
+            luts: vec![lut],
+        };
+        assert_eq!(quoted.next().unwrap_or(table), image(&cover), "{row:?}");
+    }
+    assert_eq!(leaves, 6);
 }
 
 #[test]

@@ -66,6 +66,19 @@ fn mark() {
 }
 
 #[test]
+fn bench() {
+    // Net C with a section, two steps and a lone byte.
+    let net = [130, 1, 1, 3, 3, 0, 1, 1, 1, 8, 0, 2, 1, 1, 0];
+    let given = [&[2, 15, 0][..], &net, &[2, 0, 9, 0, 3]].concat();
+    assert_eq!(text("bench", &given), "1\n0\n");
+    assert_eq!(text("bench", &given[..18]), "");
+    assert_eq!(text("bench", &given[..17]), "refused 4\n");
+    assert_eq!(text("bench", &[]), "refused 1\n");
+    let without = [&[2, 20, 0][..], &net_a()].concat();
+    assert_eq!(text("bench", &without), "refused 21\n");
+}
+
+#[test]
 fn reading() {
     let case = |k: u8| [&[k, net_a().len() as u8, 0][..], &net_a()].concat();
     let given = [case(2), case(1), vec![2, 1, 0, 17], vec![2]].concat();

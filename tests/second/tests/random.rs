@@ -7,8 +7,11 @@ use second::damage::{candidate, damaged_net};
 use second::encode::{encode, encode_with_holes};
 use second::generate::{random_net, wild_net, Shape};
 use second::jobs::{COVER_BYTES, LONG, SCRATCH_BYTES};
+use second::loader::LOADER_BYTES;
 use second::run::cover_runs_as_net;
-use second::{check_net, parse_net, read_net, read_record, write_record, Answer, Limits, Random};
+use second::{
+    check_net, parse_net, read_net, read_record, write_record, Answer, Areas, Limits, Random,
+};
 
 #[test]
 fn records_of_map_are_accepted_by_mark() {
@@ -140,11 +143,18 @@ fn giving_up_is_no_refusal() {
         let bytes = encode(&random_net(&mut random, &shape));
         let mut cover = vec![7; COVER_BYTES];
         let mut scratch = vec![9; SCRATCH_BYTES];
-        let answer = second::map_within(LONG, limits, &bytes, 4, 0, &mut cover, &mut scratch);
+        let mut loader = vec![5; LOADER_BYTES];
+        let areas = Areas {
+            cover: &mut cover,
+            scratch: &mut scratch,
+            loader: &mut loader,
+        };
+        let answer = second::map_within(LONG, limits, &bytes, 4, 0, areas);
         let record = map(&bytes, 4, 0).unwrap();
         if answer == Answer::GaveUp {
             gave_up += 1;
             assert!(cover.iter().all(|&b| b == 7) && scratch.iter().all(|&b| b == 9));
+            assert!(loader.iter().all(|&b| b == 5));
             assert_eq!(second::listing_within(limits, 4, 0, &bytes), "gave up\n");
         } else {
             assert_eq!(answer, Answer::Done(record.len() as u32));

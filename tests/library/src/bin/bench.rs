@@ -90,7 +90,13 @@ impl Areas {
     /// The second mapper's answer and time.
     fn second(&mut self, net: &[u8], k: u32) -> (Answer, Duration) {
         self.best(|Areas { cover, scratch }| {
-            second::map_within(LONG, LIMITS, net, k, 0, cover, scratch)
+            let loader = &mut [];
+            let areas = second::Areas {
+                cover,
+                scratch,
+                loader,
+            };
+            second::map_within(LONG, LIMITS, net, k, 0, areas)
         })
     }
 }

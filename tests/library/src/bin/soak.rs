@@ -1,5 +1,5 @@
-//! Map, mark, those of the short course and now and then the listing program against the second mapper
-//! for some minutes, on nets and candidates of every kind.
+//! Map with and without a loader area, mark, those of the short course and now and then the listing program
+//! against the second mapper for some minutes, on nets and candidates of every kind.
 //!
 //! `soak [minutes] [seed]`: 20 minutes, and a seed from the clock. The exit code is 1 if
 //! there is a difference.
@@ -59,11 +59,13 @@ fn main() -> ExitCode {
     let told = each_thread(|thread, _| {
         let mut random = Random::new(seed.wrapping_mul(1_000_151).wrapping_add(thread));
         let mut maps = Sides::new(&mut random);
+        let mut loads = Sides::new(&mut random);
         let mut marks = Sides::new(&mut random);
         let mut short = Sides::of(SHORT, &mut random);
         let mut texts = Tally::default();
         while Instant::now() < end {
             maps.random_maps(&mut random);
+            loads.random_loads(&mut random);
             marks.random_mark(&mut random);
             match random.below(8) {
                 0 => marks.reader_piece(&mut random),
@@ -78,14 +80,16 @@ fn main() -> ExitCode {
                 random_listing(&mut texts, &mut random);
             }
         }
-        [maps.tally, marks.tally, short.tally, texts]
+        [maps.tally, loads.tally, marks.tally, short.tally, texts]
     });
     let mut maps = Tally::default();
+    let mut loads = Tally::default();
     let mut marks = Tally::default();
     let mut shorts = Tally::default();
     let mut texts = Tally::default();
-    for [map, mark, short, text] in told {
+    for [map, load, mark, short, text] in told {
         maps.add(map);
+        loads.add(load);
         marks.add(mark);
         shorts.add(short);
         texts.add(text);
@@ -93,11 +97,13 @@ fn main() -> ExitCode {
     let of_map: Vec<usize> = (1..=12).collect();
     let of_mark: Vec<usize> = [1].into_iter().chain(3..=11).chain(13..=18).collect();
     print("map", &maps, &of_map, "length", 100);
+    let of_load: Vec<usize> = (1..=12).chain([20]).collect();
+    print("map with a loader", &loads, &of_load, "length", 100);
     print("mark", &marks, &of_mark, "excess", 1);
     let of_both: Vec<usize> = (1..=18).collect();
     print("short course", &shorts, &of_both, "done", 100);
     print("listing", &texts, &[], "", 1);
     println!("seed {seed}");
-    let differences = maps.differences + marks.differences + shorts.differences + texts.differences;
-    ExitCode::from(u8::from(differences > 0))
+    let all = [maps, loads, marks, shorts, texts];
+    ExitCode::from(u8::from(all.iter().any(|tally| tally.differences > 0)))
 }

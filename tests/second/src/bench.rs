@@ -1,0 +1,72 @@
+//! A net run on the bench (document 02, E5), step by step: gates in an order in which a pin without
+//! registers reads an earlier gate, with the last three values of each node kept.
+
+use crate::jobs::LONG;
+use crate::net::{check_net, parse_with_section, Gate, Net, Pin};
+
+/// The most steps that are run.
+pub const MOST_STEPS: usize = 65_535;
+
+/// A net between two steps.
+pub struct Bench<'a> {
+    net: &'a Net,
+    order: Vec<usize>,
+    /// Each node's values at the last step and one, two and three steps before it.
+    values: Vec<[bool; 4]>,
+}
+
+impl<'a> Bench<'a> {
+    /// Before step 0. The net passed the checks, the section has a byte for each node.
+    pub fn new(net: &'a Net, section: &[u8]) -> Bench<'a> {
+        let past = |&byte: &u8| [0, 1, 2, 3].map(|bit| byte >> bit & 1 == 1);
+        Bench {
+            net,
+            order: net.order().expect("a loop has no register"),
+            values: section.iter().map(past).collect(),
+        }
+    }
+
+    /// The next step, with input i in bit i: the values of the outputs.
+    pub fn step(&mut self, inputs: u16) -> Vec<bool> {
+        for (node, values) in self.values.iter_mut().enumerate() {
+            values.rotate_right(1);
+            if node < self.net.inputs {
+                values[0] = inputs >> node & 1 == 1;
+            }
+        }
+        for &gate in &self.order {
+            let Gate { pins, table } = self.net.gate(gate);
+            let mut index = 0;
+            for (j, pin) in pins.iter().enumerate() {
+                index |= u32::from(self.read(pin)) << j;
+            }
+            self.values[gate][0] = table >> index & 1 == 1;
+        }
+        self.net
+            .outputs
+            .iter()
+            .map(|output| self.read(output))
+            .collect()
+    }
+
+    fn read(&self, pin: &Pin) -> bool {
+        self.values[pin.source][pin.count as usize]
+    }
+}
+
+/// A line for each pair of bytes, low first, that stands for a step, or the number of the refusal.
+pub fn bench(k: u32, net: &[u8], pairs: &[u8]) -> Result<String, u8> {
+    if !(2..=LONG.k).contains(&k) {
+        return Err(1);
+    }
+    let (net, section) = parse_with_section(net, k)?;
+    check_net(&net)?;
+    let mut bench = Bench::new(&net, &section.ok_or(21)?);
+    let mut text = String::new();
+    for pair in pairs.chunks_exact(2).take(MOST_STEPS) {
+        let outputs = bench.step(u16::from_le_bytes([pair[0], pair[1]]));
+        text.extend(outputs.iter().map(|&bit| if bit { '1' } else { '0' }));
+        text.push('\n');
+    }
+    Ok(text)
+}
