@@ -6,6 +6,7 @@ use cover_reader::read_cover;
 use inputs::narrow;
 use limits::LUTS;
 use limits::PINS;
+use limits::ROWS;
 use limits::Rules;
 use net_reader::NetSizes;
 use net_reader::delays_at;
@@ -20,9 +21,6 @@ ghost use Rattle.cone_descent.specs.Descent.{Clear};
 ghost use Rattle.cover_reader.specs.Reads.{heldIn};
 ghost use Rattle.job_judge.specs.MarkAnswers.{answerOf};
 ghost use Rattle.job_judge.specs.JudgeMarking.{HeldFor, Judging, CutsAsked, CutsToldOf, LinksAsked, LinksToldOf, MarksNet, MarksRead};
-
-// The places of a candidate's LUTs.
-const ROWS: usize = (2 + 2 * PINS) * LUTS;
 
 // The excess, or the number of the refusal.
 pub enum Grade {

@@ -63,8 +63,8 @@ mostNodes = mostInputs + mostGates
 abbrev pub mostPlaces : ℕ
 mostPlaces = mostPins * mostGates
 
-abbrev pub mostLeaves : ℕ
-mostLeaves = mostPins * mostLuts
+abbrev pub mostRows : ℕ
+mostRows = (2 + 2 * mostPins) * mostLuts
 
 -- a k-cut's cone: "so at most 192 copies", and no d above 576
 abbrev pub mostCopies : ℕ

@@ -3,7 +3,7 @@
 ghost use mathlib.Core.Path.{_≡_};
 ghost use Prim.Native.Nat.{_≤_};
 ghost use Rattle.limits.specs.Courses.{long, short};
-ghost use Rattle.limits.specs.Limits.{mostInputs, mostGates, mostOutputs, leastK, mostK, mostCount, mostPeriod, mostLuts, coverArea, scratchArea, loaderArea, shortGates, shortK, mostPins, mostItems, mostNodes, mostPlaces, mostLeaves, mostCopies, mostReach, mostBeyond, mostTable, mostList, mostStack, mostHeld, mostPacked, textRoom, refusalRoom, lineRoom, inputRoom};
+ghost use Rattle.limits.specs.Limits.{mostInputs, mostGates, mostOutputs, leastK, mostK, mostCount, mostPeriod, mostLuts, coverArea, scratchArea, loaderArea, shortGates, shortK, mostPins, mostItems, mostNodes, mostPlaces, mostRows, mostCopies, mostReach, mostBeyond, mostTable, mostList, mostStack, mostHeld, mostPacked, textRoom, refusalRoom, lineRoom, inputRoom};
 
 pub const INPUTS: usize = 16;
 
@@ -40,7 +40,7 @@ pub const NODES: usize = INPUTS + GATES;
 
 pub const PLACES: usize = PINS * GATES;
 
-pub const LEAVES: usize = PINS * LUTS;
+pub const ROWS: usize = (2 + 2 * PINS) * LUTS;
 
 pub const COPIES: usize = PINS * GATES;
 
@@ -97,7 +97,7 @@ pub struct Limits {
     pub items: usize,
     pub nodes: usize,
     pub places: usize,
-    pub leaves: usize,
+    pub rows: usize,
     pub copies: usize,
     pub slots: usize,
     pub reach: usize,
@@ -132,7 +132,7 @@ pub fn agree() -> Limits
     ensures items { λ r. ⌜ r .items ≡ mostItems ⌝ }
     ensures nodes { λ r. ⌜ r .nodes ≡ mostNodes ⌝ }
     ensures places { λ r. ⌜ r .places ≡ mostPlaces ⌝ }
-    ensures leaves { λ r. ⌜ r .leaves ≡ mostLeaves ⌝ }
+    ensures rows { λ r. ⌜ r .rows ≡ mostRows ⌝ }
     ensures copies { λ r. ⌜ r .copies ≡ mostCopies ⌝ }
     ensures slots { λ r. ⌜ r .slots ≡ mostK ⌝ }
     ensures reach { λ r. ⌜ r .reach ≡ mostReach ⌝ }
@@ -165,7 +165,7 @@ pub fn agree() -> Limits
         items: ITEMS,
         nodes: NODES,
         places: PLACES,
-        leaves: LEAVES,
+        rows: ROWS,
         copies: COPIES,
         slots: SLOTS,
         reach: REACH,
