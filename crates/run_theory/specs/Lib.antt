@@ -1,0 +1,6 @@
+pub mod Bench
+pub mod AgoLaws
+pub mod Rules
+pub mod LevelOf
+pub mod BenchLaws
+pub mod StepLaws
