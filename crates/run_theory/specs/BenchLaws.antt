@@ -31,9 +31,9 @@ pins-same N section section′ value value′ v t t′ h =
 pub bench-run : {N : Net} {section inputs value : ℕ → ℕ → Bool} → Bench N section inputs value → Run N value
 bench-run {section} {value} b = record {
   obeys = λ v t g exist.
-    b .gate v t g
-    ∙ ap (apply ((gate _ v) .table))
-    (map-same (pinFrom section value t) (λ (p : Pin). value (p .src) (t - p .count)) (pins _ v) (λ p m. ago-now (section (p .src)) (value (p .src)) t (p .count) (exist p m)));
+      b .gate v t g
+      ∙ ap (apply ((gate _ v) .table))
+      (map-same (pinFrom section value t) (λ (p : Pin). value (p .src) (t - p .count)) (pins _ v) (λ p m. ago-now (section (p .src)) (value (p .src)) t (p .count) (exist p m)));
 }
 
 -- **from step T on it is the run from the section taken there**
@@ -42,8 +42,8 @@ pub bench-later : {N : Net} {section inputs value : ℕ → ℕ → Bool} → Be
 bench-later {N} {section} {value} b T = record {
   input = λ v t h. b .input v (t + T) h;
   gate = λ v t g.
-    b .gate v (t + T) g
-    ∙ pins-same N section (sectionAt section value T) value (λ u s. value u (s + T)) v (t + T) t (λ p m. sym (ago-shift (section (p .src)) (value (p .src)) T t (p .count)));
+      b .gate v (t + T) g
+      ∙ pins-same N section (sectionAt section value T) value (λ u s. value u (s + T)) v (t + T) t (λ p m. sym (ago-shift (section (p .src)) (value (p .src)) T t (p .count)));
 }
 
 module _ {N : Net} (sound : Sound N) where
@@ -53,10 +53,10 @@ module _ {N : Net} (sound : Sound N) where
   bench-near {section} {section′} {value} {w} counts near b = record {
     input = b .input;
     gate = λ v t g.
-      b .gate v t g
-      ∙ pins-same N section section′ value value v t t
-      (λ p m. ago-agree (section (p .src)) (section′ (p .src)) (value (p .src)) (value (p .src)) t (p .count)
-      (λ j h. near (p .src) j (sound .pin v g p m) (let c = counts .pin v g p m in omega arith)) (λ s e. refl));
+        b .gate v t g
+        ∙ pins-same N section section′ value value v t t
+        (λ p m. ago-agree (section (p .src)) (section′ (p .src)) (value (p .src)) (value (p .src)) t (p .count)
+        (λ j h. near (p .src) j (sound .pin v g p m) (let c = counts .pin v g p m in omega arith)) (λ s e. refl));
   }
 
   module _ (loopless : Loopless N) where

@@ -1,4 +1,5 @@
 pub mod Bench
+pub mod BenchBytes
 pub mod AgoLaws
 pub mod Rules
 pub mod LevelOf
