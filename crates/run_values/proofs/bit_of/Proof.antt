@@ -1,18 +1,14 @@
+-- `run_values::bit_of` meets its contract.
 use native.Mathlib.Omega.{arith}
 use Rattle.net_model.specs.Tables.{bit}
 use Rattle.cone_values.specs.Words.{asNumber-small}
 use borrow.Author.Needs.{needs}
 use Rattle.run_values.proofs.bit_of.Statement.{statement}
 use Rattle.run_values.proofs.bit_of.Tie as tie
-use Rattle.run_values.proofs.bit_of.Reads as reads
-use Rattle.run_values.proofs.bit_of.Lts as lts
-use Rattle.cone_words.proofs.value_at.Reads as value-at-reads
 
--- src/lib.rt:30:5
 value-at-requires : tie.Need-value-at-requires
 value-at-requires c κs = search needs
 
--- src/lib.rt:26:1
 returns : tie.Need-returns
 returns c = (c .value-at .ensures, omega (arith, c .value-at .ensures, asNumber-small (bit (c .before .args .x) (c .before .args .i))))
 

@@ -7,32 +7,22 @@ use Rattle.run_values.specs.SheetLaws.{told-back, told-input, told-gate}
 use borrow.Author.Needs.{needs}
 use Rattle.run_values.proofs.told_value.Statement.{statement}
 use Rattle.run_values.proofs.told_value.Tie as tie
-use Rattle.run_values.proofs.told_value.Reads as reads
-use Rattle.run_values.proofs.told_value.Lts as lts
-use Rattle.run_values.proofs.bit_of.Reads as bit-of-reads
-use Rattle.run_values.proofs.long_byte.Reads as long-byte-reads
 
--- src/lib.rt:47:37
 shared-slice-read-long-byte : tie.Need-shared-slice-read-long-byte
 shared-slice-read-long-byte c = search needs
 
--- src/lib.rt:47:27
 long-byte-requires : tie.Need-long-byte-requires
 long-byte-requires c κs = search needs
 
--- src/lib.rt:47:47
 sub-bit-of : tie.Need-sub-bit-of
 sub-bit-of c = search needs
 
--- src/lib.rt:47:20
 bit-of-requires : tie.Need-bit-of-requires
 bit-of-requires c κs = search needs
 
--- src/lib.rt:47:16
 add-result : tie.Need-add-result
 add-result c = search needs
 
--- src/lib.rt:47:9
 returns : tie.Need-returns
 returns c =
     let a = c .before .before .before .before .before .before .args in
@@ -40,30 +30,24 @@ returns c =
     sym (told-back (a .z .inputs) (now (a .kept)) (a .word) (now (a .known)) (a .v) (a .back) (c .before .before .before .if1 .taken)
     ∙ ap (λ (x : ℕ). 1 + x) (ap (λ (x : ℕ). asNumber (bit x (a .back - 1))) (sym b) ∙ sym (c .bit-of .ensures .0)))
 
--- src/lib.rt:50:20
 bit-of-requires-2 : tie.Need-bit-of-requires-2
 bit-of-requires-2 c κs = search needs
 
--- src/lib.rt:50:16
 add-result-2 : tie.Need-add-result-2
 add-result-2 c = search needs
 
--- src/lib.rt:50:9
 returns-2 : tie.Need-returns-2
 returns-2 c =
     let a = c .before .before .before .before .before .before .args in
     sym (told-input (a .z .inputs) (now (a .kept)) (a .word) (now (a .known)) (a .v) (a .back) (c .before .before .before .if1 .left) (c .before .if2 .taken)
     ∙ ap (λ (x : ℕ). 1 + x) (sym (c .bit-of2 .ensures .0)))
 
--- src/lib.rt:52:5
 mul-result : tie.Need-mul-result
 mul-result c = search needs
 
--- src/lib.rt:52:5
 shared-slice-read-result : tie.Need-shared-slice-read-result
 shared-slice-read-result c = search needs
 
--- src/lib.rt:34:1
 returns-3 : tie.Need-returns-3
 returns-3 c =
     let a = c .before .before .before .before .before .before .before .args in
