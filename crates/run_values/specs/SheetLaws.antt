@@ -226,21 +226,52 @@ module _ {S : Sheet} {known : List ℕ} {v back : ℕ} (a : NodeAsked S known v 
     pub node-gate : (back ≡ 0) × (S .sizes .inputs ≤ v)
     node-gate = told-nothing (a .ready) v back (omega arith)
 
+    pub node-inside : v - S .sizes .inputs < S .sizes .gates
+    node-inside = omega (arith, node-gate .1, a .node)
+
+    pub node-few : getD (S .net) (v - S .sizes .inputs) 0 ≤ stride
+    node-few = a .ready .net .wires .pins (v - S .sizes .inputs) node-inside
+
+    -- the number that the pins from pin j on make
+    pub node-none : 0 ≡ pinsNow S (stride * (v - S .sizes .inputs) + getD (S .net) (v - S .sizes .inputs) 0) (getD (S .net) (v - S .sizes .inputs) 0 - getD (S .net) (v - S .sizes .inputs) 0)
+    node-none =
+        let at = stride * (v - S .sizes .inputs) + getD (S .net) (v - S .sizes .inputs) 0 in
+        let none : getD (S .net) (v - S .sizes .inputs) 0 - getD (S .net) (v - S .sizes .inputs) 0 ≡ 0 = omega arith in
+        sym (ap (pinsNow S at) none ∙ pins-none S at)
+
+    pub node-small : (at j : ℕ) → at ≡ pinsNow S (stride * (v - S .sizes .inputs) + j) (getD (S .net) (v - S .sizes .inputs) 0 - j) → at < 64
+    node-small at j e =
+        let few = node-few in
+        omega (arith, pins-low S (stride * (v - S .sizes .inputs) + j) (getD (S .net) (v - S .sizes .inputs) 0 - j) (omega arith))
+
+    -- one more pin in front of those passed
+    pub node-next : {old new : List ℕ} (at j r : ℕ) → 0 < j → j ≤ getD (S .net) (v - S .sizes .inputs) 0
+        → at ≡ pinsNow S (stride * (v - S .sizes .inputs) + j) (getD (S .net) (v - S .sizes .inputs) 0 - j) → PinTold S old new (stride * (v - S .sizes .inputs) + (j - 1)) r
+        → 2 * at + r ≡ pinsNow S (stride * (v - S .sizes .inputs) + (j - 1)) (getD (S .net) (v - S .sizes .inputs) 0 - (j - 1))
+    node-next at j r low high e t =
+        let g = v - S .sizes .inputs in
+        let n = getD (S .net) (v - S .sizes .inputs) 0 in
+        let more : n - (j - 1) ≡ suc (n - j) = omega arith in
+        let next : suc (stride * g + (j - 1)) ≡ stride * g + j = omega arith in
+        let made = pins-more S (stride * g + (j - 1)) (n - j) in
+        let all = ap (pinsNow S (stride * g + (j - 1))) more in
+        let rest = ap (λ (i : ℕ). pinsNow S i (n - j)) next in
+        omega (arith, t .value)
+
     -- its pins have to be asked
     module _ {known′ : List ℕ} (m : More S known known′) where
-      pub node-asks : (j : ℕ) → j < getD (S .net) (v - S .sizes .inputs) 0 → PinAsked S known′ (stride * (v - S .sizes .inputs) + j)
-      node-asks j h =
-          let low = node-gate .1 in
-          let few = a .ready .net .wires .pins (v - S .sizes .inputs) (omega (arith, a .node)) in
-          let place : (stride * (v - S .sizes .inputs) + j) / stride ≡ v - S .sizes .inputs = omega arith in
-          let pin : (stride * (v - S .sizes .inputs) + j) % stride ≡ j = omega arith in
-          record { ready = m .ready; gate = omega (arith, a .node); pin = omega (arith, ap (λ (g : ℕ). getD (S .net) g 0) place) }
+      pub node-asks : (j : ℕ) → 0 < j → j ≤ getD (S .net) (v - S .sizes .inputs) 0 → PinAsked S known′ (stride * (v - S .sizes .inputs) + (j - 1))
+      node-asks j low high =
+          let few = node-few in
+          let place : (stride * (v - S .sizes .inputs) + (j - 1)) / stride ≡ v - S .sizes .inputs = omega arith in
+          let pin : (stride * (v - S .sizes .inputs) + (j - 1)) % stride ≡ j - 1 = omega arith in
+          record { ready = m .ready; gate = omega (arith, node-inside); pin = omega (arith, ap (λ (g : ℕ). getD (S .net) g 0) place) }
 
-      pub node-falls-to : (j : ℕ) → j < getD (S .net) (v - S .sizes .inputs) 0 → pinMeasure S (stride * (v - S .sizes .inputs) + j) < nodeMeasure S v back
-      node-falls-to j h =
-          let low = node-gate .1 in
-          let few = a .ready .net .wires .pins (v - S .sizes .inputs) (omega (arith, a .node)) in
-          subst (λ (b : ℕ). pinMeasure S (stride * (v - S .sizes .inputs) + j) < nodeMeasure S v b) (sym (node-gate .0)) (pin-falls S v (stride * (v - S .sizes .inputs) + j) j low refl (omega arith))
+      pub node-falls-to : (j : ℕ) → 0 < j → j ≤ getD (S .net) (v - S .sizes .inputs) 0 → pinMeasure S (stride * (v - S .sizes .inputs) + (j - 1)) < nodeMeasure S v back
+      node-falls-to j low high =
+          let few = node-few in
+          subst (λ (b : ℕ). pinMeasure S (stride * (v - S .sizes .inputs) + (j - 1)) < nodeMeasure S v b) (sym (node-gate .0))
+          (pin-falls S v (stride * (v - S .sizes .inputs) + (j - 1)) (j - 1) (node-gate .1) refl (omega arith))
 
       -- all pins are known
       pub node-noted : (at j value : ℕ) → j ≤ 0 → at ≡ pinsNow S (stride * (v - S .sizes .inputs) + j) (getD (S .net) (v - S .sizes .inputs) 0 - j)
@@ -248,37 +279,26 @@ module _ {S : Sheet} {known : List ℕ} {v back : ℕ} (a : NodeAsked S known v 
       unfolding ago
       node-noted at j value z q d = record {
         value = is ∙ ap (λ (b : ℕ). asNumber (valueBack S v b)) (sym (node-gate .0));
-        more = more-trans m (more-noted (m .ready) g value inside this);
+        more = more-trans m (more-noted (m .ready) g value node-inside this);
         noted = λ u l. omega (arith, getD-set-same known′ g (value + 1) 0 (omega (arith, m .ready .size)));
       }
         where
           g : ℕ
           g = v - S .sizes .inputs
 
-          inside : v - S .sizes .inputs < S .sizes .gates
-          inside = omega (arith, node-gate .1, a .node)
-
           first : pinsNow S (stride * (v - S .sizes .inputs) + j) (getD (S .net) (v - S .sizes .inputs) 0 - j) ≡ pinsNow S (stride * (v - S .sizes .inputs)) (getD (S .net) (v - S .sizes .inputs) 0)
           first = ap₂ (pinsNow S) (omega arith) (omega arith)
 
           this : value ≡ asNumber (valueOf S (S .sizes .inputs + (v - S .sizes .inputs)) 0)
-          this = d ∙ ap (λ (i : ℕ). asNumber (bit (getD (S .tables) (v - S .sizes .inputs) 0) i)) (q ∙ first) ∙ ap asNumber (sym (gate-value S (a .ready .net) (v - S .sizes .inputs) inside))
+          this = d ∙ ap (λ (i : ℕ). asNumber (bit (getD (S .tables) (v - S .sizes .inputs) 0) i)) (q ∙ first) ∙ ap asNumber (sym (gate-value S (a .ready .net) (v - S .sizes .inputs) node-inside))
 
           is : value ≡ asNumber (valueOf S v 0)
           is = let same : S .sizes .inputs + (v - S .sizes .inputs) ≡ v = omega (arith, node-gate .1) in this ∙ ap (λ (u : ℕ). asNumber (valueOf S u 0)) same
 
--- one more pin in front of those passed
-pub pins-next : (S : Sheet) (g j n at r : ℕ) → 0 < j → j ≤ n → at ≡ pinsNow S (stride * g + j) (n - j)
-    → r ≡ asNumber (pinOf S (pinAt (sourcesOf (S .sizes) (S .net)) (countsOf (S .sizes) (S .net)) (stride * g + (j - 1)))) → 2 * at + r ≡ pinsNow S (stride * g + (j - 1)) (n - (j - 1))
-pins-next S g j n at r low high e d =
-    let more : n - (j - 1) ≡ suc (n - j) = omega arith in
-    let next : suc (stride * g + (j - 1)) ≡ stride * g + j = omega arith in
-    let made = pins-more S (stride * g + (j - 1)) (n - j) in
-    let all = ap (pinsNow S (stride * g + (j - 1))) more in
-    let rest = ap (λ (i : ℕ). pinsNow S i (n - j)) next in
-    omega arith
-
 -- ---- pin by pin
+
+pub pin-small : {S : Sheet} {old new : List ℕ} {p r : ℕ} → PinTold S old new p r → r ≤ 1
+pin-small {S} {p} t = omega (arith, t .value, asNumber-small (pinOf S (pinAt (sourcesOf (S .sizes) (S .net)) (countsOf (S .sizes) (S .net)) p)))
 
 module _ {S : Sheet} {known : List ℕ} {p : ℕ} (a : PinAsked S known p) {source count : ℕ} (s : source ≡ getD (S .net) (sourcesAt (S .sizes .gates) + p) 0) (c : count ≡ getD (S .net) (countsAt (S .sizes .gates) + p) 0) where
   source-is : source ≡ getD (sourcesOf (S .sizes) (S .net)) p 0

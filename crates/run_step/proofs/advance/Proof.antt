@@ -25,16 +25,21 @@ add-if1 c = omega (arith, c .before .before .before .before .pre .room)
 
 told-value-requires : tie.Need-told-value-requires Inv-loop μ-loop
 told-value-requires c κs =
-    ((c .before .before .before .before .before .before .pre .inputs, omega arith), (omega (arith, c .before .before .before .loop .inv .0 .long, c .before .before .before .before .before .before .pre .room, c .before .if1 .taken), omega (arith, c .before .before .before .before .before .before .pre .size, c .before .if1 .taken)))
+    let start = c .before .before .before .before .before .before in
+    ((start .pre .inputs, omega arith), (omega (arith, c .before .before .before .loop .inv .0 .long, start .pre .room, c .before .if1 .taken), omega (arith, start .pre .size, c .before .if1 .taken)))
 
 slice-read-next-byte : tie.Need-slice-read-next-byte Inv-loop μ-loop
 slice-read-next-byte c = omega (arith, c .before .before .before .before .before .loop .inv .0 .long, c .before .before .before .before .before .before .before .before .pre .room, c .before .before .before .if1 .taken)
 
 sub-next-byte : tie.Need-sub-next-byte Inv-loop μ-loop
-sub-next-byte c = omega (arith, c .before .told-value .ensures, (told-bit (c .before .before .before .before .before .before .before .before .args .word) (c .before .before .before .before .before .loop .v) (c .before .before .before .before .before .before .before .before .pre) (c .before .before .before .if1 .taken)) .0)
+sub-next-byte c =
+    let start = c .before .before .before .before .before .before .before .before in
+    omega (arith, c .before .told-value .ensures, (told-bit (start .args .word) (c .before .before .before .before .before .loop .v) (start .pre) (c .before .before .before .if1 .taken)) .0)
 
 next-byte-requires : tie.Need-next-byte-requires Inv-loop μ-loop
-next-byte-requires c κs = omega (arith, c .before .told-value .ensures, (told-bit (c .before .before .before .before .before .before .before .before .args .word) (c .before .before .before .before .before .loop .v) (c .before .before .before .before .before .before .before .before .pre) (c .before .before .before .if1 .taken)) .1)
+next-byte-requires c κs =
+    let start = c .before .before .before .before .before .before .before .before in
+    omega (arith, c .before .told-value .ensures, (told-bit (start .args .word) (c .before .before .before .before .before .loop .v) (start .pre) (c .before .before .before .if1 .taken)) .1)
 
 slice-write-kept : tie.Need-slice-write-kept Inv-loop μ-loop
 slice-write-kept c = omega (arith, c .before .before .before .before .before .before .loop .inv .0 .long, c .before .before .before .before .before .before .before .before .before .pre .room, c .before .before .before .before .if1 .taken)
@@ -46,19 +51,22 @@ loop-less : tie.Need-loop-less Inv-loop μ-loop
 loop-less c = omega (arith, c .before .before .before .before .if1 .taken)
 
 loop-again : tie.Need-loop-again Inv-loop μ-loop
-loop-again c = (
-  advanced-more (c .next-byte .result) (c .before .before .before .before .before .before .loop .inv .0) (omega (arith, c .before .before .before .before .before .before .loop .inv .0 .long, c .before .before .before .before .before .before .before .before .before .pre .room, c .before .before .before .before .if1 .taken))
-      (c .next-byte .ensures ∙ ap (λ (x : ℕ). nextByte (getD (c .before .before .before .before .before .before .loop .kept) (c .before .before .before .before .before .before .loop .v) 0) (x - 1)) (c .before .before .told-value .ensures)),
-  omega (arith, c .before .before .before .before .if1 .taken),
-)
+loop-again c =
+    let if1 = c .before .before .before .before .if1 in
+    let loop = c .before .before .before .before .before .before .loop in (
+      advanced-more (c .next-byte .result) (loop .inv .0) (omega (arith, loop .inv .0 .long, c .before .before .before .before .before .before .before .before .before .pre .room, if1 .taken))
+          (c .next-byte .ensures ∙ ap (λ (x : ℕ). nextByte (getD (loop .kept) (loop .v) 0) (x - 1)) (c .before .before .told-value .ensures)),
+      omega (arith, if1 .taken),
+    )
 
 same-length : tie.Need-same-length Inv-loop μ-loop
 same-length c = search needs
 
 returns : tie.Need-returns Inv-loop μ-loop
 returns c =
-    let all : c .before .before .loop .v ≡ c .before .before .before .before .before .args .z .inputs + c .before .before .before .before .before .args .z .gates = omega (arith, c .before .before .loop .inv .1, c .if1 .left) in
-    subst (Advanced (c .before .before .before .before .before .args .z .inputs) (c .before .before .before .before .before .args .word) (now (c .before .before .before .before .before .args .known)) (now (c .before .before .before .before .before .args .kept)) (c .before .before .loop .kept)) all (c .before .before .loop .inv .0)
+    let start = c .before .before .before .before .before in
+    let all : c .before .before .loop .v ≡ start .args .z .inputs + start .args .z .gates = omega (arith, c .before .before .loop .inv .1, c .if1 .left) in
+    subst (Advanced (start .args .z .inputs) (start .args .word) (now (start .args .known)) (now (start .args .kept)) (c .before .before .loop .kept)) all (c .before .before .loop .inv .0)
 
 pub advance-spec : {M : Type 1} → statement M
 advance-spec =

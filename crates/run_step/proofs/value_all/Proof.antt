@@ -9,7 +9,9 @@ zero-requires : tie.Need-zero-requires
 zero-requires c κs = tt
 
 value-gates-requires : tie.Need-value-gates-requires
-value-gates-requires c κs = none-noted (c .before .before .before .before .before .before .before .before .before .pre) (c .before .before .before .zero .ensures .0) (c .before .before .before .zero .ensures .1)
+value-gates-requires c κs =
+    let zero = c .before .before .before .zero in
+    none-noted (c .before .before .before .before .before .before .before .before .before .pre) (zero .ensures .0) (zero .ensures .1)
 
 same-length : tie.Need-same-length
 same-length c = search needs

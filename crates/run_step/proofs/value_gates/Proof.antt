@@ -34,13 +34,17 @@ shared-slice-read-g c = omega (arith, c .before .before .before .before .before 
 
 add-node-value : tie.Need-add-node-value Inv-loop μ-loop
 add-node-value c =
-    omega (arith, c .before .before .before .before .before .before .before .before .before .before .before .pre .net .rooms .packed, ap (λ (a : ℕ). getD (now (c .before .before .before .before .before .before .before .before .before .before .before .args .net)) (a + c .before .before .before .before .before .loop .i) 0) (c .before .before .before .before .before .before .order-at .ensures), c .before .before .before .before .before .before .before .before .before .before .before .pre .net .ordered .inOrder (c .before .before .before .before .before .loop .i) (omega (arith, c .before .before .before .if1 .taken)))
+    let loop = c .before .before .before .before .before .loop in
+    let start = c .before .before .before .before .before .before .before .before .before .before .before in
+    omega (arith, start .pre .net .rooms .packed, ap (λ (a : ℕ). getD (now (start .args .net)) (a + loop .i) 0) (c .before .before .before .before .before .before .order-at .ensures), start .pre .net .ordered .inOrder (loop .i) (omega (arith, c .before .before .before .if1 .taken)))
 
 node-value-requires : tie.Need-node-value-requires Inv-loop μ-loop
 node-value-requires c κs =
+    let loop = c .before .before .before .before .before .loop in
+    let start = c .before .before .before .before .before .before .before .before .before .before .before in
     record {
-      ready = c .before .before .before .before .before .loop .inv .0 .ready;
-      node = omega (arith, ap (λ (a : ℕ). getD (now (c .before .before .before .before .before .before .before .before .before .before .before .args .net)) (a + c .before .before .before .before .before .loop .i) 0) (c .before .before .before .before .before .before .order-at .ensures), c .before .before .before .before .before .before .before .before .before .before .before .pre .net .ordered .inOrder (c .before .before .before .before .before .loop .i) (omega (arith, c .before .before .before .if1 .taken)));
+      ready = loop .inv .0 .ready;
+      node = omega (arith, ap (λ (a : ℕ). getD (now (start .args .net)) (a + loop .i) 0) (c .before .before .before .before .before .before .order-at .ensures), start .pre .net .ordered .inOrder (loop .i) (omega (arith, c .before .before .before .if1 .taken)));
       count = omega arith;
     }
 
@@ -51,19 +55,23 @@ loop-less : tie.Need-loop-less Inv-loop μ-loop
 loop-less c = omega arith
 
 loop-again : tie.Need-loop-again Inv-loop μ-loop
-loop-again c = (
-  ordering-more (getD (now (c .before .before .before .before .before .before .before .before .before .before .before .before .before .before .args .net)) (c .before .before .before .before .before .before .before .before .before .order-at .result + c .before .before .before .before .before .before .before .before .loop .i) 0) (c .before .before .node-value .result) (c .before .before .before .before .before .before .before .before .loop .inv .0)
-      (ap (λ (a : ℕ). getD (now (c .before .before .before .before .before .before .before .before .before .before .before .before .before .before .args .net)) (a + c .before .before .before .before .before .before .before .before .loop .i) 0) (c .before .before .before .before .before .before .before .before .before .order-at .ensures)) (c .before .before .node-value .ensures),
-  omega (arith, c .before .before .before .before .before .before .if1 .taken),
-)
+loop-again c =
+    let loop = c .before .before .before .before .before .before .before .before .loop in
+    let order-at = c .before .before .before .before .before .before .before .before .before .order-at in
+    let start = c .before .before .before .before .before .before .before .before .before .before .before .before .before .before in (
+      ordering-more (getD (now (start .args .net)) (order-at .result + loop .i) 0) (c .before .before .node-value .result) (loop .inv .0)
+          (ap (λ (a : ℕ). getD (now (start .args .net)) (a + loop .i) 0) (order-at .ensures)) (c .before .before .node-value .ensures),
+      omega (arith, c .before .before .before .before .before .before .if1 .taken),
+    )
 
 same-length : tie.Need-same-length Inv-loop μ-loop
 same-length c = search needs
 
 returns : tie.Need-returns Inv-loop μ-loop
 returns c =
-    let all : c .before .before .loop .i ≡ c .before .before .before .before .before .before .before .before .args .z .gates = omega (arith, c .before .before .loop .inv .1, c .if1 .left) in
-    ordering-all (subst (Ordering (sheet (c .before .before .before .before .before .before .before .before .args .z) (now (c .before .before .before .before .before .before .before .before .args .net)) (now (c .before .before .before .before .before .before .before .before .args .tables)) (now (c .before .before .before .before .before .before .before .before .args .kept)) (c .before .before .before .before .before .before .before .before .args .word)) (now (c .before .before .before .before .before .before .before .before .args .known)) (c .before .before .loop .known)) all (c .before .before .loop .inv .0))
+    let start = c .before .before .before .before .before .before .before .before in
+    let all : c .before .before .loop .i ≡ start .args .z .gates = omega (arith, c .before .before .loop .inv .1, c .if1 .left) in
+    ordering-all (subst (Ordering (sheet (start .args .z) (now (start .args .net)) (now (start .args .tables)) (now (start .args .kept)) (start .args .word)) (now (start .args .known)) (c .before .before .loop .known)) all (c .before .before .loop .inv .0))
 
 pub value-gates-spec : {M : Type 1} → statement M
 value-gates-spec =

@@ -1,17 +1,14 @@
 -- Gate evaluation and pin evaluation call each other. The step falls, or it stays and the registerless depth falls. The loop goes over the pins from the last one down:
 -- what is known grows, and the number made so far is that of the pins passed.
 use borrow.Author.Needs.{needs}
-use mathlib.Core.Path.{_≡_, refl, sym, ap, _∙_}
+use mathlib.Core.Path.{_≡_, refl}
 use Prim.Native.Nat.{ℕ, _+_, _-_, _*_, _≤_, _<_}
 use native.Mathlib.Omega.{arith}
 use denote.Ref.{now}
-use lib.ListN.{length, getD, drop}
+use lib.ListN.{getD}
 use Rattle.net_model.specs.Arrays.{stride}
-use Rattle.net_model.specs.ArrayLaws.{pinAt}
-use Rattle.cone_values.specs.Words.{asNumber-small}
-use Rattle.net_model.specs.PackedNet.{sourcesAt, countsAt}
-use Rattle.run_values.specs.Sheets.{sheet, More, pinOf, pinsNow, nodeMeasure, pinMeasure}
-use Rattle.run_values.specs.SheetLaws.{pins-none, pins-low, pins-next, more-none, more-trans, below, node-told, node-gate, node-asks, node-falls-to, node-noted, pin-asks, pin-falls-to, pin-told}
+use Rattle.run_values.specs.Sheets.{sheet, More, pinsNow, nodeMeasure, pinMeasure}
+use Rattle.run_values.specs.SheetLaws.{more-none, more-trans, below, node-told, node-gate, node-inside, node-few, node-none, node-small, node-next, node-asks, node-falls-to, node-noted, pin-small, pin-asks, pin-falls-to, pin-told}
 use borrow.Fn.Kinds.{In}
 use borrow.Fn.PlainCycle.{Measures, is, falls, and}
 use Rattle.run_values.proofs.node_value.Reads as node-value
@@ -81,27 +78,42 @@ node-value-mul-j : (t : ℕ) → node-value-lts.Need-mul-j (node-claims t) (node
 node-value-mul-j t c = search needs
 
 node-value-shared-slice-read-j : (t : ℕ) → node-value-lts.Need-shared-slice-read-j (node-claims t) (node-value-at t) node-value.Post node-value-Inv-loop node-value-μ-loop
-node-value-shared-slice-read-j t c = omega (arith, (node-gate (c .before .before .before .before .before .before .before .before .before .pre .1) (c .before .before .before .told-value .ensures) (c .before .before .if1 .left)) .1, c .before .before .before .before .before .before .before .before .before .pre .1 .node, c .before .before .before .before .before .before .before .before .before .pre .1 .ready .net .wires .sizes)
+node-value-shared-slice-read-j t c =
+    let a = c .before .before .before .before .before .before .before .before .before .pre .1 in
+    let e = c .before .before .before .told-value .ensures in
+    let n = c .before .before .if1 .left in
+    omega (arith, node-inside a e n, a .ready .net .wires .sizes)
 
 node-value-loop-holds : (t : ℕ) → node-value-lts.Need-loop-holds (node-claims t) (node-value-at t) node-value.Post node-value-Inv-loop node-value-μ-loop
 node-value-loop-holds t c =
-    let S = sheet (c .before .before .before .before .before .before .before .before .before .args .z) (now (c .before .before .before .before .before .before .before .before .before .args .net)) (now (c .before .before .before .before .before .before .before .before .before .args .tables)) (now (c .before .before .before .before .before .before .before .before .before .args .kept)) (c .before .before .before .before .before .before .before .before .before .args .word) in
-    let g = c .before .before .before .before .before .before .before .before .before .args .v - c .before .before .before .before .before .before .before .before .before .args .z .inputs in
-    let n = getD (now (c .before .before .before .before .before .before .before .before .before .args .net)) g 0 in
-    let none : n - n ≡ 0 = omega arith in
-    (more-none (c .before .before .before .before .before .before .before .before .before .pre .1 .ready), omega arith, sym (ap (pinsNow S (stride * g + n)) none ∙ pins-none S (stride * g + n)))
+    let a = c .before .before .before .before .before .before .before .before .before .pre .1 in
+    let e = c .before .before .before .told-value .ensures in
+    let n = c .before .before .if1 .left in
+    (more-none (a .ready), omega arith, node-none a e n)
 
 node-value-sub-j : (t : ℕ) → node-value-lts.Need-sub-j (node-claims t) (node-value-at t) node-value.Post node-value-Inv-loop node-value-μ-loop
 node-value-sub-j t c = omega arith
 
 node-value-mul-at : (t : ℕ) → node-value-lts.Need-mul-at (node-claims t) (node-value-at t) node-value.Post node-value-Inv-loop node-value-μ-loop
-node-value-mul-at t c = omega (arith, c .before .loop .inv .2, pins-low (sheet (c .before .before .before .before .before .before .before .before .before .before .before .args .z) (now (c .before .before .before .before .before .before .before .before .before .before .before .args .net)) (now (c .before .before .before .before .before .before .before .before .before .before .before .args .tables)) (now (c .before .before .before .before .before .before .before .before .before .before .before .args .kept)) (c .before .before .before .before .before .before .before .before .before .before .before .args .word)) (stride * (c .before .before .before .before .before .before .before .before .before .before .before .args .v - c .before .before .before .before .before .before .before .before .before .before .before .args .z .inputs) + c .before .loop .j) (getD (now (c .before .before .before .before .before .before .before .before .before .before .before .args .net)) (c .before .before .before .before .before .before .before .before .before .before .before .args .v - c .before .before .before .before .before .before .before .before .before .before .before .args .z .inputs) 0 - c .before .loop .j) (omega (arith, c .before .before .before .before .before .before .before .before .before .before .before .pre .1 .ready .net .wires .pins (c .before .before .before .before .before .before .before .before .before .before .before .args .v - c .before .before .before .before .before .before .before .before .before .before .before .args .z .inputs) (omega (arith, (node-gate (c .before .before .before .before .before .before .before .before .before .before .before .pre .1) (c .before .before .before .before .before .told-value .ensures) (c .before .before .before .before .if1 .left)) .1, c .before .before .before .before .before .before .before .before .before .before .before .pre .1 .node)))))
+node-value-mul-at t c =
+    let a = c .before .before .before .before .before .before .before .before .before .before .before .pre .1 in
+    let e = c .before .before .before .before .before .told-value .ensures in
+    let n = c .before .before .before .before .if1 .left in
+    omega (arith, node-small a e n (c .before .loop .at) (c .before .loop .j) (c .before .loop .inv .2))
 
 node-value-mul-pin-value : (t : ℕ) → node-value-lts.Need-mul-pin-value (node-claims t) (node-value-at t) node-value.Post node-value-Inv-loop node-value-μ-loop
-node-value-mul-pin-value t c = omega (arith, (node-gate (c .before .before .before .before .before .before .before .before .before .before .before .before .pre .1) (c .before .before .before .before .before .before .told-value .ensures) (c .before .before .before .before .before .if1 .left)) .1, c .before .before .before .before .before .before .before .before .before .before .before .before .pre .1 .node, c .before .before .before .before .before .before .before .before .before .before .before .before .pre .1 .ready .net .rooms .packed)
+node-value-mul-pin-value t c =
+    let a = c .before .before .before .before .before .before .before .before .before .before .before .before .pre .1 in
+    let e = c .before .before .before .before .before .before .told-value .ensures in
+    let n = c .before .before .before .before .before .if1 .left in
+    omega (arith, node-inside a e n, a .ready .net .rooms .packed)
 
 node-value-add-pin-value : (t : ℕ) → node-value-lts.Need-add-pin-value (node-claims t) (node-value-at t) node-value.Post node-value-Inv-loop node-value-μ-loop
-node-value-add-pin-value t c = omega (arith, (node-gate (c .before .before .before .before .before .before .before .before .before .before .before .before .pre .1) (c .before .before .before .before .before .before .told-value .ensures) (c .before .before .before .before .before .if1 .left)) .1, c .before .before .before .before .before .before .before .before .before .before .before .before .pre .1 .node, c .before .before .before .before .before .before .before .before .before .before .before .before .pre .1 .ready .net .rooms .packed, c .before .before .before .before .before .before .before .before .before .before .before .before .pre .1 .ready .net .wires .pins (c .before .before .before .before .before .before .before .before .before .before .before .before .args .v - c .before .before .before .before .before .before .before .before .before .before .before .before .args .z .inputs) (omega (arith, (node-gate (c .before .before .before .before .before .before .before .before .before .before .before .before .pre .1) (c .before .before .before .before .before .before .told-value .ensures) (c .before .before .before .before .before .if1 .left)) .1, c .before .before .before .before .before .before .before .before .before .before .before .before .pre .1 .node)), c .before .before .loop .inv .1)
+node-value-add-pin-value t c =
+    let a = c .before .before .before .before .before .before .before .before .before .before .before .before .pre .1 in
+    let e = c .before .before .before .before .before .before .told-value .ensures in
+    let n = c .before .before .before .before .before .if1 .left in
+    omega (arith, node-inside a e n, node-few a e n, a .ready .net .rooms .packed, c .before .before .loop .inv .1)
 
 node-value-pin-value-requires : (t : ℕ) → node-value-lts.Need-pin-value-requires (node-claims t) (node-value-at t) node-value.Post node-value-Inv-loop node-value-μ-loop
 node-value-pin-value-requires t c κs =
@@ -109,30 +121,45 @@ node-value-pin-value-requires t c κs =
     let e = c .before .before .before .before .before .before .told-value .ensures in
     let n = c .before .before .before .before .before .if1 .left in
     let m = c .before .before .loop .inv .0 in
-    let h : c .before .before .loop .j - 1 < getD (now (c .before .before .before .before .before .before .before .before .before .before .before .before .args .net)) (c .before .before .before .before .before .before .before .before .before .before .before .before .args .v - c .before .before .before .before .before .before .before .before .before .before .before .before .args .z .inputs) 0 = omega (arith, c .before .before .loop .inv .1, c .before .loop-test .taken) in
-    (below (node-falls-to a e n m (c .before .before .loop .j - 1) h) (c .before .before .before .before .before .before .before .before .before .before .before .before .pre .0), node-asks a e n m (c .before .before .loop .j - 1) h)
+    let h = c .before .before .loop .inv .1 in
+    let low = c .before .loop-test .taken in
+    (below (node-falls-to a e n m (c .before .before .loop .j) low h) (c .before .before .before .before .before .before .before .before .before .before .before .before .pre .0), node-asks a e n m (c .before .before .loop .j) low h)
 
 node-value-add-at : (t : ℕ) → node-value-lts.Need-add-at (node-claims t) (node-value-at t) node-value.Post node-value-Inv-loop node-value-μ-loop
-node-value-add-at t c = omega (arith, c .before .before .before .before .before .loop .inv .2, pins-low (sheet (c .before .before .before .before .before .before .before .before .before .before .before .before .before .before .before .args .z) (now (c .before .before .before .before .before .before .before .before .before .before .before .before .before .before .before .args .net)) (now (c .before .before .before .before .before .before .before .before .before .before .before .before .before .before .before .args .tables)) (now (c .before .before .before .before .before .before .before .before .before .before .before .before .before .before .before .args .kept)) (c .before .before .before .before .before .before .before .before .before .before .before .before .before .before .before .args .word)) (stride * (c .before .before .before .before .before .before .before .before .before .before .before .before .before .before .before .args .v - c .before .before .before .before .before .before .before .before .before .before .before .before .before .before .before .args .z .inputs) + c .before .before .before .before .before .loop .j) (getD (now (c .before .before .before .before .before .before .before .before .before .before .before .before .before .before .before .args .net)) (c .before .before .before .before .before .before .before .before .before .before .before .before .before .before .before .args .v - c .before .before .before .before .before .before .before .before .before .before .before .before .before .before .before .args .z .inputs) 0 - c .before .before .before .before .before .loop .j) (omega (arith, c .before .before .before .before .before .before .before .before .before .before .before .before .before .before .before .pre .1 .ready .net .wires .pins (c .before .before .before .before .before .before .before .before .before .before .before .before .before .before .before .args .v - c .before .before .before .before .before .before .before .before .before .before .before .before .before .before .before .args .z .inputs) (omega (arith, (node-gate (c .before .before .before .before .before .before .before .before .before .before .before .before .before .before .before .pre .1) (c .before .before .before .before .before .before .before .before .before .told-value .ensures) (c .before .before .before .before .before .before .before .before .if1 .left)) .1, c .before .before .before .before .before .before .before .before .before .before .before .before .before .before .before .pre .1 .node)))), c .before .before .pin-value .ensures .value, asNumber-small (pinOf (sheet (c .before .before .before .before .before .before .before .before .before .before .before .before .before .before .before .args .z) (now (c .before .before .before .before .before .before .before .before .before .before .before .before .before .before .before .args .net)) (now (c .before .before .before .before .before .before .before .before .before .before .before .before .before .before .before .args .tables)) (now (c .before .before .before .before .before .before .before .before .before .before .before .before .before .before .before .args .kept)) (c .before .before .before .before .before .before .before .before .before .before .before .before .before .before .before .args .word)) (pinAt (drop (sourcesAt (c .before .before .before .before .before .before .before .before .before .before .before .before .before .before .before .args .z .gates)) (now (c .before .before .before .before .before .before .before .before .before .before .before .before .before .before .before .args .net))) (drop (countsAt (c .before .before .before .before .before .before .before .before .before .before .before .before .before .before .before .args .z .gates)) (now (c .before .before .before .before .before .before .before .before .before .before .before .before .before .before .before .args .net))) (stride * (c .before .before .before .before .before .before .before .before .before .before .before .before .before .before .before .args .v - c .before .before .before .before .before .before .before .before .before .before .before .before .before .before .before .args .z .inputs) + (c .before .before .before .before .before .loop .j - 1)))))
+node-value-add-at t c =
+    let a = c .before .before .before .before .before .before .before .before .before .before .before .before .before .before .before .pre .1 in
+    let e = c .before .before .before .before .before .before .before .before .before .told-value .ensures in
+    let n = c .before .before .before .before .before .before .before .before .if1 .left in
+    omega (arith, node-small a e n (c .before .before .before .before .before .loop .at) (c .before .before .before .before .before .loop .j) (c .before .before .before .before .before .loop .inv .2), pin-small (c .before .before .pin-value .ensures))
 
 node-value-loop-less : (t : ℕ) → node-value-lts.Need-loop-less (node-claims t) (node-value-at t) node-value.Post node-value-Inv-loop node-value-μ-loop
 node-value-loop-less t c = omega arith
 
 node-value-loop-again : (t : ℕ) → node-value-lts.Need-loop-again (node-claims t) (node-value-at t) node-value.Post node-value-Inv-loop node-value-μ-loop
-node-value-loop-again t c = (
-  more-trans (c .before .before .before .before .before .loop .inv .0) (c .before .before .pin-value .ensures .more),
-  omega (arith, c .before .before .before .before .before .loop .inv .1),
-  pins-next (sheet (c .before .before .before .before .before .before .before .before .before .before .before .before .before .before .before .args .z) (now (c .before .before .before .before .before .before .before .before .before .before .before .before .before .before .before .args .net)) (now (c .before .before .before .before .before .before .before .before .before .before .before .before .before .before .before .args .tables)) (now (c .before .before .before .before .before .before .before .before .before .before .before .before .before .before .before .args .kept)) (c .before .before .before .before .before .before .before .before .before .before .before .before .before .before .before .args .word)) (c .before .before .before .before .before .before .before .before .before .before .before .before .before .before .before .args .v - c .before .before .before .before .before .before .before .before .before .before .before .before .before .before .before .args .z .inputs) (c .before .before .before .before .before .loop .j) (getD (now (c .before .before .before .before .before .before .before .before .before .before .before .before .before .before .before .args .net)) (c .before .before .before .before .before .before .before .before .before .before .before .before .before .before .before .args .v - c .before .before .before .before .before .before .before .before .before .before .before .before .before .before .before .args .z .inputs) 0) (c .before .before .before .before .before .loop .at) (c .before .before .pin-value .result) (c .before .before .before .before .loop-test .taken) (c .before .before .before .before .before .loop .inv .1) (c .before .before .before .before .before .loop .inv .2) (c .before .before .pin-value .ensures .value),
-)
+node-value-loop-again t c =
+    let a = c .before .before .before .before .before .before .before .before .before .before .before .before .before .before .before .pre .1 in
+    let e = c .before .before .before .before .before .before .before .before .before .told-value .ensures in
+    let n = c .before .before .before .before .before .before .before .before .if1 .left in
+    let i = c .before .before .before .before .before .loop .inv in
+    let told = c .before .before .pin-value .ensures in
+    (more-trans (i .0) (told .more), omega (arith, i .1), node-next a e n (c .before .before .before .before .before .loop .at) (c .before .before .before .before .before .loop .j) (c .before .before .pin-value .result) (c .before .before .before .before .loop-test .taken) (i .1) (i .2) told)
 
 node-value-mul-bit-of : (t : ℕ) → node-value-lts.Need-mul-bit-of (node-claims t) (node-value-at t) node-value.Post node-value-Inv-loop node-value-μ-loop
 node-value-mul-bit-of t c = search needs
 
 node-value-shared-slice-read-bit-of : (t : ℕ) → node-value-lts.Need-shared-slice-read-bit-of (node-claims t) (node-value-at t) node-value.Post node-value-Inv-loop node-value-μ-loop
-node-value-shared-slice-read-bit-of t c = omega (arith, (node-gate (c .before .before .before .before .before .before .before .before .before .before .before .before .pre .1) (c .before .before .before .before .before .before .told-value .ensures) (c .before .before .before .before .before .if1 .left)) .1, c .before .before .before .before .before .before .before .before .before .before .before .before .pre .1 .node, c .before .before .before .before .before .before .before .before .before .before .before .before .pre .1 .ready .net .rooms .tabled)
+node-value-shared-slice-read-bit-of t c =
+    let a = c .before .before .before .before .before .before .before .before .before .before .before .before .pre .1 in
+    let e = c .before .before .before .before .before .before .told-value .ensures in
+    let n = c .before .before .before .before .before .if1 .left in
+    omega (arith, node-inside a e n, a .ready .net .rooms .tabled)
 
 node-value-bit-of-requires : (t : ℕ) → node-value-lts.Need-bit-of-requires (node-claims t) (node-value-at t) node-value.Post node-value-Inv-loop node-value-μ-loop
-node-value-bit-of-requires t c κs = omega (arith, c .before .before .loop .inv .2, pins-low (sheet (c .before .before .before .before .before .before .before .before .before .before .before .before .args .z) (now (c .before .before .before .before .before .before .before .before .before .before .before .before .args .net)) (now (c .before .before .before .before .before .before .before .before .before .before .before .before .args .tables)) (now (c .before .before .before .before .before .before .before .before .before .before .before .before .args .kept)) (c .before .before .before .before .before .before .before .before .before .before .before .before .args .word)) (stride * (c .before .before .before .before .before .before .before .before .before .before .before .before .args .v - c .before .before .before .before .before .before .before .before .before .before .before .before .args .z .inputs) + c .before .before .loop .j) (getD (now (c .before .before .before .before .before .before .before .before .before .before .before .before .args .net)) (c .before .before .before .before .before .before .before .before .before .before .before .before .args .v - c .before .before .before .before .before .before .before .before .before .before .before .before .args .z .inputs) 0 - c .before .before .loop .j) (omega (arith, c .before .before .before .before .before .before .before .before .before .before .before .before .pre .1 .ready .net .wires .pins (c .before .before .before .before .before .before .before .before .before .before .before .before .args .v - c .before .before .before .before .before .before .before .before .before .before .before .before .args .z .inputs) (omega (arith, (node-gate (c .before .before .before .before .before .before .before .before .before .before .before .before .pre .1) (c .before .before .before .before .before .before .told-value .ensures) (c .before .before .before .before .before .if1 .left)) .1, c .before .before .before .before .before .before .before .before .before .before .before .before .pre .1 .node)))))
+node-value-bit-of-requires t c κs =
+    let a = c .before .before .before .before .before .before .before .before .before .before .before .before .pre .1 in
+    let e = c .before .before .before .before .before .before .told-value .ensures in
+    let n = c .before .before .before .before .before .if1 .left in
+    omega (arith, node-small a e n (c .before .before .loop .at) (c .before .before .loop .j) (c .before .before .loop .inv .2))
 
 node-value-add-known : (t : ℕ) → node-value-lts.Need-add-known (node-claims t) (node-value-at t) node-value.Post node-value-Inv-loop node-value-μ-loop
 node-value-add-known t c = omega (arith, c .bit-of .ensures .1)
@@ -141,14 +168,22 @@ node-value-mul-known : (t : ℕ) → node-value-lts.Need-mul-known (node-claims 
 node-value-mul-known t c = search needs
 
 node-value-slice-write-known : (t : ℕ) → node-value-lts.Need-slice-write-known (node-claims t) (node-value-at t) node-value.Post node-value-Inv-loop node-value-μ-loop
-node-value-slice-write-known t c = omega (arith, (node-gate (c .before .before .before .before .before .before .before .before .before .before .before .before .before .pre .1) (c .before .before .before .before .before .before .before .told-value .ensures) (c .before .before .before .before .before .before .if1 .left)) .1, c .before .before .before .before .before .before .before .before .before .before .before .before .before .pre .1 .node, c .before .before .before .loop .inv .0 .ready .size)
+node-value-slice-write-known t c =
+    let a = c .before .before .before .before .before .before .before .before .before .before .before .before .before .pre .1 in
+    let e = c .before .before .before .before .before .before .before .told-value .ensures in
+    let n = c .before .before .before .before .before .before .if1 .left in
+    omega (arith, node-inside a e n, c .before .before .before .loop .inv .0 .ready .size)
 
 node-value-same-length-2 : (t : ℕ) → node-value-lts.Need-same-length-2 (node-claims t) (node-value-at t) node-value.Post node-value-Inv-loop node-value-μ-loop
 node-value-same-length-2 t c = search needs
 
 node-value-returns-2 : (t : ℕ) → node-value-lts.Need-returns-2 (node-claims t) (node-value-at t) node-value.Post node-value-Inv-loop node-value-μ-loop
 node-value-returns-2 t c =
-    node-noted (c .before .before .before .before .before .before .before .before .before .before .before .before .before .pre .1) (c .before .before .before .before .before .before .before .told-value .ensures) (c .before .before .before .before .before .before .if1 .left) (c .before .before .before .loop .inv .0) (c .before .before .before .loop .at) (c .before .before .before .loop .j) (c .bit-of .result) (c .before .before .loop-test .left) (c .before .before .before .loop .inv .2) (c .bit-of .ensures .0)
+    let a = c .before .before .before .before .before .before .before .before .before .before .before .before .before .pre .1 in
+    let e = c .before .before .before .before .before .before .before .told-value .ensures in
+    let n = c .before .before .before .before .before .before .if1 .left in
+    let i = c .before .before .before .loop .inv in
+    node-noted a e n (i .0) (c .before .before .before .loop .at) (c .before .before .before .loop .j) (c .bit-of .result) (c .before .before .loop-test .left) (i .2) (c .bit-of .ensures .0)
 
 pin-value-mul-source : (t : ℕ) → pin-value-lts.Need-mul-source (pin-claims t) (pin-value-at t) pin-value.Post
 pin-value-mul-source t c = search needs
