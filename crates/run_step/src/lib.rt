@@ -104,6 +104,13 @@ pub fn pair_at(pairs: &[u8], t: usize) -> u64
     long(low + 256 * high)
 }
 
+// The whole pairs of input bytes.
+pub fn steps_of(pairs: &[u8]) -> usize
+    ensures { λ r. ⌜ r ≡ stepsOf (now (pairs .entry)) ⌝ }
+{
+    pairs.len() / 2
+}
+
 // A step for each whole pair of input bytes: what is kept then is the last section of the run so far.
 pub fn run(
     z: NetSizes,
@@ -116,7 +123,7 @@ pub fn run(
     requires { ⌜ StepAsked z (now net) (now tables) (now kept) (now known) ⌝ }
     ensures { λ _. ⌜ RunTo z (now (net .entry)) (now (tables .entry)) (now (pairs .entry)) (now (kept .entry)) (now (known .entry)) (now (kept .exit)) (now (known .exit)) (stepsOf (now (pairs .entry))) ⌝ }
 {
-    let n = pairs.len() / 2;
+    let n = steps_of(pairs);
     let mut t = 0;
     while t < n {
         let word = pair_at(pairs, t);
