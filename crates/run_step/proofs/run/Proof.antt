@@ -21,7 +21,9 @@ steps-of-requires : tie.Need-steps-of-requires Inv-loop μ-loop
 steps-of-requires c κs = tt
 
 loop-holds : tie.Need-loop-holds Inv-loop μ-loop
-loop-holds c = (run-none (now (c .before .before .before .before .before .before .args .pairs)) (now (c .before .before .before .before .before .before .args .kept)) (now (c .before .before .before .before .before .before .args .known)), omega arith)
+loop-holds c =
+    let start = c .before .before .before .before .before .before in
+    (run-none (now (start .args .pairs)) (now (start .args .kept)) (now (start .args .known)), omega arith)
 
 pair-at-requires : tie.Need-pair-at-requires Inv-loop μ-loop
 pair-at-requires c κs = omega (arith, c .before .before .steps-of .ensures, c .loop-test .taken)
@@ -36,9 +38,13 @@ loop-less : tie.Need-loop-less Inv-loop μ-loop
 loop-less c = omega arith
 
 loop-again : tie.Need-loop-again Inv-loop μ-loop
-loop-again c = (
-  run-more (now (c .before .before .before .before .before .before .before .before .before .before .before .before .before .before .before .before .args .pairs)) (now (c .before .before .before .before .before .before .before .before .before .before .before .before .before .before .before .before .args .kept)) (now (c .before .before .before .before .before .before .before .before .before .before .before .before .before .before .before .before .args .known)) (c .before .before .before .before .before .before .before .before .before .before .before .before .before .before .before .before .pre .runnable) (c .before .before .before .before .before .before .before .before .before .loop .inv .0)
-      (subst (λ (w : ℕ). StepTold (sheet (c .before .before .before .before .before .before .before .before .before .before .before .before .before .before .before .before .args .z) (now (c .before .before .before .before .before .before .before .before .before .before .before .before .before .before .before .before .args .net)) (now (c .before .before .before .before .before .before .before .before .before .before .before .before .before .before .before .before .args .tables)) (c .before .before .before .before .before .before .before .before .before .loop .kept) w) (c .before .before .before .before .step .last .1 .1 .1 .1 .0) (c .before .before .before .before .before .before .before .before .before .loop .known) (c .before .before .before .before .step .last .1 .1 .1 .1 .1 .0)) (c .before .before .before .before .before .before .before .pair-at .ensures) (c .before .before .before .before .step .ensures)),
+loop-again c =
+    let step = c .before .before .before .before .step in
+    let loop = c .before .before .before .before .before .before .before .before .before .loop in
+    let start = c .before .before .before .before .before .before .before .before .before .before .before .before .before .before .before .before in
+    (
+  run-more (now (start .args .pairs)) (now (start .args .kept)) (now (start .args .known)) (start .pre .runnable) (loop .inv .0)
+      (subst (λ (w : ℕ). StepTold (sheet (start .args .z) (now (start .args .net)) (now (start .args .tables)) (loop .kept) w) (step .last .1 .1 .1 .1 .0) (loop .known) (step .last .1 .1 .1 .1 .1 .0)) (c .before .before .before .before .before .before .before .pair-at .ensures) (step .ensures)),
   omega (arith, c .before .before .before .before .before .before .before .before .loop-test .taken),
 )
 
@@ -50,8 +56,9 @@ same-length-2 c = search needs
 
 returns : tie.Need-returns Inv-loop μ-loop
 returns c =
-    let all : c .before .loop .t ≡ stepsOf (now (c .before .before .before .before .before .before .before .before .args .pairs)) = omega (arith, c .before .before .steps-of .ensures, c .before .loop .inv .1, c .loop-test .left) in
-    subst (RunTo (c .before .before .before .before .before .before .before .before .args .z) (now (c .before .before .before .before .before .before .before .before .args .net)) (now (c .before .before .before .before .before .before .before .before .args .tables)) (now (c .before .before .before .before .before .before .before .before .args .pairs)) (now (c .before .before .before .before .before .before .before .before .args .kept)) (now (c .before .before .before .before .before .before .before .before .args .known)) (c .before .loop .kept) (c .before .loop .known)) all (c .before .loop .inv .0)
+    let start = c .before .before .before .before .before .before .before .before in
+    let all : c .before .loop .t ≡ stepsOf (now (start .args .pairs)) = omega (arith, c .before .before .steps-of .ensures, c .before .loop .inv .1, c .loop-test .left) in
+    subst (RunTo (start .args .z) (now (start .args .net)) (now (start .args .tables)) (now (start .args .pairs)) (now (start .args .kept)) (now (start .args .known)) (c .before .loop .kept) (c .before .loop .known)) all (c .before .loop .inv .0)
 
 pub run-spec : {M : Type 1} → statement M
 run-spec =

@@ -1,0 +1,3 @@
+pub mod BenchText
+pub mod BenchAsked
+pub mod BenchTextLaws
