@@ -41,12 +41,11 @@ loop-again : tie.Need-loop-again Inv-loop μ-loop
 loop-again c =
     let step = c .before .before .before .before .step in
     let loop = c .before .before .before .before .before .before .before .before .before .loop in
-    let start = c .before .before .before .before .before .before .before .before .before .before .before .before .before .before .before .before in
-    (
-  run-more (now (start .args .pairs)) (now (start .args .kept)) (now (start .args .known)) (start .pre .runnable) (loop .inv .0)
-      (subst (λ (w : ℕ). StepTold (sheet (start .args .z) (now (start .args .net)) (now (start .args .tables)) (loop .kept) w) (step .last .1 .1 .1 .1 .0) (loop .known) (step .last .1 .1 .1 .1 .1 .0)) (c .before .before .before .before .before .before .before .pair-at .ensures) (step .ensures)),
-  omega (arith, c .before .before .before .before .before .before .before .before .loop-test .taken),
-)
+    let start = c .before .before .before .before .before .before .before .before .before .before .before .before .before .before .before .before in (
+      run-more (now (start .args .pairs)) (now (start .args .kept)) (now (start .args .known)) (start .pre .runnable) (loop .inv .0)
+          (subst (λ (w : ℕ). StepTold (sheet (start .args .z) (now (start .args .net)) (now (start .args .tables)) (loop .kept) w) (step .last .1 .1 .1 .1 .0) (loop .known) (step .last .1 .1 .1 .1 .1 .0)) (c .before .before .before .before .before .before .before .pair-at .ensures) (step .ensures)),
+      omega (arith, c .before .before .before .before .before .before .before .before .loop-test .taken),
+    )
 
 same-length : tie.Need-same-length Inv-loop μ-loop
 same-length c = search needs
