@@ -1,6 +1,7 @@
 -- `run_values::told_value` meets its contract, way by way.
 use mathlib.Core.Path.{sym, ap, _∙_}
 use Prim.Native.Nat.{ℕ, _+_, _-_}
+use native.Mathlib.Omega.{arith}
 use denote.Ref.{now}
 use Rattle.net_model.specs.Tables.{bit, asNumber}
 use Rattle.run_values.specs.SheetLaws.{told-back, told-input, told-gate}
@@ -27,7 +28,7 @@ returns : tie.Need-returns
 returns c =
     let a = c .before .before .before .before .before .before .args in
     let b = c .before .long-byte .ensures in
-    sym (told-back (a .z .inputs) (now (a .kept)) (a .word) (now (a .known)) (a .v) (a .back) (c .before .before .before .if1 .taken)
+    sym (told-back (a .z .inputs) (now (a .kept)) (a .word) (now (a .known)) (a .v) (a .back) (omega (arith, c .before .before .before .if1 .taken))
     ∙ ap (λ (x : ℕ). 1 + x) (ap (λ (x : ℕ). asNumber (bit x (a .back - 1))) (sym b) ∙ sym (c .bit-of .ensures .0)))
 
 bit-of-requires-2 : tie.Need-bit-of-requires-2
@@ -39,7 +40,7 @@ add-result-2 c = search needs
 returns-2 : tie.Need-returns-2
 returns-2 c =
     let a = c .before .before .before .before .before .before .args in
-    sym (told-input (a .z .inputs) (now (a .kept)) (a .word) (now (a .known)) (a .v) (a .back) (c .before .before .before .if1 .left) (c .before .if2 .taken)
+    sym (told-input (a .z .inputs) (now (a .kept)) (a .word) (now (a .known)) (a .v) (a .back) (omega (arith, c .before .before .before .if1 .left)) (c .before .if2 .taken)
     ∙ ap (λ (x : ℕ). 1 + x) (sym (c .bit-of2 .ensures .0)))
 
 mul-result : tie.Need-mul-result
@@ -51,7 +52,7 @@ shared-slice-read-result c = search needs
 returns-3 : tie.Need-returns-3
 returns-3 c =
     let a = c .before .before .before .before .before .before .before .args in
-    sym (told-gate (a .z .inputs) (now (a .kept)) (a .word) (now (a .known)) (a .v) (a .back) (c .before .before .before .before .if1 .left) (c .before .before .if2 .left))
+    sym (told-gate (a .z .inputs) (now (a .kept)) (a .word) (now (a .known)) (a .v) (a .back) (omega (arith, c .before .before .before .before .if1 .left)) (c .before .before .if2 .left))
 
 pub told-value-spec : {M : Type 1} → statement M
 told-value-spec =
