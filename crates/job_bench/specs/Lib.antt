@@ -1,0 +1,3 @@
+pub mod BenchProgram
+pub mod BenchJob
+pub mod BenchJobLaws
