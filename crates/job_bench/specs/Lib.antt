@@ -1,3 +1,4 @@
 pub mod BenchProgram
 pub mod BenchJob
 pub mod BenchJobLaws
+pub mod SectionExamples

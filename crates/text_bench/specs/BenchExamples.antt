@@ -6,16 +6,16 @@ use Rattle.net_model.specs.Net.{Net, Pin, Gate, gate}
 use Rattle.run_theory.specs.Bench.{ago, repeated, valueAt}
 use Rattle.text_bench.specs.BenchText.{benchDigits, benchLines, benchText}
 
-pin : ℕ → ℕ → Pin
+unfoldable pin : ℕ → ℕ → Pin
 pin s w = record { src = s; count = w }
 
 -- document 01's net C: gate 2 = AND(0:1, 1:1), output reads 2
-pub netC : Net
+unfoldable pub netC : Net
 unfolding pin
 netC = record { inputs = 2; gates = record { pins = pin 0 1 ∷ pin 1 1 ∷ []; table = 8 } ∷ []; outputs = pin 2 0 ∷ [] }
 
 -- net A: gate 2 = AND(0, 1), gate 3 of 2 and of 4 one step back, gate 4 = NOT 3; output reads 4
-pub netA : Net
+unfoldable pub netA : Net
 unfolding pin
 netA = record {
   inputs = 2;
