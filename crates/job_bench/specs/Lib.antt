@@ -2,3 +2,4 @@ pub mod BenchProgram
 pub mod BenchJob
 pub mod BenchJobLaws
 pub mod SectionExamples
+pub mod LongBench

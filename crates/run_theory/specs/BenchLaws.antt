@@ -1,6 +1,6 @@
 -- The run from a section exists and is one: recursion on the step, then on the registerless depth. It is a run in the sense of demand 2; from any step on it is
 -- the run from a section taken there; sections count only as far back as pins reach, inputs only up to the step.
-use mathlib.Core.Path.{_≡_, refl, sym, ap, _∙_}
+use mathlib.Core.Path.{_≡_, refl, sym, ap, ap₂, _∙_}
 use mathlib.Core.Bool.{Bool, cond}
 use mathlib.Core.List.{List, map}
 use Prim.Native.Nat.{ℕ, zero, suc, _+_, _-_, _*_, _≤_, _<_}
@@ -26,6 +26,21 @@ pins-same : (N : Net) (section section′ value value′ : ℕ → ℕ → Bool)
     → gateFrom N section value v t ≡ gateFrom N section′ value′ v t′
 pins-same N section section′ value value′ v t t′ h =
     ap (apply ((gate N v) .table)) (map-same (pinFrom section value t) (pinFrom section′ value′ t′) (pins N v) h)
+
+-- the values at a step are a function of the inputs up to that step
+module _ (N : Net) (section inputs inputs′ : ℕ → ℕ → Bool) (T : ℕ) (same : (v s : ℕ) → s < T → inputs v s ≡ inputs′ v s) where
+  repeated-before : (n v t : ℕ) → t < T → repeated (benchRule N section inputs) n v t ≡ repeated (benchRule N section inputs′) n v t
+  unfolding repeated
+  repeated-before zero v t h = refl
+  repeated-before (suc n) v t h =
+      ap₂ (λ (x y : Bool). cond (ltb v (N .inputs)) x y) (same v t h)
+      (pins-same N section section (repeated (benchRule N section inputs) n) (repeated (benchRule N section inputs′) n) v t t
+      (λ p m. ago-agree (section (p .src)) (section (p .src)) (repeated (benchRule N section inputs) n (p .src)) (repeated (benchRule N section inputs′) n (p .src)) t (p .count) (λ j l. refl)
+      (λ s e. repeated-before n (p .src) s (omega arith))))
+
+  pub value-before : (v t : ℕ) → t < T → valueAt N section inputs v t ≡ valueAt N section inputs′ v t
+  unfolding valueAt
+  value-before v t h = repeated-before (suc t * suc (length (N .gates))) v t h
 
 -- **a run in the sense of demand 2**
 pub bench-run : {N : Net} {section inputs value : ℕ → ℕ → Bool} → Bench N section inputs value → Run N value

@@ -6,15 +6,15 @@ use mathlib.Core.Logic.{_⊎_, inl, inr}
 use Prim.Native.Nat.{ℕ, zero, suc, _+_, _-_, _*_, _≤_, _<_}
 use native.Mathlib.Numerals.{add-one}
 use native.Mathlib.Omega.{arith}
-use lib.ListN.{length, getD}
+use lib.ListN.{length, getD, length-append, List·getD-append}
 use lib.Seq.{getD-drop}
-use Rattle.limits.specs.Limits.{mostOutputs, mostCount}
+use Rattle.limits.specs.Limits.{mostSteps}
 use Rattle.sequences.specs.Listed.{Listed, listed-next}
 use Rattle.net_model.specs.Net.{Net, Pin}
 use Rattle.net_model.specs.Arrays.{netIn, pinsIn}
 use Rattle.net_model.specs.ArrayLaws.{pinAt, outputs-netIn}
 use Rattle.net_model.specs.PackedNet.{outsAt, delaysAt}
-use Rattle.net_model.specs.Tables.{asNumber}
+use Rattle.net_model.specs.Tables.{bit, asNumber}
 use Rattle.cone_values.specs.Values.{map-same}
 use Rattle.cone_values.specs.Words.{asNumber-small}
 use Rattle.cover_records.specs.Listing.{newline}
@@ -23,7 +23,8 @@ use Rattle.net_reader.specs.declared.NetSizes.{NetSizes}
 use Rattle.net_checks.specs.Graphs.{outsOf, delaysOf}
 use Rattle.run_theory.specs.Bench.{ago, pinFrom, valueAt}
 use Rattle.run_theory.specs.BenchBytes.{sectionIn, pairAt, pairsIn}
-use Rattle.run_theory.specs.BenchLaws.{bench}
+use Rattle.run_theory.specs.AgoLaws.{ago-agree}
+use Rattle.run_theory.specs.BenchLaws.{bench, value-before}
 use Rattle.run_theory.specs.StepLaws.{step-pin}
 use Rattle.run_values.specs.Sheets.{Runnable, Sheet, sheet, netOf, valueOf, valueBack, pinOf, Ready, More, NodeAsked, NodeTold}
 use Rattle.run_values.specs.SheetLaws.{runnable-sound, runnable-counts, sheet-bench}
@@ -110,3 +111,32 @@ line-step {z} {net} {tables} {pairs} {kept} {known} {kept′} {known′} {T} r u
 pub text-is : (N : Net) (section pairs : List ℕ) → benchLines N (sectionIn section) (valueAt N (sectionIn section) (pairsIn pairs)) (stepsShown pairs) ≡ benchText N section pairs
 unfolding benchText
 text-is N section pairs = refl
+
+-- ---- later bytes unread
+
+-- the lines of steps whose values are the same
+lines-same : (N : Net) (section value value′ : ℕ → ℕ → Bool) (n : ℕ) → ((v t : ℕ) → t < n → value v t ≡ value′ v t) → benchLines N section value n ≡ benchLines N section value′ n
+unfolding benchLines benchDigits
+lines-same N section value value′ zero h = refl
+lines-same N section value value′ (suc n) h =
+    ap₂ (λ (a b : List ℕ). a ++ (b ++ newline)) (lines-same N section value value′ n (λ v t l. h v t (omega arith)))
+    (map-same (λ (o : Pin). bitDigit (pinFrom section value n o)) (λ (o : Pin). bitDigit (pinFrom section value′ n o)) (N .outputs)
+    (λ o m. ap bitDigit (ago-agree (section (o .src)) (section (o .src)) (value (o .src)) (value′ (o .src)) n (o .count) (λ j l. refl) (λ s e. h (o .src) s (omega arith)))))
+
+-- **bytes behind those of 65,535 steps change nothing**
+pub text-unread : (N : Net) (section pairs rest : List ℕ) → 2 * mostSteps ≤ length pairs → benchText N section pairs ≡ benchText N section (pairs ++ rest)
+text-unread N section pairs rest h =
+    sym (text-is N section pairs)
+    ∙ lines-same N (sectionIn section) (valueAt N (sectionIn section) (pairsIn pairs)) (valueAt N (sectionIn section) (pairsIn (pairs ++ rest))) (stepsShown pairs)
+    (λ v t l. value-before N (sectionIn section) (pairsIn pairs) (pairsIn (pairs ++ rest)) mostSteps same v t (omega arith))
+    ∙ ap (benchLines N (sectionIn section) (valueAt N (sectionIn section) (pairsIn (pairs ++ rest)))) steps
+    ∙ text-is N section (pairs ++ rest)
+  where
+    steps : stepsShown pairs ≡ stepsShown (pairs ++ rest)
+    steps = omega (arith, length-append pairs rest)
+
+    front : (i : ℕ) → i < length pairs → getD pairs i 0 ≡ getD (pairs ++ rest) i 0
+    front i l = sym (List·getD-append pairs rest 0 i l)
+
+    same : (v s : ℕ) → s < mostSteps → pairsIn pairs v s ≡ pairsIn (pairs ++ rest) v s
+    same v s l = ap₂ (λ (low high : ℕ). bit (low + 256 * high) v) (front (2 * s) (omega arith)) (front (2 * s + 1) (omega arith))
