@@ -45,6 +45,10 @@ shortGates = 8
 abbrev pub shortK : ℕ
 shortK = 4
 
+-- document 02, E5: "for 65,535 steps at most"
+abbrev pub mostSteps : ℕ
+mostSteps = 65535
+
 -- ---- what follows
 
 -- pins of a gate, "bits 0..5" of its map, and leaves of a LUT; also the places for them in arrays
@@ -126,6 +130,14 @@ inputRoom = 65536
 -- bytes for the listing: 86 for the first line and 361 for each LUT
 abbrev pub textRoom : ℕ
 textRoom = 12288
+
+-- bytes that the bench takes from its input: k and a length, the longest net that it tells, two for each step
+abbrev pub benchInput : ℕ
+benchInput = 3 + 65535 + 2 * mostSteps
+
+-- bytes for its text: a digit for each output and a newline, for each step
+abbrev pub benchRoom : ℕ
+benchRoom = mostSteps * suc mostOutputs
 
 -- bytes for a refusal or an excess
 abbrev pub refusalRoom : ℕ

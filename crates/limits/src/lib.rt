@@ -3,7 +3,7 @@
 ghost use mathlib.Core.Path.{_≡_};
 ghost use Prim.Native.Nat.{_≤_};
 ghost use Rattle.limits.specs.Courses.{long, short};
-ghost use Rattle.limits.specs.Limits.{mostInputs, mostGates, mostOutputs, leastK, mostK, mostCount, mostPeriod, mostLuts, coverArea, scratchArea, loaderArea, shortGates, shortK, mostPins, mostItems, mostNodes, mostPlaces, mostRows, mostCopies, mostReach, mostBeyond, mostTable, mostList, mostStack, mostHeld, mostPacked, textRoom, refusalRoom, lineRoom, inputRoom};
+ghost use Rattle.limits.specs.Limits.{mostInputs, mostGates, mostOutputs, leastK, mostK, mostCount, mostPeriod, mostLuts, coverArea, scratchArea, loaderArea, shortGates, shortK, mostPins, mostItems, mostNodes, mostPlaces, mostRows, mostCopies, mostReach, mostBeyond, mostTable, mostList, mostStack, mostHeld, mostPacked, textRoom, refusalRoom, lineRoom, inputRoom, mostSteps, benchInput, benchRoom};
 
 pub const INPUTS: usize = 16;
 
@@ -30,6 +30,8 @@ pub const LOADER: usize = 256;
 pub const SHORT_GATES: usize = 8;
 
 pub const SHORT_K: u32 = 4;
+
+pub const STEPS: usize = 65535;
 
 // What follows.
 pub const PINS: usize = 6;
@@ -67,6 +69,10 @@ pub const TEXT: usize = 12288;
 pub const ANSWER: usize = 32;
 
 pub const LINE: usize = 68;
+
+pub const BENCH_INPUT: usize = 3 + 65535 + 2 * STEPS;
+
+pub const BENCH_TEXT: usize = STEPS * (1 + OUTPUTS);
 
 // The limits of one byte of a net.
 pub const INPUTS_BYTE: u8 = INPUTS as u8;
@@ -111,6 +117,9 @@ pub struct Limits {
     pub answer: usize,
     pub line: usize,
     pub input: usize,
+    pub steps: usize,
+    pub bench_input: usize,
+    pub bench_text: usize,
 }
 
 // The constants are the definitions.
@@ -146,6 +155,9 @@ pub fn agree() -> Limits
     ensures answer { λ r. ⌜ refusalRoom ≤ r .answer ⌝ }
     ensures line { λ r. ⌜ r .line ≡ lineRoom ⌝ }
     ensures input { λ r. ⌜ r .input ≡ inputRoom ⌝ }
+    ensures steps { λ r. ⌜ r .steps ≡ mostSteps ⌝ }
+    ensures bench_input { λ r. ⌜ r .«bench_input» ≡ benchInput ⌝ }
+    ensures bench_text { λ r. ⌜ r .«bench_text» ≡ benchRoom ⌝ }
 {
     Limits {
         inputs: INPUTS,
@@ -179,6 +191,9 @@ pub fn agree() -> Limits
         answer: ANSWER,
         line: LINE,
         input: INPUT,
+        steps: STEPS,
+        bench_input: BENCH_INPUT,
+        bench_text: BENCH_TEXT,
     }
 }
 

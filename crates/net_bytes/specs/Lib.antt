@@ -9,3 +9,6 @@ pub mod Items
 pub mod Short
 pub mod Places
 pub mod Refusals
+pub mod Frames
+pub mod Section
+pub mod SectionLaws

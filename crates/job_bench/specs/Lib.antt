@@ -1,0 +1,5 @@
+pub mod BenchProgram
+pub mod BenchJob
+pub mod BenchJobLaws
+pub mod SectionExamples
+pub mod LongBench

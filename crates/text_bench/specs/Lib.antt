@@ -1,0 +1,4 @@
+pub mod BenchText
+pub mod BenchAsked
+pub mod BenchTextLaws
+pub mod BenchExamples
