@@ -44,7 +44,7 @@ accepted-not e = let z : _≡_ {A = ℕ} 0 1 = cc in omega arith
 accepted-same : {m n : ℕ} → accepted m ≡ accepted n → m ≡ n
 accepted-same e = cc
 
-turned-same : {m n : ℕ} → turnedBack m ≡ turnedBack n → m ≡ n
+pub turned-same : {m n : ℕ} → turnedBack m ≡ turnedBack n → m ≡ n
 turned-same e = cc
 
 -- a number is 0 or it is not

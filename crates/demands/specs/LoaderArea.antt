@@ -2,6 +2,7 @@
 use mathlib.Core.Path.{_≡_}
 use mathlib.Core.Bool.{Bool, false}
 use mathlib.Core.List.{List}
+use mathlib.Core.Logic.{_⊎_}
 use Prim.Native.Nat.{ℕ, _%_, _^_, _≤_, _<_}
 use lib.IntN.{ℤ}
 use lib.ListN.{length, getD}
@@ -23,7 +24,7 @@ use Rattle.cover_records.specs.LoaderImage.{imageBytes}
 use Rattle.cover_records.specs.LoaderOutcome.{LoaderOutcome, loaderOutcome, beside}
 use Rattle.cover_records.specs.Marking.{TablesRight}
 use Rattle.cover_records.specs.Outcomes.{accepted, turnedBack, cleared, written}
-use Rattle.demands.specs.TurnedBack.{IsNet}
+use Rattle.demands.specs.TurnedBack.{IsNet, OfMap}
 use Rattle.demands.specs.Calls.{MapCall, mapDone, MapBad, Asked}
 
 -- what a call of map leaves that lends this loader area too
@@ -51,6 +52,8 @@ pub record LoaderArea : Type 0 where
   -- else answer, cover area and scratch are those of map
   pub other : (c : MapCall) (loader : List ℕ) → loaderArea ≤ length loader
       → ((loaderDone c loader) .answer ≡ (mapDone c) .answer) × ((loaderDone c loader) .area ≡ (mapDone c) .area) × ((loaderDone c loader) .scratch ≡ (mapDone c) .scratch)
+  -- no other number is told
+  pub numbers : (c : MapCall) (loader : List ℕ) (n : ℕ) → (loaderDone c loader) .answer ≡ turnedBack n → OfMap n ⊎ (n ≡ 20)
   -- "A refusal leaves the loader area's bytes": and the cover area's
   pub kept : (c : MapCall) (loader : List ℕ) (n : ℕ) → (loaderDone c loader) .answer ≡ turnedBack n → ((loaderDone c loader) .loader ≡ loader) × ((loaderDone c loader) .area ≡ c .area)
   -- "an image, eight bytes per LUT in root order, the first byte lowest ..., and those behind the image are always kept": of the LUTs of the record that stands in the cover area

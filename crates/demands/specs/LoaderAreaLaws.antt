@@ -2,6 +2,7 @@
 use mathlib.Core.Path.{_≡_, refl, sym, subst, subst-refl, ap, ap₂, _∙_, pathJ}
 use mathlib.Core.Bool.{Bool, true, false, cond, _&&_}
 use mathlib.Core.List.{List}
+use mathlib.Core.Logic.{_⊎_, inl, inr}
 use Prim.Native.Nat.{ℕ, zero, suc, _%_, _^_, _≤_, _<_, suc-le-suc, zero-le}
 use native.Mathlib.Nat.{mod-eq-of-lt}
 use native.Mathlib.Omega.{arith}
@@ -34,10 +35,10 @@ use Rattle.cover_records.specs.LoaderLaws.{no-loader}
 use Rattle.cover_records.specs.LoaderOutcome.{LoaderOutcome, beside, tooShort, loaderWritten, loaderChecked, loaderFit, loaderSized, loaderOutcome}
 use Rattle.cover_records.specs.Marking.{TablesRight}
 use Rattle.cover_records.specs.Outcomes.{accepted, turnedBack, Checked, passes, fails, checkNet, cleared, written, Mapped, covered, unreachable, forTarget, mapped, mapSizes, MapOutcome, mapWritten, mapChecked, mapSized, mapOutcome}
-use Rattle.demands.specs.TurnedBack.{IsNet, MapFails}
+use Rattle.demands.specs.TurnedBack.{IsNet, MapFails, OfMap}
 use Rattle.demands.specs.Calls.{MapCall, mapDone, MapBad, MapNet, Asked}
-use Rattle.demands.specs.CallLaws.{turned-not, accepted-not, map-told, untouched, leaves, keyed}
-use Rattle.demands.specs.MapEndsLaws.{map-sized, map-taken}
+use Rattle.demands.specs.CallLaws.{turned-not, turned-same, accepted-not, map-told, untouched, leaves, keyed}
+use Rattle.demands.specs.MapEndsLaws.{map-range, map-sized, map-taken}
 use Rattle.demands.specs.OrderLaws.{one-net, net-range}
 use Rattle.demands.specs.Demand3.{map-fit}
 use Rattle.demands.specs.LoaderArea.{loaderDone, loadedNumber, SatisfiedWhole, LoaderArea}
@@ -174,6 +175,17 @@ module _ (c : MapCall) (loader : List ℕ) where
 
   -- ---- refusals
 
+  numbers-as : (n : ℕ) → (loaderDone c loader) .answer ≡ turnedBack n → OfMap n ⊎ (n ≡ 20)
+  numbers-as n e = go ways
+    where
+      of-map : (mapDone c) .answer ≡ turnedBack n → OfMap n
+      of-map d = map-range (c .net) (c .k) (c .target) (c .area) (c .scratch) n (map-told c n .0 d .fails)
+
+      go : Ways → OfMap n ⊎ (n ≡ 20)
+      go (turned m s d q) = inl (of-map (sym (ap (λ (o : LoaderOutcome). o .answer) q) ∙ e))
+      go (cut z t q) = inr (sym (turned-same (sym (ap (λ (o : LoaderOutcome). o .answer) q) ∙ e)))
+      go (goes z t m q) = inl (of-map (sym (ap (λ (o : LoaderOutcome). o .answer) q) ∙ e))
+
   kept-written : {N : Net} (m : Mapped N (c .k)) {n : ℕ} → (mapWritten long m (c .area) (c .scratch)) .answer ≡ turnedBack n → loaderWritten m loader ≡ loader
   unfolding mapWritten loaderWritten
   kept-written (covered φ K) e = absurd (accepted-not e)
@@ -254,6 +266,7 @@ loader-area = record {
   early = early-as;
   short = short-as;
   other = other-as;
+  numbers = numbers-as;
   kept = kept-as;
   image = image-as;
   value = value-of;
