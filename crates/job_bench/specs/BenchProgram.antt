@@ -35,13 +35,13 @@ benchRead (refused n) pairs = refusalText n
 benchRead (got d end) pairs = benchDrawn d pairs
 
 -- refusals in document 01's order; the program lends areas that are large enough, so that 3 never arises, and there is no target, so that 2 does not
-unfoldable pub bench : ℕ → List ℕ → List ℕ → List ℕ
+unfoldable pub benchOf : ℕ → List ℕ → List ℕ → List ℕ
 unfolding benchRead drawnReader
-bench k net pairs = cond (not (between leastK mostK k)) (refusalText 1) (benchRead (drawnReader long k net) pairs)
+benchOf k net pairs = cond (not (between leastK mostK k)) (refusalText 1) (benchRead (drawnReader long k net) pairs)
 
 -- "The bench program reads k, a two-byte length, the net (what there is of it), then two input bytes per step, all low first"; "k or length missing reads as 0"
 unfoldable pub benchProgram : List ℕ → List ℕ
-unfolding bench
+unfolding benchOf
 benchProgram input =
     let n = getD input 1 0 + 256 * getD input 2 0 in
-    bench (getD input 0 0) (take n (drop 3 input)) (drop n (drop 3 input))
+    benchOf (getD input 0 0) (take n (drop 3 input)) (drop n (drop 3 input))

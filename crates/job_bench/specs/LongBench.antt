@@ -18,7 +18,7 @@ use Rattle.cone_theory.specs.ChecksDecided.{loopless?, reached?, leading?}
 use Rattle.cover_records.specs.Listing.{refusalText}
 use Rattle.text_bench.specs.BenchText.{benchText}
 use Rattle.text_bench.specs.BenchTextLaws.{text-unread}
-use Rattle.job_bench.specs.BenchProgram.{benchSection, benchGraph, benchDrawn, benchRead, bench, benchProgram}
+use Rattle.job_bench.specs.BenchProgram.{benchSection, benchGraph, benchDrawn, benchRead, benchOf, benchProgram}
 
 -- input bytes with which every net has the same text
 module _ (pairs pairs′ : List ℕ) (same : (N : Net) (section : List ℕ) → benchText N section pairs ≡ benchText N section pairs′) where
@@ -38,8 +38,8 @@ module _ (pairs pairs′ : List ℕ) (same : (N : Net) (section : List ℕ) → 
   read-same (refused n) = refl
   read-same (got d end) = graph-same d (loopless? (d .net)) (reached? (d .net)) (leading? (d .net))
 
-  bench-same : (k : ℕ) (net : List ℕ) → bench k net pairs ≡ bench k net pairs′
-  unfolding bench
+  bench-same : (k : ℕ) (net : List ℕ) → benchOf k net pairs ≡ benchOf k net pairs′
+  unfolding benchOf
   bench-same k net = ap (λ (l : List ℕ). cond (not (between leastK mostK k)) (refusalText 1) l) (read-same (drawnReader long k net))
 
 -- **what follows the first 196,608 bytes changes nothing**
@@ -47,9 +47,9 @@ pub bench-cut : (s t : List ℕ) → Bytes s → benchInput ≤ length s → ben
 unfolding benchProgram
 bench-cut s t b l =
     bench-same (drop n behind) (drop n behind ++ t) (λ N section. text-unread N section (drop n behind) t (omega (arith, length-drop n behind, length-drop 3 s, byte 1 (omega arith), byte 2 (omega arith)))) (getD s 0 0) (take n behind)
-    ∙ ap₂ (λ (net pairs : List ℕ). bench (getD s 0 0) net pairs) (sym (take-append-le n behind t enough)) (sym (drop-append-le n behind t enough))
-    ∙ ap₂ (λ (k : ℕ) (r : List ℕ). bench k (take n r) (drop n r)) (at 0 (omega arith)) (sym (drop-append-le 3 s t (omega arith)))
-    ∙ ap (λ (m : ℕ). bench (getD (s ++ t) 0 0) (take m (drop 3 (s ++ t))) (drop m (drop 3 (s ++ t)))) (ap₂ (λ (low high : ℕ). low + 256 * high) (at 1 (omega arith)) (at 2 (omega arith)))
+    ∙ ap₂ (λ (net pairs : List ℕ). benchOf (getD s 0 0) net pairs) (sym (take-append-le n behind t enough)) (sym (drop-append-le n behind t enough))
+    ∙ ap₂ (λ (k : ℕ) (r : List ℕ). benchOf k (take n r) (drop n r)) (at 0 (omega arith)) (sym (drop-append-le 3 s t (omega arith)))
+    ∙ ap (λ (m : ℕ). benchOf (getD (s ++ t) 0 0) (take m (drop 3 (s ++ t))) (drop m (drop 3 (s ++ t)))) (ap₂ (λ (low high : ℕ). low + 256 * high) (at 1 (omega arith)) (at 2 (omega arith)))
   where
     n : ℕ
     n = getD s 1 0 + 256 * getD s 2 0

@@ -9,7 +9,7 @@ use Rattle.net_bytes.specs.Walk.{bodyReader, gateReader, outputReader, pinsFrom
 use Rattle.net_bytes.specs.Section.{drawn, drawnReader}
 use Rattle.cover_records.specs.Listing.{refusalText}
 use Rattle.text_bench.specs.BenchExamples.{netC}
-use Rattle.job_bench.specs.BenchProgram.{bench, benchRead, benchProgram}
+use Rattle.job_bench.specs.BenchProgram.{benchOf, benchRead, benchProgram}
 
 -- all of its bytes behind the first
 abbrev pub bodyC : List ℕ
@@ -36,5 +36,5 @@ inputs-refused = (refl, refl, refl)
 -- nothing to read: k is 0; k alone: the net is empty; a length beyond the input: the net is what is there
 pub input-missing :
     (benchProgram [] ≡ refusalText 1) × (benchProgram (2 ∷ []) ≡ refusalText 4) × (benchProgram (2 ∷ 9 ∷ 0 ∷ 0x82 ∷ 1 ∷ []) ≡ refusalText 4)
-unfolding benchProgram bench benchRead drawnReader bodyReader gateReader outputReader pinsFrom fromBytes times ones onesIn
+unfolding benchProgram benchOf benchRead drawnReader bodyReader gateReader outputReader pinsFrom fromBytes times ones onesIn
 input-missing = (refl, refl, refl)

@@ -11,11 +11,11 @@ use Rattle.net_reader.specs.ReadAnswer.{arraysOf}
 use Rattle.net_reader.specs.declared.NetSizes.{NetSizes}
 use Rattle.run_theory.specs.Bench.{valueAt, Keeps}
 use Rattle.run_theory.specs.BenchBytes.{sectionIn, pairsIn, stepsOf}
-use Rattle.run_values.specs.Sheets.{Runnable, Sheet, valueOf, told, Ready}
+use Rattle.run_values.specs.Sheets.{Runnable, Sheet, valueOf, told, StepReady}
 
 -- the first n gates of the order are noted
 pub record Ordering (S : Sheet) (known₀ known : List ℕ) (n : ℕ) : Type 0 where
-  pub ready : Ready S known
+  pub ready : StepReady S known
   pub long : length known ≡ length known₀
   pub noted : (i : ℕ) → i < n → 1 ≤ getD known (getD (S .net) (orderAt (S .sizes .inputs) (S .sizes .gates) + i) 0) 0
 

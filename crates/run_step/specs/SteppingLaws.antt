@@ -23,7 +23,7 @@ use Rattle.run_theory.specs.Bench.{ago, valueAt, Keeps}
 use Rattle.run_theory.specs.BenchBytes.{sectionIn, pairAt, pairsIn}
 use Rattle.run_theory.specs.BenchLaws.{bench}
 use Rattle.run_theory.specs.StepLaws.{keeps-zero, step-keeps}
-use Rattle.run_values.specs.Sheets.{Runnable, Sheet, sheet, netOf, valueOf, valueBack, told, Ready, More, NodeTold}
+use Rattle.run_values.specs.Sheets.{Runnable, Sheet, sheet, netOf, valueOf, valueBack, told, StepReady, More, NodeTold}
 use Rattle.run_values.specs.SheetLaws.{runnable-sound, runnable-counts, sheet-bench, told-right, told-input, told-gate}
 use Rattle.run_step.specs.Stepping.{Ordering, Valued, nextByte, AdvanceAsked, Advanced, StepAsked, StepTold, RunTo}
 
@@ -47,7 +47,7 @@ next-older byte b j h =
 -- ---- the gates in order
 
 module _ {S : Sheet} {known₀ : List ℕ} where
-  pub ordering-none : Ready S known₀ → Ordering S known₀ known₀ 0
+  pub ordering-none : StepReady S known₀ → Ordering S known₀ known₀ 0
   ordering-none r = record { ready = r; long = refl; noted = λ i h. absurd (omega arith) }
 
   pub ordering-more : {known known′ : List ℕ} {n : ℕ} (g r : ℕ) → Ordering S known₀ known n → g ≡ getD (S .net) (orderAt (S .sizes .inputs) (S .sizes .gates) + n) 0
@@ -111,11 +111,11 @@ told-bit {z} {known} {kept} word v a h = go (decLt v (z .inputs))
         (omega (arith, a .low (v - z .inputs) (omega arith)), omega (arith, a .high (v - z .inputs) (omega arith)))
 
 -- nothing is noted yet
-pub none-noted : {S : Sheet} {known known′ : List ℕ} → StepAsked (S .sizes) (S .net) (S .tables) (S .kept) known → length known′ ≡ length known → ((g : ℕ) → g < length known → getD known′ g 0 ≡ 0) → Ready S known′
+pub none-noted : {S : Sheet} {known known′ : List ℕ} → StepAsked (S .sizes) (S .net) (S .tables) (S .kept) known → length known′ ≡ length known → ((g : ℕ) → g < length known → getD known′ g 0 ≡ 0) → StepReady S known′
 none-noted a l z = record { net = a .runnable; kept = a .room; size = omega (arith, a .size, l); right = λ g h. inl (z g (omega (arith, a .size, h))) }
 
 module _ {S : Sheet} {known known′ : List ℕ} (q : StepAsked (S .sizes) (S .net) (S .tables) (S .kept) known) (w : Valued S known known′) where
-  pub valued-ready : Ready S known′
+  pub valued-ready : StepReady S known′
   valued-ready = record { net = q .runnable; kept = q .room; size = omega (arith, q .size, w .long); right = λ g h. inr (w .all g h) }
 
   pub valued-asks : AdvanceAsked (S .sizes) known′ (S .kept)

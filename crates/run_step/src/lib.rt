@@ -11,10 +11,10 @@ ghost use mathlib.Core.Path.{_≡_};
 ghost use Prim.Native.Nat.{_+_, _*_, _<_};
 ghost use lib.ListN.{length};
 ghost use Rattle.run_theory.specs.BenchBytes.{pairAt, stepsOf};
-ghost use Rattle.run_values.specs.Sheets.{sheet, Ready};
+ghost use Rattle.run_values.specs.Sheets.{sheet, StepReady};
 ghost use Rattle.run_step.specs.Stepping.{Valued, nextByte, AdvanceAsked, Advanced, StepAsked, StepTold, RunTo};
 
-// The values of all gates, in check 9's order: what drives a gate without a register is known before the gate, so that calls do not nest.
+// The values of all gates, in check 9's order: what drives a gate without a register is known before the gate, so that calls nest three deep: gate, pin, node.
 fn value_gates(
     z: NetSizes,
     net: &[usize],
@@ -23,7 +23,7 @@ fn value_gates(
     word: u64,
     known: &mut [usize],
 )
-    requires { ⌜ Ready (sheet z (now net) (now tables) (now kept) word) (now known) ⌝ }
+    requires { ⌜ StepReady (sheet z (now net) (now tables) (now kept) word) (now known) ⌝ }
     ensures { λ _. ⌜ Valued (sheet z (now (net .entry)) (now (tables .entry)) (now (kept .entry)) word) (now (known .entry)) (now (known .exit)) ⌝ }
 {
     let at = order_at(z, net);

@@ -28,7 +28,7 @@ use Rattle.run_theory.specs.Bench.{ago, Bench, Counts, valueAt}
 use Rattle.run_theory.specs.BenchBytes.{sectionIn}
 use Rattle.run_theory.specs.BenchLaws.{bench}
 use Rattle.run_theory.specs.LevelOf.{levelOf, level-rises, level-bound}
-use Rattle.run_values.specs.Sheets.{Runnable, Sheet, netOf, wordIn, valueOf, valueBack, pinOf, told, Ready, More, NodeAsked, NodeTold, PinAsked, PinTold, pinsNow, nodeMeasure, pinMeasure}
+use Rattle.run_values.specs.Sheets.{Runnable, Sheet, netOf, wordIn, valueOf, valueBack, pinOf, told, StepReady, More, NodeAsked, NodeTold, PinAsked, PinTold, pinsNow, nodeMeasure, pinMeasure}
 
 -- ---- the net
 
@@ -115,7 +115,7 @@ module _ (I : ℕ) (kept : List ℕ) (word : ℕ) (known : List ℕ) (v : ℕ) w
   told-gate zero z h = ap (λ (b : Bool). cond b (suc (asNumber (bit word v))) (getD known (v - I) 0)) (le-ltb v I h)
   told-gate (suc back) z h = absurd (omega arith)
 
-module _ {S : Sheet} {known : List ℕ} (r : Ready S known) where
+module _ {S : Sheet} {known : List ℕ} (r : StepReady S known) where
   -- where something is told, it is the value
   pub told-right : (v back : ℕ) → v < S .sizes .inputs + S .sizes .gates → 1 ≤ told (S .sizes .inputs) (S .kept) (S .word) known v back
       → told (S .sizes .inputs) (S .kept) (S .word) known v back ≡ suc (asNumber (valueBack S v back))

@@ -70,7 +70,7 @@ told I kept word known v (suc back) = suc (asNumber (bit (getD kept v 0) back))
 
 -- ---- what is noted in a step: of each gate 0, or 1 more than its value
 
-pub record Ready (S : Sheet) (known : List ℕ) : Type 0 where
+pub record StepReady (S : Sheet) (known : List ℕ) : Type 0 where
   pub net : Runnable (S .sizes) (S .net) (S .tables)
   pub kept : S .sizes .inputs + S .sizes .gates ≤ length (S .kept)
   pub size : S .sizes .gates ≤ length known
@@ -78,12 +78,12 @@ pub record Ready (S : Sheet) (known : List ℕ) : Type 0 where
 
 -- more may be noted, nothing is lost
 pub record More (S : Sheet) (known known′ : List ℕ) : Type 0 where
-  pub ready : Ready S known′
+  pub ready : StepReady S known′
   pub long : length known′ ≡ length known
   pub stays : (g : ℕ) → 1 ≤ getD known g 0 → 1 ≤ getD known′ g 0
 
 pub record NodeAsked (S : Sheet) (known : List ℕ) (v back : ℕ) : Type 0 where
-  pub ready : Ready S known
+  pub ready : StepReady S known
   pub node : v < S .sizes .inputs + S .sizes .gates
   pub count : back ≤ mostCount
 
@@ -95,7 +95,7 @@ pub record NodeTold (S : Sheet) (known known′ : List ℕ) (v back r : ℕ) : T
 
 -- place p has a pin
 pub record PinAsked (S : Sheet) (known : List ℕ) (p : ℕ) : Type 0 where
-  pub ready : Ready S known
+  pub ready : StepReady S known
   pub gate : p / stride < S .sizes .gates
   pub pin : p % stride < getD (S .net) (p / stride) 0
 

@@ -10,7 +10,7 @@ use Rattle.net_reader.specs.ReadAnswer.{arraysOf}
 use Rattle.net_reader.specs.declared.NetSizes.{NetSizes}
 use Rattle.net_checks.specs.Graphs.{outsOf, delaysOf}
 use Rattle.run_theory.specs.BenchBytes.{sectionIn}
-use Rattle.run_values.specs.Sheets.{Sheet, netOf, valueOf, pinOf, Ready, More}
+use Rattle.run_values.specs.Sheets.{Sheet, netOf, valueOf, pinOf, StepReady, More}
 use Rattle.run_step.specs.Stepping.{StepAsked, StepTold}
 use Rattle.text_digits.specs.Put.{Put}
 use Rattle.text_bench.specs.BenchText.{bitDigit, benchDigits, benchLine}
@@ -21,7 +21,7 @@ firstDigits S n = map (λ (o : Pin). bitDigit (pinOf S o)) (pinsIn (outsOf (S .s
 
 -- room for the digits of the outputs
 pub record DigitsAsked (S : Sheet) (known : List ℕ) (at : ℕ) (out : List ℕ) : Type 0 where
-  pub ready : Ready S known
+  pub ready : StepReady S known
   pub room : at + S .sizes .outputs ≤ length out
 
 pub record DigitsTold (S : Sheet) (known known′ : List ℕ) (at : ℕ) (out out′ : List ℕ) (r : ℕ) : Type 0 where

@@ -26,7 +26,7 @@ use Rattle.run_theory.specs.BenchBytes.{sectionIn, pairAt, pairsIn}
 use Rattle.run_theory.specs.AgoLaws.{ago-agree}
 use Rattle.run_theory.specs.BenchLaws.{bench, value-before}
 use Rattle.run_theory.specs.StepLaws.{step-pin}
-use Rattle.run_values.specs.Sheets.{Runnable, Sheet, sheet, netOf, valueOf, valueBack, pinOf, Ready, More, NodeAsked, NodeTold}
+use Rattle.run_values.specs.Sheets.{Runnable, Sheet, sheet, netOf, valueOf, valueBack, pinOf, StepReady, More, NodeAsked, NodeTold}
 use Rattle.run_values.specs.SheetLaws.{runnable-sound, runnable-counts, sheet-bench}
 use Rattle.run_step.specs.Stepping.{Valued, RunTo}
 use Rattle.text_bench.specs.BenchText.{bitDigit, benchDigits, benchLine, benchLines, benchText, stepsShown}
@@ -49,7 +49,7 @@ module _ (S : Sheet) where
   digits-all = ap (map (λ (o : Pin). bitDigit (pinOf S o))) (sym (outputs-netIn (arraysOf (S .sizes) (S .net) (S .tables))))
 
 -- output o
-module _ {S : Sheet} {known : List ℕ} (r : Ready S known) {o source count : ℕ} (h : o < S .sizes .outputs)
+module _ {S : Sheet} {known : List ℕ} (r : StepReady S known) {o source count : ℕ} (h : o < S .sizes .outputs)
     (s : source ≡ getD (S .net) (outsAt (S .sizes .inputs) (S .sizes .gates) + o) 0) (c : count ≡ getD (S .net) (delaysAt (S .sizes .inputs) (S .sizes .gates) (S .sizes .outputs) + o) 0) where
   source-is : source ≡ getD (outsOf (S .sizes) (S .net)) o 0
   source-is = s ∙ sym (getD-drop (outsAt (S .sizes .inputs) (S .sizes .gates)) (S .net) o 0)
