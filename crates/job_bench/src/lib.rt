@@ -7,7 +7,7 @@ use text_digits::write_refusal;
 ghost use Prim.Native.Nat.{_≤_};
 ghost use lib.ListN.{length};
 ghost use Rattle.net_model.specs.Arrays.{netIn};
-ghost use Rattle.net_bytes.specs.Section.{drawn};
+ghost use Rattle.net_bytes.specs.Walk.{drawn};
 ghost use Rattle.net_reader.specs.ReadAnswer.{arraysOf};
 ghost use Rattle.cover_writer.specs.Writing.{Wrote};
 ghost use Rattle.job_bench.specs.BenchProgram.{benchDrawn};
