@@ -155,8 +155,8 @@ module _ (net : List ℕ) (k : ℕ) (bytes scratch : List ℕ) where
 -- **All of it is proved.**
 pub short-course : ShortCourse
 short-course = record {
-  map-same = λ net k target area scratch h g. map-alike net k target area scratch h (λ e. check-same short long k net (courses-same k net g));
-  mark-same = λ net k bytes scratch h g. mark-alike net k bytes scratch h (λ e. check-same short long k net (courses-same k net g));
+  map-same = λ net k target area scratch h g. map-alike net k target area scratch h (λ e. check-same short long k net net (courses-same k net g));
+  mark-same = λ net k bytes scratch h g. mark-alike net k bytes scratch h (λ e. check-same short long k net net (courses-same k net g));
   map-early = λ net k target area scratch h n. map-alike net k target area scratch h (λ e. absurd (n e));
   mark-early = λ net k bytes scratch h n. mark-alike net k bytes scratch h (λ e. absurd (n e));
   map-one = λ net k target area scratch h. map-told net k target area scratch 0 (map-sizes-one k target area scratch h);

@@ -1,4 +1,4 @@
--- Definitions: the bench program (document 02, E5), from the bytes it reads to the bytes it prints. No program uses the whole of it yet.
+-- Definitions: the bench program (document 02, E5), from the bytes it reads to the bytes it prints.
 use mathlib.Core.Bool.{cond, not}
 use mathlib.Core.List.{List, [], _∷_}
 use Prim.Native.Nat.{ℕ, _+_, _*_}
