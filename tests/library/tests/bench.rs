@@ -48,6 +48,8 @@ fn stored_input() {
 #[test]
 fn examples() {
     let c = c_with_section();
+    let file = concat!(env!("CARGO_MANIFEST_DIR"), "/../../examples/bench-c.bin");
+    assert_eq!(same(&fs::read(file).expect("the example")), "1\n0\n1\n");
     // Gate 2 at step 0 is and(1, 1), not its section bit.
     assert_eq!(bench(2, &c, &[2, 0]), "1\n");
     assert_eq!(bench(2, &c, &[2, 0, 3, 0, 0, 0]), "1\n0\n1\n");
