@@ -6,7 +6,7 @@ use crate::compare::{some_k, some_net, Tally};
 use crate::programs::printed;
 use second::damage::damaged;
 use second::encode::{encode, random_section, with_section};
-use second::generate::{random_net, wild_net, Shape};
+use second::generate::{random_net, Shape};
 use second::{parse_with_section, programs, Answer, Net, Random};
 
 /// k, the net's length, the net and the bytes behind it.
@@ -56,10 +56,6 @@ pub fn stored() -> Vec<u8> {
 /// Mostly a net with a section, and up to 40 steps; some inputs are cut off or damaged.
 fn some_input(random: &mut Random) -> Vec<u8> {
     let (mut net, pins) = some_net(random);
-    if random.chance(10) {
-        let shape = Shape::any(random, 3, pins);
-        net = encode(&wild_net(random, &shape));
-    }
     if let Ok((read, None)) = parse_with_section(&net, 6) {
         if random.chance(90) {
             net = sectioned(random, &read);

@@ -10,7 +10,7 @@ use second::jobs::{Course, COVER_BYTES, LONG, SCRATCH_BYTES, SHORT};
 use second::listing::{listing_within, GAVE_UP};
 use second::loader::{image, LOADER_BYTES};
 use second::mark::check_cover;
-use second::{parse_net, read_net, read_record, Answer, Areas, Limits, Random};
+use second::{parse_net, read_net, read_record, Answer, Areas, Limits, Net, Random};
 use std::collections::BTreeMap;
 use std::thread::Builder;
 
@@ -483,6 +483,15 @@ pub fn deep(random: &mut Random, gates: usize, pins: usize) -> Shape {
     }
 }
 
+/// A few gates with many registers: now and then some is reached from no input, or leads to no output.
+fn small_wild(random: &mut Random, pins: usize) -> Net {
+    let shape = Shape {
+        registers: 60,
+        ..Shape::any(random, 4, pins.min(2))
+    };
+    wild_net(random, &shape)
+}
+
 /// Net bytes of all kinds, and the most pins of a gate.
 pub fn some_net(random: &mut Random) -> (Vec<u8>, usize) {
     let pins = random.within(1, 6);
@@ -492,7 +501,8 @@ pub fn some_net(random: &mut Random) -> (Vec<u8>, usize) {
         _ => deep(random, gates, pins),
     };
     let bytes = match random.below(20) {
-        0 | 1 => encode_with_holes(&wild_net(random, &shape), random),
+        0 => encode_with_holes(&wild_net(random, &shape), random),
+        1 => encode_with_holes(&small_wild(random, pins), random),
         2 => (0..random.below(60)).map(|_| random.byte()).collect(),
         3 => {
             let family = random.below(FAMILIES.len());
