@@ -55,7 +55,7 @@ net-empty R k = refl
 -- ---- with a section
 
 -- bytes read one by one are those in front
-times-bytes : (early bad : ℕ) (ok : ℕ → Bool) (n : ℕ) (s l r : List ℕ) → times n (byte early bad ok) s ≡ got l r → s ≡ l ++ r
+pub times-bytes : (early bad : ℕ) (ok : ℕ → Bool) (n : ℕ) (s l r : List ℕ) → times n (byte early bad ok) s ≡ got l r → s ≡ l ++ r
 unfolding times
 times-bytes early bad ok zero s l r e = let a : [] ≡ l = cc in let b : s ≡ r = cc in b ∙ ap (λ (x : List ℕ). x ++ r) a
 times-bytes early bad ok (suc n) [] l r e = absurd (refused-not-got early l r e)
