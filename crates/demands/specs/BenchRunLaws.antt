@@ -77,7 +77,7 @@ drawn-most k bytes b d x = go (decLe (length bytes) mostNetBytes)
     go (yes l) = l
     go (no n) =
         let r = short-refuses (short-net long k) bytes b (omega arith) in
-        absurd (refused-not-got (r .0) (d .net) (x .0) (sym (r .1 []) ∙ ap (netReader long k) (append-nil bytes) ∙ drawn-net k bytes d x .1))
+        absurd (refused-not-got (r .0) (d .net) (drawn-net k bytes d x .0) (sym (r .1 []) ∙ ap (netReader long k) (append-nil bytes) ∙ drawn-net k bytes d x .1))
 
 -- ---- the text, one law for each way out
 
