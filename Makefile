@@ -9,7 +9,7 @@ run: programs
 
 # The proved programs, in target/bin. rt proves again what changed, and is quick where nothing did;
 # .ci/progress says on standard error which crates were proved and how many are left.
-PROGRAMS = listing marking reading classes
+PROGRAMS = listing marking bench reading classes
 programs:
 	@.ci/progress .rt-programs.log check $(PROGRAMS)
 
@@ -23,11 +23,12 @@ library:
 	@.ci/progress .rt-library.log check kamfelu
 	@.ci/progress .rt-library.log staticlib kamfelu
 
-# Times of map, mark and the second mapper on the same nets, and ABC's periods where it is installed; then of align and a plain loop, then of mark on records with large cones.
-bench: library
-	cd tests && cargo run --profile timing --offline --quiet -p library --bin bench
+# Times of map, mark and the second mapper on the same nets, and ABC's periods where it is installed; then of align and a plain loop, of mark on records with large cones, and of the bench program.
+bench: library programs
+	cd tests && cargo run --profile timing --offline --quiet -p library --bin timing
 	cd tests && cargo run --profile timing --offline --quiet -p library --bin bench_align
 	cd tests && cargo run --profile timing --offline --quiet -p library --bin bench_leaves
+	cd tests && cargo run --profile timing --offline --quiet -p library --bin bench_steps
 
 # The deepest stack use seen.
 depth: library
@@ -38,7 +39,7 @@ MINUTES ?= 20
 soak: library programs
 	cd tests && cargo run --release --offline --quiet -p library --bin soak -- $(MINUTES) $(SEED)
 
-# The stored batch of the reader's gate, crates/reading/stdin, and the second mapper's answers, stdout.
+# The stored inputs of the reader's gate and of the bench program, crates/reading/stdin and crates/bench/stdin, and the second mapper's answers, stdout.
 batch: library
 	cd tests && cargo run --release --offline --quiet -p library --bin batch
 

@@ -20,9 +20,12 @@ extern "C" {
      call. Net and record are only read.
    - A call takes less than 256 KiB of the calling thread's stack.
    - The library keeps nothing between calls; calls on different areas may run at the same time.
+   - A net record has at most 803 bytes. It may end with a section, the nodes' values before step 0, from which the bench
+     program starts; bit 7 of its first byte says so. Answers and areas are then those for the net without it.
 
    Refusals. Map checks 1 to 12, and 20 between 3 and 4 where a loader area is lent; mark 1, 3 to 11 and 13 to 18, find
-   root 19, align 23. The first that fails is told, of 4 to 8 the first met in one walk over the net's bytes.
+   root 19, align 23; the bench program 1, 4 to 11, then 21. The first that fails is told, of 4 to 8 the first met in one
+   walk over the net's bytes.
 
     1  k is not 2 to 6.
     2  The target is above 32.
@@ -31,9 +34,9 @@ extern "C" {
     5  The number of inputs is not 1 to 16, that of gates not 1 to 32, or that of outputs not 1 to 16.
     6  A byte of the net has a value that its place forbids: a pin map that is 0 or above 63, a register map with a
        bit that the pin map lacks, a source that is no node, a count that is not 1 to 3, a table with spare bits set,
-       an output's map above 1.
+       an output's map above 1, a section byte above 7.
     7  A gate has more pins than k.
-    8  Bytes follow the net's last output.
+    8  Bytes follow the net's last output, or its section.
     9  A loop of gates has no register.
    10  Some gate is reached from no input.
    11  Some gate leads to no output.
@@ -51,6 +54,7 @@ extern "C" {
    19  The record ends or breaks its layout before a root that is not below the gate, or before its last LUT's end (find
        root only).
    20  A loader area is lent that has fewer than 256 bytes (map with a loader area only).
+   21  A run is wanted of a net without a section (bench only).
    23  A capture has more than 4,096 words (align only). */
 
 /* Map: a cover of a net for LUTs with k inputs that meets the target, or the least period for target 0.

@@ -16,6 +16,8 @@
 //! - `Err` has the number of a refusal. README.md of the repository lists them, "Refusals".
 //! - Nothing is assumed of the contents of any argument. docs/FORMATS.md explains net records and
 //!   cover records.
+//! - A net record has at most 803 bytes. It may end with a section, the nodes' values before step 0,
+//!   from which the bench program starts; answers and areas are then those for the net without it.
 //! - A call takes less than 256 KiB of the calling thread's stack.
 //!   See [`STACK`].
 //! - Nothing is kept between calls; threads may call at the same time.

@@ -83,13 +83,13 @@ sound-same p q i = record { pin = λ v g x m. le-prop (p .pin v g x m) (q .pin v
 fits-same : {N : Net} {k : ℕ} (p q : Fits N k) → p ≡ q
 fits-same p q i v g = le-prop (p v g) (q v g) i
 
--- **Rules under which the walk reads the same give the same checks.**
-pub check-same : (R S : Rules) (k : ℕ) (s : List ℕ) → netReader R k s ≡ netReader S k s → checkNet R k s ≡ checkNet S k s
-check-same R S k s e = read-as R k s (netReader S k s) e ∙ go (netReader S k s) e refl
+-- **Rules and records under which the walk reads the same give the same checks.**
+pub check-same : (R S : Rules) (k : ℕ) (s t : List ℕ) → netReader R k s ≡ netReader S k t → checkNet R k s ≡ checkNet S k t
+check-same R S k s t e = read-as R k s (netReader S k t) e ∙ go (netReader S k t) e refl
   where
-    go : (r : Result Net) (p : netReader R k s ≡ r) (q : netReader S k s ≡ r) → checkRead R k s r p ≡ checkNet S k s
-    go (refused n) p q = unfold checkRead in sym (check-refused S k s n q)
+    go : (r : Result Net) (p : netReader R k s ≡ r) (q : netReader S k t ≡ r) → checkRead R k s r p ≡ checkNet S k t
+    go (refused n) p q = unfold checkRead in sym (check-refused S k t n q)
     go (got N rest) p q =
         unfold checkRead in
-        ap₂ (λ (a : Sound N) (b : Fits N k). checkGraph N k a b (loopless? N) (reached? N) (leading? N)) (sound-same (walk-sound R k s N rest p) (walk-sound S k s N rest q))
-        (fits-same (walk-fits R k s N rest p) (walk-fits S k s N rest q)) ∙ sym (as-graph S k s N rest q)
+        ap₂ (λ (a : Sound N) (b : Fits N k). checkGraph N k a b (loopless? N) (reached? N) (leading? N)) (sound-same (walk-sound R k s N rest p) (walk-sound S k t N rest q))
+        (fits-same (walk-fits R k s N rest p) (walk-fits S k t N rest q)) ∙ sym (as-graph S k t N rest q)

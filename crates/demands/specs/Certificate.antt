@@ -38,6 +38,8 @@ use Rattle.demands.specs.MarkEndsLaws.{mark-range}
 use Rattle.demands.specs.Right.{RightRecord, Wrote}
 use Rattle.demands.specs.ShortCourse.{ShortCourse}
 use Rattle.demands.specs.ShortCourseLaws.{short-course}
+use Rattle.demands.specs.BenchRun.{BenchRun}
+use Rattle.demands.specs.BenchRunLaws.{bench-run}
 use Rattle.demands.specs.LoaderArea.{LoaderArea}
 use Rattle.demands.specs.LoaderAreaLaws.{loader-area}
 use Rattle.demands.specs.CallLaws as law
@@ -112,6 +114,8 @@ pub record Certificate : Type 0 where
   pub course : ShortCourse
   -- ---- Document 02, E4: tables for the loader, fields in `LoaderArea`. The contract of `job_map: map_loader` equates what it does, for all arguments, with `loaderOutcome`.
   pub loader : LoaderArea
+  -- ---- Document 02, E5: starting values and a bench run, fields in `BenchRun`. The contract of `job_bench: bench` equates what it prints, for all bytes read, with `benchProgram`.
+  pub bench : BenchRun
 
 -- **All of it is proved.**
 pub certificate : Certificate
@@ -147,4 +151,5 @@ certificate = record {
   lookup = leaf-lookup;
   course = short-course;
   loader = loader-area;
+  bench = bench-run;
 }

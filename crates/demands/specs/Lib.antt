@@ -16,4 +16,6 @@ pub mod ShortCourse
 pub mod ShortCourseLaws
 pub mod LoaderArea
 pub mod LoaderAreaLaws
+pub mod BenchRun
+pub mod BenchRunLaws
 pub mod Certificate

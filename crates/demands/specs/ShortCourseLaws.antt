@@ -11,9 +11,9 @@ use Rattle.limits.specs.Limits.{leastK, mostInputs, mostPeriod, coverArea, scra
 use Rattle.limits.specs.Courses.{long, short}
 use Rattle.limits.specs.declared.Rules.{Rules}
 use Rattle.net_model.specs.Net.{Net}
-use Rattle.net_bytes.specs.Reading.{Result, Reader, andThen, check, atEnd, between, got, refused}
-use Rattle.net_bytes.specs.Walk.{netReader, bodyReader, headReader}
-use Rattle.net_bytes.specs.Stages.{fromGates, fromInputs, body-stages, net-stages}
+use Rattle.net_bytes.specs.Reading.{Result, andThen, give, check, between, got, refused}
+use Rattle.net_bytes.specs.Walk.{Head, headOf, isHead, netReader, drawnReader, bodyReader}
+use Rattle.net_bytes.specs.Stages.{fromGates, fromHead, fromBody, netOf}
 use Rattle.cover_records.specs.CoverBytes.{Record, coverBytes, coverReader}
 use Rattle.cover_records.specs.CheckLaws.{check-same, check-refused}
 use Rattle.cover_records.specs.Outcomes.{Answer, turnedBack, Checked, passes, fails, checkNet, cleared, MapOutcome, MarkOutcome, Mapped, covered, unreachable, mapSizes, mapWritten, mapped, mapChecked, mapSized, mapOutcome, markSizes, markRead, markChecked, markSized, markOutcome}
@@ -28,31 +28,35 @@ many : (b : ℕ) → short .gates < b → between 1 (short .gates) b ≡ false
 many b h = ap₂ (λ (s t : Bool). s && t) (le-leb 1 b (omega arith)) (lt-leb b (short .gates) h)
 
 -- behind the byte of G the two read alike
-abbrev after : ℕ → ℕ → ℕ → List ℕ → Bool → Result Net
-after k i b r t = andThen (andThen (check t 5 b r) (fromGates false k i)) (atEnd 8)
+abbrev after : ℕ → Head → ℕ → List ℕ → Bool → Result Net
+after k head b r t = andThen (andThen (andThen (check t 5 b r) (fromGates false k (head .inputs))) (fromBody (head .section))) netOf
+
+-- the walk, where the test of the first byte says t
+abbrev behindHead : Rules → ℕ → ℕ → List ℕ → Bool → Result Net
+behindHead R k b r t = andThen (andThen (andThen (check t 5 b r) (λ c. give (headOf c))) (fromHead R k)) netOf
 
 pub courses-same : (k : ℕ) (s : List ℕ) → gatesSaid s ≤ short .gates → netReader short k s ≡ netReader long k s
-unfolding netReader bodyReader
+unfolding netReader drawnReader bodyReader
 courses-same k [] h = refl
-courses-same k (b ∷ []) h = go (between 1 mostInputs b)
+courses-same k (b ∷ []) h = go (isHead b)
   where
-    go : (t : Bool) → andThen (check t 5 b []) (fromInputs short k) ≡ andThen (check t 5 b []) (fromInputs long k)
+    go : (t : Bool) → behindHead short k b [] t ≡ behindHead long k b [] t
     go true = refl
     go false = refl
-courses-same k (b ∷ g ∷ r) h = go (between 1 mostInputs b)
+courses-same k (b ∷ g ∷ r) h = go (isHead b)
   where
-    go : (t : Bool) → andThen (check t 5 b (g ∷ r)) (fromInputs short k) ≡ andThen (check t 5 b (g ∷ r)) (fromInputs long k)
-    go true = ap (after k b g r) (few g h)
+    go : (t : Bool) → behindHead short k b (g ∷ r) t ≡ behindHead long k b (g ∷ r) t
+    go true = ap (after k (headOf b) g r) (few g h)
     go false = refl
 
 pub too-many : (k : ℕ) (s : List ℕ) → short .gates < gatesSaid s → netReader short k s ≡ refused 5
-unfolding netReader bodyReader
+unfolding netReader drawnReader bodyReader
 too-many k [] h = absurd (omega (arith, h))
 too-many k (b ∷ []) h = absurd (omega (arith, h))
-too-many k (b ∷ g ∷ r) h = go (between 1 mostInputs b)
+too-many k (b ∷ g ∷ r) h = go (isHead b)
   where
-    go : (t : Bool) → andThen (check t 5 b (g ∷ r)) (fromInputs short k) ≡ refused 5
-    go true = ap (after k b g r) (many g h)
+    go : (t : Bool) → behindHead short k b (g ∷ r) t ≡ refused 5
+    go true = ap (after k (headOf b) g r) (many g h)
     go false = refl
 
 -- ---- the sizes
@@ -151,8 +155,8 @@ module _ (net : List ℕ) (k : ℕ) (bytes scratch : List ℕ) where
 -- **All of it is proved.**
 pub short-course : ShortCourse
 short-course = record {
-  map-same = λ net k target area scratch h g. map-alike net k target area scratch h (λ e. check-same short long k net (courses-same k net g));
-  mark-same = λ net k bytes scratch h g. mark-alike net k bytes scratch h (λ e. check-same short long k net (courses-same k net g));
+  map-same = λ net k target area scratch h g. map-alike net k target area scratch h (λ e. check-same short long k net net (courses-same k net g));
+  mark-same = λ net k bytes scratch h g. mark-alike net k bytes scratch h (λ e. check-same short long k net net (courses-same k net g));
   map-early = λ net k target area scratch h n. map-alike net k target area scratch h (λ e. absurd (n e));
   mark-early = λ net k bytes scratch h n. mark-alike net k bytes scratch h (λ e. absurd (n e));
   map-one = λ net k target area scratch h. map-told net k target area scratch 0 (map-sizes-one k target area scratch h);

@@ -15,7 +15,7 @@ use Rattle.net_model.specs.Tables.{tableOf, pack, valueIn, atLeaf}
 use Rattle.cover_theory.specs.Key.{Entry}
 use Rattle.cover_theory.specs.SharedRegisters.{longest, overNodes, sharedCount}
 use Rattle.net_bytes.specs.Reading.{Result, got, refused, times}
-use Rattle.net_bytes.specs.Walk.{netReader, bodyReader, gateReader, outputReader, pinsFrom, fromBytes}
+use Rattle.net_bytes.specs.Walk.{netReader, drawnReader, bodyReader, gateReader, outputReader, pinsFrom, fromBytes}
 use Rattle.cover_records.specs.CoverBytes.{Record, coverBytes, allLutBytes, lutBytes, depths, leafMap, toBytes, coverReader, lutsReader, lutReader, lutBody, depthReader, leavesFrom, risingLeaves}
 use Rattle.cover_records.specs.Listing.{coverText, refusalText, lutLines, lutLine, leafText, tableText, hexLow, signed, decimal, digitText, reversed, digitsLow, registerCount, entryTaps, lutTaps, leafTaps, outputTaps, lagIn}
 use Rattle.job_find.specs.RootLookup.{found, absent, turnedBack, lookLuts, lookReader, lookUp, findRoot}
@@ -24,25 +24,25 @@ use Rattle.examples.specs.Nets.{pin, bytesA, netA, bytesB, netB, bytesC,
 -- ---- the walk over the net's bytes
 
 reads-A : netReader long 2 bytesA ≡ got netA []
-unfolding netReader bodyReader gateReader outputReader pinsFrom fromBytes times ones onesIn
+unfolding netReader drawnReader bodyReader gateReader outputReader pinsFrom fromBytes times ones onesIn
 reads-A = refl
 
 reads-B : netReader long 2 bytesB ≡ got netB []
-unfolding netReader bodyReader gateReader outputReader pinsFrom fromBytes times ones onesIn
+unfolding netReader drawnReader bodyReader gateReader outputReader pinsFrom fromBytes times ones onesIn
 reads-B = refl
 
 reads-C : netReader long 2 bytesC ≡ got netC []
-unfolding netReader bodyReader gateReader outputReader pinsFrom fromBytes times ones onesIn
+unfolding netReader drawnReader bodyReader gateReader outputReader pinsFrom fromBytes times ones onesIn
 reads-C = refl
 
 -- the empty net, and one that ends behind its first byte
 ends-early : (netReader long 2 [] ≡ refused 4) × (netReader long 2 (1 ∷ []) ≡ refused 4)
-unfolding netReader bodyReader gateReader outputReader pinsFrom fromBytes times ones onesIn
+unfolding netReader drawnReader bodyReader gateReader outputReader pinsFrom fromBytes times ones onesIn
 ends-early = (refl, refl)
 
 -- 17 inputs; 33 gates
 out-of-range : (netReader long 2 (17 ∷ []) ≡ refused 5) × (netReader long 2 (1 ∷ 33 ∷ []) ≡ refused 5)
-unfolding netReader bodyReader gateReader outputReader pinsFrom fromBytes times ones onesIn
+unfolding netReader drawnReader bodyReader gateReader outputReader pinsFrom fromBytes times ones onesIn
 out-of-range = (refl, refl)
 
 -- a pin map of 0; a register bit without its pin; a source that is no node; a count of 4; a spare table bit
@@ -50,16 +50,16 @@ forbidden-bytes :
     (netReader long 2 (1 ∷ 1 ∷ 1 ∷ 0 ∷ []) ≡ refused 6) × (netReader long 2 (1 ∷ 1 ∷ 1 ∷ 1 ∷ 2 ∷ []) ≡ refused 6)
     × (netReader long 2 (1 ∷ 1 ∷ 1 ∷ 1 ∷ 0 ∷ 2 ∷ []) ≡ refused 6) × (netReader long 2 (1 ∷ 1 ∷ 1 ∷ 1 ∷ 1 ∷ 0 ∷ 4 ∷ []) ≡ refused 6)
     × (netReader long 2 (1 ∷ 1 ∷ 1 ∷ 1 ∷ 0 ∷ 0 ∷ 4 ∷ []) ≡ refused 6)
-unfolding netReader bodyReader gateReader outputReader pinsFrom fromBytes times ones onesIn
+unfolding netReader drawnReader bodyReader gateReader outputReader pinsFrom fromBytes times ones onesIn
 forbidden-bytes = (refl, refl, refl, refl, refl)
 
 -- three pins at k 2, told before the register map is read
 too-many-pins : netReader long 2 (1 ∷ 1 ∷ 1 ∷ 7 ∷ []) ≡ refused 7
-unfolding netReader bodyReader gateReader outputReader pinsFrom fromBytes times ones onesIn
+unfolding netReader drawnReader bodyReader gateReader outputReader pinsFrom fromBytes times ones onesIn
 too-many-pins = refl
 
 bytes-follow : netReader long 2 (bytesC ++ 0 ∷ []) ≡ refused 8
-unfolding netReader bodyReader gateReader outputReader pinsFrom fromBytes times ones onesIn
+unfolding netReader drawnReader bodyReader gateReader outputReader pinsFrom fromBytes times ones onesIn
 bytes-follow = refl
 
 -- ---- tables

@@ -33,7 +33,7 @@ use Rattle.cover_theory.specs.SharedRegisters.{longest, overNodes, sharedCount}
 use Rattle.limits.specs.Limits.{scratchArea}
 use Rattle.limits.specs.Courses.{long}
 use Rattle.net_bytes.specs.Reading.{got, times}
-use Rattle.net_bytes.specs.Walk.{netReader, bodyReader, gateReader, outputReader, pinsFrom, fromBytes}
+use Rattle.net_bytes.specs.Walk.{netReader, drawnReader, bodyReader, gateReader, outputReader, pinsFrom, fromBytes}
 use Rattle.cover_records.specs.CoverBytes.{Record, coverBytes, allLutBytes, lutBytes, depths, leafMap, toBytes, coverReader, lutsReader, lutReader, lutBody, depthReader, leavesFrom, risingLeaves}
 use Rattle.cover_records.specs.MarkingDecided.{cutsRight?, tablesRight?, allFed?, enough?, shortChains?}
 use Rattle.cover_records.specs.Marking.{CutsRight, TableRight, TablesRight, AllFed, EnoughRegisters, ShortChains}
@@ -70,7 +70,7 @@ boundA2 P =
     weaken b4 (given (weaker? netA _ (labels netA (pos 1 ∷ pos 2 ∷ pos 2 ∷ []))) tt)
 
 a-3 : Maps bytesA netA 3 1 (pos 1 ∷ pos 1 ∷ pos 1 ∷ []) (lut 4 (copy 0 0 ∷ copy 1 0 ∷ copy 4 1 ∷ []) (pos 0) 0x87 ∷ [])
-unfolding plan? planned passed? gate netReader bodyReader gateReader outputReader pinsFrom fromBytes times ones
+unfolding plan? planned passed? gate netReader drawnReader bodyReader gateReader outputReader pinsFrom fromBytes times ones
 a-3 = maps bytesA netA 0 _ ((copy 2 0 ∷ []) ∷ (copy 3 0 ∷ copy 2 0 ∷ []) ∷ (copy 4 0 ∷ copy 3 0 ∷ copy 2 0 ∷ []) ∷ []) _ 3 (boundA 3) (λ R. tt, refl, (tt, refl, refl, refl))
 
 -- ---- B
@@ -89,7 +89,7 @@ boundB2 w P =
     weaken b4 (given (weaker? (throughB w) _ (labels (throughB w) (pos 1 ∷ pos 2 ∷ []))) tt)
 
 b-2 : Maps bytesB netB 2 1 (pos 1 ∷ pos 2 ∷ []) (lut 3 (copy 0 0 ∷ copy 1 0 ∷ []) (pos 0) 8 ∷ lut 4 (copy 2 0 ∷ copy 3 0 ∷ []) (pos 1) 8 ∷ [])
-unfolding plan? planned passed? gate netReader bodyReader gateReader outputReader pinsFrom fromBytes times ones
+unfolding plan? planned passed? gate netReader drawnReader bodyReader gateReader outputReader pinsFrom fromBytes times ones
 b-2 = maps bytesB netB 0 _ ((copy 3 0 ∷ []) ∷ (copy 4 0 ∷ []) ∷ []) _ 2 (boundB2 1) (λ R. tt, refl, (tt, refl, refl, refl))
 
 b-2-registers : (K : Key netB 2 1) → registerCount netB (entries K) ≡ 2
@@ -275,7 +275,7 @@ pub record MarkedExamples : Type 0 where
 
 -- **The examples that document 01 marks [P].**
 pub marked-examples : MarkedExamples
-unfolding outputsMet? dec-¬ plan? planned passed? gate netReader bodyReader gateReader outputReader pinsFrom fromBytes times ones
+unfolding outputsMet? dec-¬ plan? planned passed? gate netReader drawnReader bodyReader gateReader outputReader pinsFrom fromBytes times ones
 marked-examples = record {
   A-k2 = refuses bytesA netA 2 0 (pos 1 ∷ pos 2 ∷ pos 2 ∷ []) boundA2 (tt, refl, refl, refl) tt;
   A-k3 = a-3;

@@ -11,7 +11,7 @@ use Rattle.net_model.specs.ArrayLaws.{outputs-netIn}
 use Rattle.net_model.specs.WiredLaws.{netIn-wired}
 use Rattle.net_model.specs.Checks.{Loopless, AllReached, AllLeading}
 use Rattle.net_model.specs.PackedNetLaws.{kept-net}
-use Rattle.net_bytes.specs.Section.{Drawn, drawn}
+use Rattle.net_bytes.specs.Walk.{Drawn, drawn}
 use Rattle.net_reader.specs.ReadAnswer.{arraysOf}
 use Rattle.net_reader.specs.declared.NetSizes.{NetSizes}
 use Rattle.net_checks.specs.Graphs.{Says, passed, loop, unreached, unled, GraphTold}

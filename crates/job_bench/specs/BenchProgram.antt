@@ -1,4 +1,4 @@
--- Definitions: the bench program (document 02, E5), from the bytes it reads to the bytes it prints. No program uses the whole of it yet.
+-- Definitions: the bench program (document 02, E5), from the bytes it reads to the bytes it prints.
 use mathlib.Core.Bool.{cond, not}
 use mathlib.Core.List.{List, [], _∷_}
 use Prim.Native.Nat.{ℕ, _+_, _*_}
@@ -8,7 +8,7 @@ use Rattle.limits.specs.Limits.{leastK, mostK}
 use Rattle.net_model.specs.Net.{Net}
 use Rattle.net_model.specs.Checks.{Loopless, AllReached, AllLeading}
 use Rattle.net_bytes.specs.Reading.{Result, got, refused, between}
-use Rattle.net_bytes.specs.Section.{Drawn, drawnReader}
+use Rattle.net_bytes.specs.Walk.{Drawn, drawnReader}
 use Rattle.cone_theory.specs.ChecksDecided.{loopless?, reached?, leading?}
 use Rattle.cover_records.specs.Listing.{refusalText}
 use Rattle.text_bench.specs.BenchText.{benchText}

@@ -12,7 +12,7 @@ use Rattle.sequences.specs.Member.{in-getD}
 use Rattle.net_model.specs.Net.{Net}
 use Rattle.net_model.specs.Checks.{Loopless, AllReached, AllLeading}
 use Rattle.net_bytes.specs.Reading.{Result, got, refused, between}
-use Rattle.net_bytes.specs.Section.{Drawn, drawnReader}
+use Rattle.net_bytes.specs.Walk.{Drawn, drawnReader}
 use Rattle.net_bytes.specs.Short.{Bytes}
 use Rattle.cone_theory.specs.ChecksDecided.{loopless?, reached?, leading?}
 use Rattle.cover_records.specs.Listing.{refusalText}

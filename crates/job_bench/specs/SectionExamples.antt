@@ -5,8 +5,7 @@ use Prim.Native.Nat.{ℕ}
 use lib.Count.{ones, onesIn}
 use Rattle.limits.specs.Courses.{long}
 use Rattle.net_bytes.specs.Reading.{got, refused, times}
-use Rattle.net_bytes.specs.Walk.{bodyReader, gateReader, outputReader, pinsFrom, fromBytes}
-use Rattle.net_bytes.specs.Section.{drawn, drawnReader}
+use Rattle.net_bytes.specs.Walk.{drawn, drawnReader, bodyReader, gateReader, outputReader, pinsFrom, fromBytes}
 use Rattle.cover_records.specs.Listing.{refusalText}
 use Rattle.text_bench.specs.BenchExamples.{netC}
 use Rattle.job_bench.specs.BenchProgram.{benchOf, benchRead, benchProgram}

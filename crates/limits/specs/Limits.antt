@@ -106,7 +106,7 @@ mostPacked = (4 + 3 * mostPins) * mostGates + mostNodes + 2 * mostOutputs
 abbrev pub depthRoom : ℕ
 depthRoom = 65536
 
--- bytes of a net record: three numbers; a gate's two maps, sources, counts and table; an output's map, source and count
+-- bytes of a net record: three numbers; a gate's two maps, sources, counts and table; an output's map, source and count; a section of a byte a node
 abbrev pub mostGateBytes : ℕ
 mostGateBytes = 2 + (mostPins + (mostPins + mostItems))
 
@@ -114,7 +114,7 @@ abbrev pub mostOutputBytes : ℕ
 mostOutputBytes = 3
 
 abbrev pub mostNetBytes : ℕ
-mostNetBytes = 3 + (mostGates * mostGateBytes + mostOutputs * mostOutputBytes)
+mostNetBytes = 3 + (mostGates * mostGateBytes + mostOutputs * mostOutputBytes) + mostNodes
 
 -- bytes of a LUT in a cover record: root, leaf count and map; a node and a d for each leaf; a lag and a table
 abbrev pub mostDepthBytes : ℕ

@@ -10,5 +10,4 @@ pub mod Short
 pub mod Places
 pub mod Refusals
 pub mod Frames
-pub mod Section
 pub mod SectionLaws

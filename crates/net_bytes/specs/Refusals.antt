@@ -9,7 +9,7 @@ use lib.Dec.{leb}
 use Rattle.limits.specs.declared.Rules.{Rules}
 use Rattle.net_bytes.specs.Reading.{Result, Reader, andThen, check, byte, number, times, atEnd, got, refused}
 use Rattle.net_bytes.specs.Readers.{refused-not-got}
-use Rattle.net_bytes.specs.Walk.{gateReader, outputReader, bodyReader, netReader}
+use Rattle.net_bytes.specs.Walk.{headOf, drawn, gateReader, outputReader, bodyReader, drawnReader, netReader}
 
 module _ (P : ℕ → Type 0) where
   -- no other number
@@ -93,8 +93,13 @@ only-body R k i s =
     only-then OfWalk _ _ (only-times OfWalk _ (only-gate (R .wide) k (i + g)) g s2) λ gs s3.
     only-then OfWalk _ _ (only-times OfWalk _ (only-output (R .wide) (i + g)) o s3) λ os s4. only-got OfWalk _ s4
 
+pub only-drawn : (R : Rules) (k : ℕ) (s : List ℕ) → Only OfWalk (drawnReader R k s)
+unfolding drawnReader
+only-drawn R k s =
+    only-then OfWalk _ _ (only-then OfWalk _ _ (byte-5 _ s) λ b s1. only-got OfWalk (headOf b) s1) λ h s1.
+    only-then OfWalk _ _ (only-body R k (h .inputs) s1) λ N s2.
+    only-then OfWalk _ _ (only-times OfWalk _ (byte-6 _) _ s2) λ section s3. only-end OfWalk 8 (drawn N section) s3 (omega arith, omega arith)
+
 pub only-net : (R : Rules) (k : ℕ) (s : List ℕ) → Only OfWalk (netReader R k s)
 unfolding netReader
-only-net R k s =
-    only-then OfWalk _ _ (byte-5 _ s) λ i s1.
-    only-then OfWalk _ _ (only-body R k i s1) λ N s2. only-end OfWalk 8 N s2 (omega arith, omega arith)
+only-net R k s = only-then OfWalk _ _ (only-drawn R k s) λ d s1. only-got OfWalk (d .net) s1

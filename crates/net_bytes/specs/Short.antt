@@ -1,5 +1,5 @@
--- Laws of readers that look at a limited number of bytes: what follows more bytes than that changes nothing. The reader of a net record looks at no more than 755.
-use mathlib.Core.Path.{_≡_, refl, sym, _∙_}
+-- Laws of readers that look at a limited number of bytes: what follows more bytes than that changes nothing. The reader of a net record looks at no more than 803.
+use mathlib.Core.Path.{_≡_, refl, sym, ap, _∙_}
 use mathlib.Core.Bool.{Bool, true, false, cond}
 use mathlib.Core.List.{List, [], _∷_, _++_}
 use Prim.Native.Nat.{ℕ, zero, suc, _+_, _*_, _≤_, _<_}
@@ -11,12 +11,13 @@ use lib.Count.{ones, ones-le}
 use lib.Dec.{leb}
 use lib.ListN.{length}
 use lib.Pow.{pow-mono}
-use Rattle.limits.specs.Limits.{mostItems, mostNetBytes, mostOutputs, mostPins}
+use Rattle.limits.specs.Limits.{mostInputs, mostItems, mostNetBytes, mostOutputs, mostPins}
 use Rattle.limits.specs.Courses.{long}
 use Rattle.limits.specs.declared.Rules.{Rules}
 use Rattle.sequences.specs.Member.{here, there}
+use Rattle.net_model.specs.Net.{Net, size}
 use Rattle.net_bytes.specs.Reading.{Result, Reader, _>>=_, andThen, give, check, byte, number, times, atEnd, got, refused}
-use Rattle.net_bytes.specs.Walk.{netReader, bodyReader, gateReader, outputReader, onlyBits, tableBytes}
+use Rattle.net_bytes.specs.Walk.{drawn, headOf, isHead, netReader, drawnReader, headReader, bodyReader, sectionReader, gateReader, outputReader, onlyBits, tableBytes}
 use Rattle.net_bytes.specs.Readers.{Each}
 use Rattle.net_bytes.specs.Maps.{only-mask}
 use Rattle.net_bytes.specs.Sound.{between-true}
@@ -54,8 +55,11 @@ short-refuses {A} x s b l = go (x .steady 0 s b (omega arith))
     go (goes p b l) = absurd p
 
 module _ {A : Type 0} where
+  pub short-value : {P : A → Type 0} {a : A} → P a → Short 0 P (give a)
+  short-value p = record { steady = λ n s b l. goes p b (omega arith) }
+
   pub short-give : {a : A} → Short 0 Anything (give a)
-  short-give = record { steady = λ n s b l. goes tt b (omega arith) }
+  short-give = short-value tt
 
   pub short-check : {P : A → Type 0} (t : Bool) (e : ℕ) (a : A) → P a → Short 0 P (check t e a)
   short-check true e a p = record { steady = λ n s b l. goes p b (omega arith) }
@@ -99,12 +103,12 @@ module _ {A : Type 0} {P : A → Type 0} where
 
 module _ {A : Type 0} {P : A → Type 0} where
   -- n things of at most c bytes each
-  short-all : {c : ℕ} {m : Reader A} (n : ℕ) → Short c P m → Short (n * c) Anything (times n m)
+  short-all : {c : ℕ} {m : Reader A} (n : ℕ) → Short c P m → Short (n * c) (λ l. length l ≡ n) (times n m)
   unfolding times
-  short-all {c} zero x = record { steady = λ n s b l. goes tt b (omega (arith, zero-mul c)) }
-  short-all {c} (suc n) x = short-most (omega (arith, suc-mul n c)) (short-then x λ a p. short-then (short-all n x) λ l q. short-give {a = a ∷ l})
+  short-all {c} zero x = record { steady = λ n s b l. goes refl b (omega (arith, zero-mul c)) }
+  short-all {c} (suc n) x = short-most (omega (arith, suc-mul n c)) (short-then x λ a p. short-then (short-all n x) λ l q. short-value {a = a ∷ l} (ap suc q))
 
-  pub short-times : {c n most : ℕ} {m : Reader A} → n ≤ most → Short c P m → Short (most * c) Anything (times n m)
+  pub short-times : {c n most : ℕ} {m : Reader A} → n ≤ most → Short c P m → Short (most * c) (λ l. length l ≡ n) (times n m)
   short-times {c} {n} h x = short-most (mul-le-mul-right c h) (short-all n x)
 
 -- a number is one byte, or two
@@ -141,7 +145,7 @@ abbrev pub bodyBytes : Rules → ℕ
 bodyBytes R = numberBytes (R .wide) + (1 + (R .gates * gateBytes (R .wide) + mostOutputs * outputBytes (R .wide)))
 
 abbrev pub netBytes : Rules → ℕ
-netBytes R = 1 + bodyBytes R
+netBytes R = 1 + bodyBytes R + (mostInputs + R .gates)
 
 short-gate : (wide : Bool) (k nodes : ℕ) → Short (gateBytes wide) Anything (gateReader wide k nodes)
 unfolding gateReader
@@ -161,19 +165,33 @@ short-output wide nodes =
     short-then (short-number wide 4 6 _) λ s hs.
     short-then (short-times (leb-true m 1 (hm .1)) (short-byte 4 6 _)) λ c hc. short-give
 
-short-body : (R : Rules) (k i : ℕ) → Short (bodyBytes R) Anything (bodyReader R k i)
+short-body : (R : Rules) (k i : ℕ) → i ≤ mostInputs → Short (bodyBytes R) (λ N. size N ≤ mostInputs + R .gates) (bodyReader R k i)
 unfolding bodyReader
-short-body R k i =
+short-body R k i low =
     short-most (omega arith) (short-then (short-number (R .wide) 4 5 _) λ g hg.
     short-then (short-byte 4 5 _) λ o ho.
     short-then (short-times (between-true 1 (R .gates) g hg .1) (short-gate (R .wide) k (i + g))) λ gs hgs.
-    short-then (short-times (between-true 1 mostOutputs o (ho .1) .1) (short-output (R .wide) (i + g))) λ os hos. short-give)
+    short-then (short-times (between-true 1 mostOutputs o (ho .1) .1) (short-output (R .wide) (i + g))) λ os hos. short-value (omega (arith, hgs, low, between-true 1 (R .gates) g hg .1)))
+
+short-section : (follows : Bool) (N : Net) {most : ℕ} → size N ≤ most → Short (most * 1) Anything (sectionReader follows N)
+short-section true N h = short-known (λ l q. tt) (short-times h (short-byte 4 6 _))
+short-section false N h = short-known (λ l q. tt) (short-times (omega arith) (short-byte 4 6 _))
+
+short-head : Short 1 (λ h. h .inputs ≤ mostInputs) headReader
+short-head = short-most (omega arith) (short-then (short-byte 4 5 isHead) λ b hb. short-value (between-true 1 mostInputs (headOf b .inputs) (hb .1) .1))
+
+short-drawn : (R : Rules) (k : ℕ) → Short (netBytes R) Nothing (drawnReader R k)
+unfolding drawnReader
+short-drawn R k =
+    short-most (omega arith) (short-then short-head λ h hh.
+    short-then (short-body R k (h .inputs) hh) λ N hN.
+    short-then (short-section (h .section) N hN) λ section hs. short-end 8 (drawn N section))
 
 -- **A net record has at most so many bytes under rules R**,
 pub short-net : (R : Rules) (k : ℕ) → Short (netBytes R) Nothing (netReader R k)
 unfolding netReader
-short-net R k = short-most (omega arith) (short-then (short-byte 4 5 _) λ i hi. short-then (short-body R k i) λ N hN. short-end 8 N)
+short-net R k = short-most (omega arith) (short-then {d = 0} (short-drawn R k) λ d none. absurd none)
 
--- **755 under document 01's.**
+-- **803 under document 01's.**
 pub net-bytes-long : netBytes long ≡ mostNetBytes
 net-bytes-long = refl

@@ -1,7 +1,8 @@
 -- Laws: what the walk guarantees of the net that it gives.
 use mathlib.Core.Path.{_≡_, refl, sym, ap, _∙_, subst}
-use mathlib.Core.Bool.{Bool, true, false, _&&_, false≢true}
+use mathlib.Core.Bool.{Bool, true, false, cond, _&&_, false≢true}
 use mathlib.Core.List.{List, [], _∷_}
+use mathlib.Core.Logic.{_⊎_, inl, inr}
 use Prim.Native.Nat.{ℕ, zero, suc, _+_, _-_, _*_, _/_, _^_, _≤_, _<_}
 use native.Mathlib.Nat.{div-one}
 use native.Mathlib.Omega.{arith}
@@ -14,10 +15,10 @@ use Rattle.limits.specs.declared.Rules.{Rules}
 use Rattle.sequences.specs.Member.{_∈_, in-getD}
 use Rattle.net_model.specs.Net.{Net, Pin, Gate, size, gate, pins, nothing, IsGate, IsNode}
 use Rattle.net_model.specs.Checks.{Sound, Fits}
-use Rattle.net_bytes.specs.Reading.{between, got, times, check, atEnd}
-use Rattle.net_bytes.specs.Walk.{netReader, headReader, bodyReader, gateReader, outputReader, netByte, netNumber, onlyBits, tableByte, tableBytes, pinsFrom, fromBytes, first}
+use Rattle.net_bytes.specs.Reading.{between, give, got, times, check, atEnd}
+use Rattle.net_bytes.specs.Walk.{Head, headOf, isHead, Drawn, drawn, isPast, netReader, drawnReader, headReader, bodyReader, sectionReader, gateReader, outputReader, netByte, netNumber, onlyBits, tableByte, tableBytes, pinsFrom, fromBytes, first}
 use Rattle.net_bytes.specs.Readers.{Gives, Each, got-value, then-got, check-got, byte-got, number-got, atEnd-got, times-got}
-use Rattle.net_bytes.specs.Stages.{madeGate, fromPinMap, fromWidth, fromMaps, fromSources, fromCounts, fromTable, gate-stages, fromOutMap, fromOutSource, fromOutCounts, output-stages, fromGates, fromSizes, fromGateList, fromOutputList, body-stages, fromInputs, net-stages}
+use Rattle.net_bytes.specs.Stages.{madeGate, fromPinMap, fromWidth, fromMaps, fromSources, fromCounts, fromTable, gate-stages, fromOutMap, fromOutSource, fromOutCounts, output-stages, fromGates, fromSizes, fromGateList, fromOutputList, body-stages, fromHead, fromBody, drawn-stages, netOf, net-stages}
 use Rattle.net_bytes.specs.Maps.{ones-in, some-one, length-pinsFrom, each-pinsFrom, first-each, table-lt}
 
 pub between-true : (low high b : ℕ) → between low high b ≡ true → (low ≤ b) × (b ≤ high)
@@ -137,15 +138,42 @@ body-facts R k i hi s N end e =
     } in
     subst (NetFacts R k) same facts
 
+-- what the walk guarantees of a net and its section: a byte a node or none at all
+pub record DrawnFacts (R : Rules) (k : ℕ) (d : Drawn) : Type 0 where
+  pub net : NetFacts R k (d .net)
+  pub long : (length (d .section) ≡ 0) ⊎ (length (d .section) ≡ size (d .net))
+  pub past : Each (λ (b : ℕ). b ≤ 7) (d .section)
+
+-- and no byte is left
+pub drawn-facts : (R : Rules) (k : ℕ) (s : List ℕ) (d : Drawn) (end : List ℕ) → drawnReader R k s ≡ got d end → DrawnFacts R k d × (end ≡ [])
+drawn-facts R k s d end e =
+    let x1 = then-got (headReader s) (fromHead R k) d end (sym (drawn-stages R k s) ∙ e) in
+    let h = x1 .0 in
+    let x0 = then-got (netByte 5 isHead s) (λ b. give (headOf b)) h (x1 .1) (x1 .2) in
+    let same : headOf (x0 .0) ≡ h = got-value (headOf (x0 .0)) (x0 .1) h (x1 .1) (x0 .3) in
+    let hi : between 1 mostInputs (h .inputs) ≡ true = ap (λ (g : Head). between 1 mostInputs (g .inputs)) (sym same) ∙ byte-got 4 5 isHead s (x0 .0) (x0 .1) (x0 .2) in
+    let x2 = then-got (bodyReader R k (h .inputs) (x1 .1)) (fromBody (h .section)) d end (x1 .3) in
+    let x3 = then-got (sectionReader (h .section) (x2 .0) (x2 .1)) (λ section. atEnd 8 (drawn (x2 .0) section)) d end (x2 .3) in
+    let x4 = atEnd-got 8 (drawn (x2 .0) (x3 .0)) (x3 .1) d end (x3 .3) in
+    let bytes = times-got (λ (b : ℕ). isPast b ≡ true) (cond (h .section) (size (x2 .0)) 0) (netByte 6 isPast) (byte-got 4 6 isPast) (x2 .1) (x3 .0) (x3 .1) (x3 .2) in
+    let facts : DrawnFacts R k (drawn (x2 .0) (x3 .0)) = record {
+      net = body-facts R k (h .inputs) hi (x1 .1) (x2 .0) (x2 .1) (x2 .2);
+      long = by (h .section) (bytes .0);
+      past = λ b m. leb-true b 7 (bytes .1 b m);
+    } in
+    (subst (DrawnFacts R k) (x4 .0) facts, x4 .1)
+  where
+    by : (follows : Bool) {l n : ℕ} → l ≡ cond follows n 0 → (l ≡ 0) ⊎ (l ≡ n)
+    by true p = inr p
+    by false p = inl p
+
 -- what the walk guarantees of the net, and no byte is left
 pub walk-facts : (R : Rules) (k : ℕ) (s : List ℕ) (N : Net) (end : List ℕ) → netReader R k s ≡ got N end → NetFacts R k N × (end ≡ [])
 walk-facts R k s N end e =
-    let x1 = then-got (headReader s) (fromInputs R k) N end (sym (net-stages R k s) ∙ e) in
-    let i = x1 .0 in
-    let x2 = then-got (bodyReader R k i (x1 .1)) (atEnd 8) N end (x1 .3) in
-    let x3 = atEnd-got 8 (x2 .0) (x2 .1) N end (x2 .3) in
-    let hi = byte-got 4 5 (between 1 mostInputs) s i (x1 .1) (x1 .2) in
-    (subst (NetFacts R k) (x3 .0) (body-facts R k i hi (x1 .1) (x2 .0) (x2 .1) (x2 .2)), x3 .1)
+    let x = then-got (drawnReader R k s) netOf N end (sym (net-stages R k s) ∙ e) in
+    let f = drawn-facts R k s (x .0) (x .1) (x .2) in
+    let left : x .1 ≡ end = cc (x .3) in
+    (subst (NetFacts R k) (got-value (x .0 .net) (x .1) N end (x .3)) (f .0 .net), sym left ∙ f .1)
 
 module _ (R : Rules) (k : ℕ) (s : List ℕ) (N : Net) (end : List ℕ) (e : netReader R k s ≡ got N end) where
   -- the gate with number v

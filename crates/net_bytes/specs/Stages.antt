@@ -9,7 +9,7 @@ use Rattle.net_model.specs.Net.{Net, Pin, Gate}
 use Rattle.limits.specs.Limits.{mostCount, mostOutputs, mostPins}
 use Rattle.limits.specs.declared.Rules.{Rules}
 use Rattle.net_bytes.specs.Reading.{Reader, andThen, _>>=_, give, check, times, atEnd, between}
-use Rattle.net_bytes.specs.Walk.{netReader, headReader, bodyReader, gateReader, outputReader, netByte, netNumber, onlyBits, tableByte, tableBytes, pinsFrom, fromBytes, first}
+use Rattle.net_bytes.specs.Walk.{Head, Drawn, drawn, netReader, drawnReader, headReader, bodyReader, sectionReader, gateReader, outputReader, netByte, netNumber, onlyBits, tableByte, tableBytes, pinsFrom, fromBytes, first}
 
 abbrev pub madeGate : ℕ → ℕ → List ℕ → List ℕ → List ℕ → Gate
 madeGate p r s c t = record { pins = pinsFrom mostPins 0 p r s c; table = fromBytes t }
@@ -66,9 +66,19 @@ pub body-stages : (R : Rules) (k i : ℕ) (s : List ℕ)
 unfolding bodyReader
 body-stages R k i s = refl
 
-abbrev pub fromInputs : Rules → ℕ → ℕ → Reader Net
-fromInputs R k i = bodyReader R k i >>= atEnd 8
+abbrev pub fromBody : Bool → Net → Reader Drawn
+fromBody follows N = sectionReader follows N >>= λ section. atEnd 8 (drawn N section)
 
-pub net-stages : (R : Rules) (k : ℕ) (s : List ℕ) → netReader R k s ≡ andThen (headReader s) (fromInputs R k)
+abbrev pub fromHead : Rules → ℕ → Head → Reader Drawn
+fromHead R k head = bodyReader R k (head .inputs) >>= fromBody (head .section)
+
+pub drawn-stages : (R : Rules) (k : ℕ) (s : List ℕ) → drawnReader R k s ≡ andThen (headReader s) (fromHead R k)
+unfolding drawnReader
+drawn-stages R k s = refl
+
+abbrev pub netOf : Drawn → Reader Net
+netOf d = give (d .net)
+
+pub net-stages : (R : Rules) (k : ℕ) (s : List ℕ) → netReader R k s ≡ andThen (drawnReader R k s) netOf
 unfolding netReader
 net-stages R k s = refl

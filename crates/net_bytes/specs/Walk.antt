@@ -1,11 +1,11 @@
 -- Definitions: the net record (document 01, "The net") and the walk over it, under rules R, that gives the net or the first of the refusals 4 to 8.
 use mathlib.Core.Bool.{Bool, true, false, cond, not, _||_, _&&_}
 use mathlib.Core.List.{List, [], _∷_}
-use Prim.Native.Nat.{ℕ, zero, suc, _+_, _-_, _*_, _/_, _^_}
+use Prim.Native.Nat.{ℕ, zero, suc, _+_, _-_, _*_, _/_, _%_, _^_}
 use lib.Count.{ones}
 use lib.Dec.{leb, ltb}
 use lib.ListN.{length}
-use Rattle.net_model.specs.Net.{Net, Pin, Gate}
+use Rattle.net_model.specs.Net.{Net, Pin, Gate, size}
 use Rattle.net_model.specs.Tables.{bit}
 use Rattle.limits.specs.Limits.{mostCount, mostInputs, mostOutputs, mostPins}
 use Rattle.limits.specs.declared.Rules.{Rules}
@@ -74,11 +74,23 @@ outputReader wide nodes = do
   counts ← times map (netByte 6 (between 1 mostCount))
   give (record { src = source; count = first counts })
 
--- "Net record, bytes: I, G, O; then the gates; then the outputs." The head is I,
-abbrev pub headReader : Reader ℕ
-headReader = netByte 5 (between 1 mostInputs)
+-- "Net record, bytes: I, G, O; then the gates; then the outputs." The head is the first byte: I, and (document 02, E5) "Bit 7 of the first net byte now says that a
+-- last section follows".
+pub record Head : Type 0 where
+  pub inputs : ℕ
+  pub section : Bool
 
--- the body all behind it.
+abbrev pub headOf : ℕ → Head
+headOf b = record { inputs = b % 128; section = bit b 7 }
+
+-- "Range tests read I without bit 7"
+abbrev pub isHead : ℕ → Bool
+isHead b = between 1 mostInputs (headOf b .inputs)
+
+abbrev pub headReader : Reader Head
+headReader = netByte 5 isHead >>= λ b. give (headOf b)
+
+-- The body: G, O, the gates, the outputs.
 unfoldable pub bodyReader : Rules → ℕ → ℕ → Reader Net
 bodyReader R k inputs = do
   gates ← netNumber (R .wide) 5 (between 1 (R .gates))
@@ -87,10 +99,33 @@ bodyReader R k inputs = do
   outputList ← times outputs (outputReader (R .wide) (inputs + gates))
   give (record { inputs = inputs; gates = gateList; outputs = outputList })
 
--- "8. Bytes follow the last output."
-unfoldable pub netReader : Rules → ℕ → Reader Net
+-- The section: "one byte per node"; "section bytes above 7 are 6".
+abbrev pub isPast : ℕ → Bool
+isPast b = leb b 7
+
+abbrev pub sectionReader : Bool → Net → Reader (List ℕ)
+sectionReader follows N = times (cond follows (size N) 0) (netByte 6 isPast)
+
+-- A net and its section; no byte where it has none.
+pub record Drawn : Type 0 where
+  pub net : Net
+  pub section : List ℕ
+
+abbrev pub drawn : Net → List ℕ → Drawn
+drawn N section = record { net = N; section = section }
+
+-- "8. Bytes follow the last output."; with a section "8 then means bytes behind it."
+unfoldable pub drawnReader : Rules → ℕ → Reader Drawn
 unfolding bodyReader
+drawnReader R k = do
+  head ← headReader
+  net ← bodyReader R k (head .inputs)
+  section ← sectionReader (head .section) net
+  atEnd 8 (drawn net section)
+
+-- The net of a record; its section, where it has one, is walked over.
+unfoldable pub netReader : Rules → ℕ → Reader Net
+unfolding drawnReader
 netReader R k = do
-  inputs ← headReader
-  net ← bodyReader R k inputs
-  atEnd 8 net
+  d ← drawnReader R k
+  give (d .net)

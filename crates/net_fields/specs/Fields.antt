@@ -2,24 +2,25 @@
 use mathlib.Core.Bool.{Bool, not, _&&_}
 use Prim.Native.Nat.{ℕ, _%_}
 use lib.Dec.{leb, ltb, eqb}
-use Rattle.limits.specs.Limits.{mostInputs, mostGates, mostOutputs, mostCount, mostPeriod, mostLuts, shortGates}
+use Rattle.limits.specs.Limits.{mostGates, mostOutputs, mostCount, mostPeriod, mostLuts, shortGates}
 use Rattle.net_bytes.specs.Reading.{Reader, byte, number, between}
-use Rattle.net_bytes.specs.Walk.{onlyBits, tableByte}
+use Rattle.net_bytes.specs.Walk.{isHead, isPast, onlyBits, tableByte}
 use Rattle.net_fields.specs.declared.Field.{Field}
 use Rattle.net_fields.specs.declared.Field.the-variants.{Net, Cover}
-use Rattle.net_fields.specs.declared.NetField.the-variants.{Inputs, Outputs, PinMap, RegisterMap, Count, Table, OutputMap}
+use Rattle.net_fields.specs.declared.NetField.the-variants.{Inputs, Outputs, PinMap, RegisterMap, Count, Table, OutputMap, Past}
 use Rattle.net_fields.specs.declared.CoverField.the-variants as cover
 use Rattle.net_fields.specs.declared.NumberField.{NumberField}
 use Rattle.net_fields.specs.declared.NumberField.the-variants.{Gates, Source, Period, Luts, Root, Leaf, Depth, Lag, ShortGates}
 
 abbrev pub allowedOf : Field → ℕ → ℕ → Bool
-allowedOf (Net Inputs) limit = between 1 mostInputs
+allowedOf (Net Inputs) limit = isHead
 allowedOf (Net Outputs) limit = between 1 mostOutputs
 allowedOf (Net PinMap) limit = between 1 63
 allowedOf (Net RegisterMap) limit = onlyBits 8 limit
 allowedOf (Net Count) limit = between 1 mostCount
 allowedOf (Net Table) limit = tableByte limit
 allowedOf (Net OutputMap) limit = λ b. leb b 1
+allowedOf (Net Past) limit = isPast
 allowedOf (Cover cover.Size) limit = between 1 limit
 allowedOf (Cover cover.Map) limit = λ b. ltb b 128 && ltb (b % 64) limit
 allowedOf (Cover cover.Table) limit = tableByte limit
@@ -32,6 +33,7 @@ refusalOf (Net RegisterMap) = 6
 refusalOf (Net Count) = 6
 refusalOf (Net Table) = 6
 refusalOf (Net OutputMap) = 6
+refusalOf (Net Past) = 6
 refusalOf (Cover f) = 13
 
 -- where the bytes end: "4. The net ends where a byte is still due"; in a cover record every breach is 13

@@ -20,7 +20,7 @@ ghost use Rattle.limits.specs.Limits.{depthRoom, mostItems, mostPins};
 ghost use Rattle.limits.specs.Courses.{Offered};
 ghost use Rattle.net_model.specs.Tables.{bit};
 ghost use Rattle.net_bytes.specs.Reading.{between, check, number};
-ghost use Rattle.net_bytes.specs.Walk.{fromBytes, netNumber, tableByte};
+ghost use Rattle.net_bytes.specs.Walk.{isHead, fromBytes, netNumber, tableByte};
 ghost use Rattle.net_fields.specs.Fields.{allowedOf, refusalOf, earlyOf, fieldByte, allowedNumber, numberRefusal, numberEarly, fieldNumber};
 ghost use Rattle.net_fields.specs.Verdicts.{outcome};
 ghost use Rattle.net_fields.specs.ItemsRead.{ItemsRead, NumberRead, NumbersRead, TableBytes, Count};
@@ -40,6 +40,7 @@ pub enum NetField {
     Count,
     Table,
     OutputMap,
+    Past,
 }
 
 // What a number of a net record or of a cover record may be. A root has the least one allowed.
@@ -109,10 +110,7 @@ fn net_allowed(field: NetField, byte: u8, limit: usize) -> bool
     ensures { λ r. ⌜ r ≡ allowedOf (Field.Net field) limit byte ⌝ }
 {
     match field {
-        NetField::Inputs => match byte {
-            1..=INPUTS_BYTE => true,
-            _ => false,
-        },
+        NetField::Inputs => inputs_byte(byte),
         NetField::Outputs => match byte {
             1..=OUTPUTS_BYTE => true,
             _ => false,
@@ -131,6 +129,20 @@ fn net_allowed(field: NetField, byte: u8, limit: usize) -> bool
             0..=1 => true,
             _ => false,
         },
+        NetField::Past => match byte {
+            0..=7 => true,
+            _ => false,
+        },
+    }
+}
+
+// The number of inputs is tested without bit 7, which says whether a section follows.
+fn inputs_byte(byte: u8) -> bool
+    ensures { λ r. ⌜ r ≡ isHead byte ⌝ }
+{
+    match byte % 128 {
+        1..=INPUTS_BYTE => true,
+        _ => false,
     }
 }
 
@@ -220,6 +232,7 @@ fn net_refusal(field: NetField) -> u8
         NetField::Count => 6,
         NetField::Table => 6,
         NetField::OutputMap => 6,
+        NetField::Past => 6,
     }
 }
 

@@ -1,20 +1,26 @@
--- Laws of reading the head, the numbers of the body and the whole net, one for each way out.
+-- Laws of reading the head, the numbers of the body and the whole record, one for each way out.
 use mathlib.Core.Path.{_≡_, refl, sym, ap, _∙_}
-use mathlib.Core.List.{List, []}
-use Prim.Native.Nat.{ℕ, _+_, _≤_, _<_}
+use mathlib.Core.Bool.{cond}
+use mathlib.Core.List.{List, [], _++_, append-nil}
+use Prim.Native.Nat.{ℕ, _+_, _/_, _%_, _^_, _≤_, _<_}
 use native.Mathlib.Omega.{arith}
-use lib.ListN.{length, drop}
+use native.Mathlib.Decide.{decLe}
+use borrow.Author.Tests.{le-leb, lt-leb, eq-eqb, ne-eqb}
+use lib.Dec.{leb}
+use lib.ListN.{length, drop, drop-of-length-le}
 use Rattle.limits.specs.Limits.{mostOutputs}
 use Rattle.limits.specs.declared.Rules.{Rules}
-use Rattle.net_model.specs.Net.{Net, Gate, Pin}
+use Rattle.net_model.specs.Net.{Net, Gate, Pin, size}
+use Rattle.net_model.specs.Tables.{bit}
 use Rattle.net_model.specs.Arrays.{netIn}
 use Rattle.net_model.specs.PackedNet.{sourcesAt, countsAt}
 use Rattle.net_model.specs.PackedNetLaws.{gates-same}
-use Rattle.net_bytes.specs.Reading.{andThen, times, atEnd, between, got, refused}
-use Rattle.net_bytes.specs.Walk.{netReader, headReader, bodyReader, outputReader, netNumber}
+use Rattle.net_bytes.specs.Reading.{Result, andThen, times, atEnd, between, got, refused}
+use Rattle.net_bytes.specs.Walk.{Head, Drawn, drawn, isPast, drawnReader, netReader, headReader, bodyReader, outputReader, netNumber}
 use Rattle.net_bytes.specs.Readers.{then-goes, then-stops, byte-got, number-got}
 use Rattle.net_bytes.specs.Sound.{between-true}
-use Rattle.net_bytes.specs.Stages.{fromInputs, fromGates, fromSizes, fromGateList, fromOutputList, body-stages, net-stages}
+use Rattle.net_bytes.specs.Stages.{fromHead, fromBody, fromGates, fromSizes, fromGateList, fromOutputList, body-stages, drawn-stages, netOf, net-stages}
+use Rattle.net_bytes.specs.SectionLaws.{times-bytes}
 use Rattle.net_fields.specs.declared.Field.the-variants.{Net as OfNet}
 use Rattle.net_fields.specs.declared.NetField.the-variants.{Outputs}
 use Rattle.net_fields.specs.declared.Verdict.{Verdict}
@@ -22,6 +28,7 @@ use Rattle.net_fields.specs.declared.Verdict.the-variants.{Read, Refused}
 use Rattle.net_fields.specs.Fields.{fieldByte}
 use Rattle.net_fields.specs.FieldLaws.{went, stopped, onward-stopping, end-done, end-over}
 use Rattle.net_fields.specs.Verdicts.{outcome}
+use Rattle.net_section.specs.SectionRead.{pasts}
 use Rattle.net_reader.specs.declared.NetSizes.{NetSizes}
 use Rattle.net_reader.specs.declared.BodySizes.{BodySizes}
 use Rattle.net_reader.specs.declared.Part.{Part}
@@ -90,21 +97,49 @@ module _ (R : Rules) (k : ℕ) (s : List ℕ) (start at : ℕ) (z : NetSizes) (n
         ∙ ap (λ r. andThen r (fromOutputList (z .inputs) gs)) (or .result) ∙ listed (x .verdict) (outputsOf z net′ (z .outputs)) (drop (x .at) s)
         ∙ ap (λ (N : Net). outcome (x .verdict) N (drop (x .at) s)) same-net
 
--- the whole net, behind its head
+-- bit 7 of a byte
+pub high-bit : (b : ℕ) → b < 256 → leb 128 b ≡ bit b 7
+high-bit b h = go (decLe 128 b)
+  where
+    go : Dec (128 ≤ b) → leb 128 b ≡ bit b 7
+    go (yes l) = le-leb 128 b l ∙ sym (eq-eqb (b / 2 ^ 7 % 2) 1 (omega arith))
+    go (no n) = lt-leb 128 b (omega arith) ∙ sym (ne-eqb (b / 2 ^ 7 % 2) 1 (λ e. omega arith))
+
+-- the whole record, behind its head
 module _ (R : Rules) (k : ℕ) (s : List ℕ) where
-  pub head-stops : {n : ℕ} → headReader s ≡ refused n → netReader R k s ≡ refused n
-  head-stops e = net-stages R k s ∙ then-stops (fromInputs R k) e
+  pub head-stops : {n : ℕ} → headReader s ≡ refused n → drawnReader R k s ≡ refused n
+  head-stops e = drawn-stages R k s ∙ then-stops (fromHead R k) e
 
-  module _ (i at : ℕ) (e : headReader s ≡ got i (drop at s)) where
-    pub body-stops : {n : ℕ} → bodyReader R k i (drop at s) ≡ refused n → netReader R k s ≡ refused n
-    body-stops f = net-stages R k s ∙ then-goes (fromInputs R k) e ∙ then-stops (atEnd 8) f
+  module _ (h : Head) (at : ℕ) (e : headReader s ≡ got h (drop at s)) where
+    pub body-stops : {n : ℕ} → bodyReader R k (h .inputs) (drop at s) ≡ refused n → drawnReader R k s ≡ refused n
+    body-stops f = drawn-stages R k s ∙ then-goes (fromHead R k) e ∙ then-stops (fromBody (h .section)) f
 
-    module _ (N : Net) (behind : ℕ) (f : bodyReader R k i (drop at s) ≡ got N (drop behind s)) where
-      body-goes : netReader R k s ≡ atEnd 8 N (drop behind s)
-      body-goes = net-stages R k s ∙ then-goes (fromInputs R k) e ∙ then-goes (atEnd 8) f
+    module _ (N : Net) (behind : ℕ) (f : bodyReader R k (h .inputs) (drop at s) ≡ got N (drop behind s)) (n : ℕ) (long : n ≡ cond (h .section) (size N) 0) where
+      body-goes : drawnReader R k s ≡ andThen (pasts n (drop behind s)) (λ section. atEnd 8 (drawn N section))
+      body-goes =
+          drawn-stages R k s ∙ then-goes (fromHead R k) e ∙ then-goes (fromBody (h .section)) f
+          ∙ ap (λ (m : ℕ). andThen (pasts m (drop behind s)) (λ section. atEnd 8 (drawn N section))) (sym long)
 
-      pub bytes-over : behind < length s → netReader R k s ≡ refused 8
-      bytes-over h = body-goes ∙ end-over 8 N s behind h
+      pub section-stops : {m : ℕ} → pasts n (drop behind s) ≡ refused m → drawnReader R k s ≡ refused m
+      section-stops g = body-goes ∙ then-stops (λ section. atEnd 8 (drawn N section)) g
 
-      pub net-read : length s ≤ behind → netReader R k s ≡ got N []
-      net-read h = body-goes ∙ end-done 8 N s behind h
+      module _ (l : List ℕ) (end : ℕ) (g : pasts n (drop behind s) ≡ got l (drop end s)) where
+        section-goes : drawnReader R k s ≡ atEnd 8 (drawn N l) (drop end s)
+        section-goes = body-goes ∙ then-goes (λ section. atEnd 8 (drawn N section)) g
+
+        pub bytes-over : end < length s → drawnReader R k s ≡ refused 8
+        bytes-over b = section-goes ∙ end-over 8 (drawn N l) s end b
+
+        -- no byte is left: the section is the rest of the record
+        pub drawn-read : length s ≤ end → drawnReader R k s ≡ got (drawn N (drop behind s)) []
+        drawn-read b =
+            section-goes ∙ end-done 8 (drawn N l) s end b
+            ∙ ap (λ (m : List ℕ). got (drawn N m) []) (sym (times-bytes 4 6 isPast n (drop behind s) l (drop end s) g ∙ ap (λ (t : List ℕ). l ++ t) (drop-of-length-le s b) ∙ append-nil l))
+
+-- the net alone
+pub net-alone : (R : Rules) (k : ℕ) (s : List ℕ) (v : Verdict) (d : Drawn) → drawnReader R k s ≡ outcome v d [] → netReader R k s ≡ outcome v (d .net) []
+net-alone R k s v d e = net-stages R k s ∙ ap (λ (r : Result Drawn). andThen r netOf) e ∙ by v
+  where
+    by : (x : Verdict) → andThen (outcome x d []) netOf ≡ outcome x (d .net) []
+    by Read = refl
+    by (Refused n) = refl

@@ -10,7 +10,7 @@ use Rattle.net_model.specs.Net.{Gate, Pin}
 use Rattle.net_model.specs.Arrays.{netIn, pinsIn, gatesIn, stride}
 use Rattle.net_model.specs.PackedNet.{sourcesAt, countsAt, nextsAt, outsAt, delaysAt}
 use Rattle.net_bytes.specs.Reading.{times}
-use Rattle.net_bytes.specs.Walk.{headReader, bodyReader, gateReader, outputReader}
+use Rattle.net_bytes.specs.Walk.{Head, headReader, bodyReader, gateReader, outputReader}
 use Rattle.net_bytes.specs.Stages.{fromSizes}
 use Rattle.net_fields.specs.declared.Verdict.the-variants.{Read}
 use Rattle.net_fields.specs.Verdicts.{outcome, onward}
@@ -66,9 +66,13 @@ pub record OutputsRead (wide : Bool) (s : List ℕ) (at : ℕ) (z : NetSizes) (n
   pub result : times (z .outputs) (outputReader wide (z .inputs + z .gates)) (drop at s) ≡ outcome (r .verdict) (outputsOf z net′ (z .outputs)) (drop (r .at) s)
   pub below : Below z net net′
 
+-- what the head says
+abbrev pub headIn : NetHead → Head
+headIn r = record { inputs = r .inputs; section = r .section }
+
 -- the head is read
 pub record HeadRead (s : List ℕ) (r : NetHead) : Type 0 where
-  pub result : headReader s ≡ outcome (r .verdict) (r .inputs) (drop (r .at) s)
+  pub result : headReader s ≡ outcome (r .verdict) (headIn r) (drop (r .at) s)
   pub inputs : r .inputs ≤ mostInputs
 
 -- the numbers of gates and outputs are read: the body is what the readers behind them make of it
@@ -78,5 +82,7 @@ pub record SizesRead (R : Rules) (s : List ℕ) (at : ℕ) (r : BodySizes) : Typ
   pub outputs : r .outputs ≤ mostOutputs
 
 -- the body is read and stored
-abbrev pub BodyRead : Rules → List ℕ → ℕ → ℕ → ℕ → List ℕ → List ℕ → Body → Type 0
-BodyRead R s at k i net tables r = bodyReader R k i (drop at s) ≡ outcome (r .verdict) (netIn (arraysOf (r .sizes) net tables)) (drop (r .at) s)
+pub record BodyRead (R : Rules) (s : List ℕ) (at k i : ℕ) (net tables : List ℕ) (r : Body) : Type 0 where
+  pub result : bodyReader R k i (drop at s) ≡ outcome (r .verdict) (netIn (arraysOf (r .sizes) net tables)) (drop (r .at) s)
+  pub inputs : r .sizes .inputs ≤ mostInputs
+  pub gates : r .sizes .gates ≤ R .gates

@@ -1,4 +1,4 @@
-// The byte walk over a net record under rules: one pass over any bytes, head, body and end, each byte tested when read. The net is stored in one slice of numbers and one of tables.
+// The byte walk over a net record under rules: one pass over any bytes, head, body, section and end, each byte tested when read. The net is stored in one slice of numbers and one of tables.
 use inputs::wide;
 use limits::PINS;
 use limits::Rules;
@@ -12,15 +12,18 @@ use net_marks::store;
 use net_rows::GateRow;
 use net_rows::read_gate;
 use net_rows::read_output;
+use net_section::read_section;
 ghost use mathlib.Core.Path.{_≡_};
+ghost use mathlib.Core.Bool.{cond};
 ghost use Prim.Native.Nat.{_+_, _≤_, _<_};
 ghost use lib.ListN.{length};
-ghost use Rattle.limits.specs.Limits.{mostInputs, mostPins};
+ghost use Rattle.limits.specs.Limits.{mostGates, mostInputs, mostPins};
 ghost use Rattle.limits.specs.Courses.{Offered};
 ghost use Rattle.sequences.specs.Stored.{Stored};
 ghost use Rattle.net_model.specs.PackedNet.{orderAt, topsAt, outsAt, delaysAt, packedRoom};
-ghost use Rattle.net_bytes.specs.Walk.{netReader};
-ghost use Rattle.net_reader.specs.ReadAnswer.{resultOf};
+ghost use Rattle.net_model.specs.Tables.{bit};
+ghost use Rattle.net_bytes.specs.Walk.{drawnReader, netReader};
+ghost use Rattle.net_reader.specs.ReadAnswer.{drawnOf, resultOf};
 ghost use Rattle.net_reader.specs.Rooms.{NetRoom, ReadRoom};
 ghost use Rattle.net_reader.specs.NetStored.{GateAsked, GateStored, GatesRead, OutputsRead, HeadRead, SizesRead, BodyRead, withOutput};
 
@@ -37,11 +40,19 @@ pub struct NetRead {
     pub sizes: NetSizes,
 }
 
-// The number of inputs, and the place behind it.
+// The same for a record that may have a section, and the place of its section.
+pub struct DrawnRead {
+    pub verdict: Verdict,
+    pub sizes: NetSizes,
+    pub at: usize,
+}
+
+// The number of inputs and whether a section follows, and the place behind.
 struct NetHead {
     verdict: Verdict,
     at: usize,
     inputs: usize,
+    section: bool,
 }
 
 // The numbers of gates and outputs, and the place behind them.
@@ -197,25 +208,34 @@ fn read_outputs(bytes: &[u8], at: usize, s: NetSizes, net: &mut [usize], rules: 
     }
 }
 
-// ---- head, body and end
+// ---- head, body, section and end
 
-// The head: the number of inputs, tested as it is read.
+// Bit 7 of the first byte.
+fn follows(byte: u8) -> bool
+    ensures { λ r. ⌜ r ≡ bit byte 7 ⌝ }
+{
+    byte >= 128
+}
+
+// The head: the number of inputs, tested as it is read, and whether a section follows.
 fn read_head(bytes: &[u8]) -> NetHead
     ensures { λ r. ⌜ HeadRead (now (bytes .entry)) r ⌝ }
 {
-    let inputs = read_byte(bytes, 0, Field::Net(NetField::Inputs), 0);
-    let v = inputs.verdict;
+    let head = read_byte(bytes, 0, Field::Net(NetField::Inputs), 0);
+    let v = head.verdict;
     if let Verdict::Refused(n) = v {
         return NetHead {
             verdict: Verdict::Refused(n),
             at: 0,
             inputs: 0,
+            section: false,
         };
     }
     NetHead {
         verdict: Verdict::Read,
-        at: inputs.at,
-        inputs: wide(inputs.value),
+        at: head.at,
+        inputs: wide(head.value % 128),
+        section: follows(head.value),
     }
 }
 
@@ -254,7 +274,9 @@ fn read_sizes(bytes: &[u8], at: usize, rules: Rules) -> BodySizes
     }
 }
 
-fn no_net() -> NetSizes {
+fn no_net() -> NetSizes
+    ensures { λ r. ⌜ (r .inputs ≡ 0) × (r .gates ≡ 0) ⌝ }
+{
     NetSizes {
         inputs: 0,
         gates: 0,
@@ -263,7 +285,7 @@ fn no_net() -> NetSizes {
 }
 
 fn no_body(n: u8) -> Body
-    ensures { λ r. ⌜ r .verdict ≡ Verdict.Refused n ⌝ }
+    ensures { λ r. ⌜ (r .verdict ≡ Verdict.Refused n) × (r .sizes .inputs ≡ 0) × (r .sizes .gates ≡ 0) ⌝ }
 {
     Body {
         verdict: Verdict::Refused(n),
@@ -310,16 +332,64 @@ fn read_body(
     }
 }
 
-fn refused_net(n: u8) -> NetRead
+// The number of bytes of the section.
+fn section_bytes(follows: bool, inputs: usize, gates: usize) -> usize
+    requires { ⌜ (inputs ≤ mostInputs) × (gates ≤ mostGates) ⌝ }
+    ensures { λ r. ⌜ r ≡ cond follows (inputs + gates) 0 ⌝ }
+{
+    if follows { inputs + gates } else { 0 }
+}
+
+fn refused_drawn(n: u8) -> DrawnRead
     ensures { λ r. ⌜ r .verdict ≡ Verdict.Refused n ⌝ }
 {
-    NetRead {
+    DrawnRead {
         verdict: Verdict::Refused(n),
         sizes: no_net(),
+        at: 0,
     }
 }
 
-// The walk: the net of the record in the slices, or the number of the first refusal met.
+// The walk: the net of the record in the slices and the place of its section, which is the rest of the bytes, or the number of the first refusal met.
+pub fn read_drawn(
+    bytes: &[u8],
+    k: u32,
+    rules: Rules,
+    net: &mut [usize],
+    tables: &mut [u64],
+) -> DrawnRead
+    requires { ⌜ Offered rules ⌝ }
+    requires { ⌜ ReadRoom rules (now net) (now tables) ⌝ }
+    ensures { λ r. ⌜ drawnReader rules k (now (bytes .entry)) ≡ drawnOf r (now (net .exit)) (now (tables .exit)) (now (bytes .entry)) ⌝ }
+{
+    let head = read_head(bytes);
+    let v = head.verdict;
+    if let Verdict::Refused(n) = v {
+        return refused_drawn(n);
+    }
+    let body = read_body(bytes, head.at, k, head.inputs, net, tables, rules);
+    let w = body.verdict;
+    if let Verdict::Refused(n) = w {
+        return refused_drawn(n);
+    }
+    let s = body.sizes;
+    let n = section_bytes(head.section, s.inputs, s.gates);
+    let section = read_section(bytes, body.at, n);
+    let x = section.verdict;
+    if let Verdict::Refused(n) = x {
+        return refused_drawn(n);
+    }
+    if section.at < bytes.len() {
+        return refused_drawn(8);
+    }
+    DrawnRead {
+        verdict: Verdict::Read,
+        sizes: s,
+        at: body.at,
+    }
+}
+
+// The walk where the section is not asked for: the net alone.
 pub fn read_net(
     bytes: &[u8],
     k: u32,
@@ -331,22 +401,11 @@ pub fn read_net(
     requires { ⌜ ReadRoom rules (now net) (now tables) ⌝ }
     ensures { λ r. ⌜ netReader rules k (now (bytes .entry)) ≡ resultOf r (now (net .exit)) (now (tables .exit)) ⌝ }
 {
-    let head = read_head(bytes);
-    let v = head.verdict;
-    if let Verdict::Refused(n) = v {
-        return refused_net(n);
-    }
-    let body = read_body(bytes, head.at, k, head.inputs, net, tables, rules);
-    let w = body.verdict;
-    if let Verdict::Refused(n) = w {
-        return refused_net(n);
-    }
-    if body.at < bytes.len() {
-        return refused_net(8);
-    }
-    let s = body.sizes;
+    let drawn = read_drawn(bytes, k, rules, net, tables);
+    let v = drawn.verdict;
+    let s = drawn.sizes;
     NetRead {
-        verdict: Verdict::Read,
+        verdict: v,
         sizes: s,
     }
 }

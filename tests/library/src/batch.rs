@@ -2,7 +2,7 @@
 //! length in two bytes, low first, and the net.
 
 use crate::compare::{some_k, some_net};
-use crate::nets::{largest_record, line, net, net_a, net_b, net_c, Read, AND};
+use crate::nets::{largest_record, line, net, net_a, net_b, net_c, with_sections, Read, AND};
 use second::damage::damaged_net;
 use second::encode::encode;
 use second::Random;
@@ -19,7 +19,7 @@ pub fn case(k: u8, net: &[u8]) -> Vec<u8> {
     [&[k], &(net.len() as u16).to_le_bytes()[..], net].concat()
 }
 
-/// The examples of document 01.
+/// The examples of document 01, and nets with a section.
 fn examples() -> Vec<(u8, Vec<u8>)> {
     let wide: Vec<Read> = (0..6).map(|i| (i, 0)).collect();
     let wide = encode(&net(6, &[(&wide, 1 << 63)], &[(6, 0)]));
@@ -33,6 +33,7 @@ fn examples() -> Vec<(u8, Vec<u8>)> {
     // Counts 3 and 4, on a pin and on an output.
     all.extend([line(1, 3), line(1, 4)].map(|net| (2, encode(&net))));
     all.extend([net_b(3), net_b(4)].map(|net| (2, net)));
+    all.extend(with_sections().into_iter().map(|net| (6, net)));
     all
 }
 

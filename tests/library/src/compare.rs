@@ -10,8 +10,7 @@ use second::jobs::{Course, COVER_BYTES, LONG, SCRATCH_BYTES, SHORT};
 use second::listing::{listing_within, GAVE_UP};
 use second::loader::{image, LOADER_BYTES};
 use second::mark::check_cover;
-use second::net::SECTIONS;
-use second::{parse_net, read_net, read_record, Answer, Areas, Limits, Random};
+use second::{parse_net, read_net, read_record, Answer, Areas, Limits, Net, Random};
 use std::collections::BTreeMap;
 use std::thread::Builder;
 
@@ -58,7 +57,7 @@ pub struct Tally {
     /// The second mapper gave up.
     pub skipped: u64,
     /// Answers by refusal, 0 where there was none.
-    pub seen: [u64; 21],
+    pub seen: [u64; 22],
     /// Answers without refusal by length or excess.
     pub done: BTreeMap<u32, u64>,
     /// Pairs whose least period is above 1.
@@ -484,6 +483,15 @@ pub fn deep(random: &mut Random, gates: usize, pins: usize) -> Shape {
     }
 }
 
+/// A few gates with many registers: now and then some is reached from no input, or leads to no output.
+fn small_wild(random: &mut Random, pins: usize) -> Net {
+    let shape = Shape {
+        registers: 60,
+        ..Shape::any(random, 4, pins.min(2))
+    };
+    wild_net(random, &shape)
+}
+
 /// Net bytes of all kinds, and the most pins of a gate.
 pub fn some_net(random: &mut Random) -> (Vec<u8>, usize) {
     let pins = random.within(1, 6);
@@ -493,7 +501,8 @@ pub fn some_net(random: &mut Random) -> (Vec<u8>, usize) {
         _ => deep(random, gates, pins),
     };
     let bytes = match random.below(20) {
-        0 | 1 => encode_with_holes(&wild_net(random, &shape), random),
+        0 => encode_with_holes(&wild_net(random, &shape), random),
+        1 => encode_with_holes(&small_wild(random, pins), random),
         2 => (0..random.below(60)).map(|_| random.byte()).collect(),
         3 => {
             let family = random.below(FAMILIES.len());
@@ -511,15 +520,26 @@ pub fn some_net(random: &mut Random) -> (Vec<u8>, usize) {
     (bytes, pins)
 }
 
-/// Where nets with a section are taken, now and then one behind a net that is read; it changes no answer.
-fn some_section(random: &mut Random, net: Vec<u8>) -> Vec<u8> {
-    if !SECTIONS || random.chance(75) {
+/// Now and then a section behind a net that is read: whole, or with a byte above 7, with bytes missing or
+/// over, its bit without it, or it without its bit.
+pub fn some_section(random: &mut Random, net: Vec<u8>) -> Vec<u8> {
+    if random.chance(70) {
         return net;
     }
-    match parse_net(&net, 6) {
-        Ok(read) => with_section(&net, &random_section(read.nodes(), random)),
-        Err(_) => net,
+    let Ok(read) = parse_net(&net, 6) else {
+        return net;
+    };
+    let mut section = random_section(read.nodes(), random);
+    let at = random.below(section.len());
+    match random.below(16) {
+        0 => section[at] = random.pick(&[8, 9, 15, 16, 64, 128, 135, 255]),
+        1 => section.truncate(at),
+        2 => section.extend((0..random.within(1, 3)).map(|_| random.byte())),
+        3 => section.clear(),
+        4 => return [net, section].concat(),
+        _ => {}
     }
+    with_section(&net, &section)
 }
 
 /// The listing program on a random net, against the second mapper's text.

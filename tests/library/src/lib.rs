@@ -2,6 +2,7 @@
 
 pub mod abc;
 pub mod batch;
+pub mod bench;
 pub mod compare;
 pub mod nets;
 pub mod pieces;

@@ -1,6 +1,6 @@
 //! Nets made by hand: document 01's, and families that need many sweeps or large cones.
 
-use second::encode::encode;
+use second::encode::{encode, with_section};
 use second::generate::{random_net, Shape};
 use second::{lut_table, Cover, Gate, Lut, Net, NodeCopy, Pin, Random};
 
@@ -394,7 +394,33 @@ pub fn of_family(family: usize, random: &mut Random, gates: usize, pins: usize) 
     }
 }
 
-/// Document 01's nets, lines around the limits, the largest record and one net of each family, as records.
+/// Net C with a section, as a record: one step before step 0 both inputs were 1.
+pub fn c_with_section() -> Vec<u8> {
+    with_section(&net_c(), &[1, 1, 0])
+}
+
+/// Nets with a section, as records: whole ones, the longest record of 803 bytes among them, and broken ones.
+pub fn with_sections() -> Vec<Vec<u8>> {
+    let mut longest = largest_record();
+    for output in &mut longest.outputs {
+        output.count = 3;
+    }
+    let longest = with_section(&encode(&longest), &[7; 48]);
+    assert_eq!(longest.len(), 803);
+    let mut nets = vec![c_with_section(), longest];
+    nets.push(with_section(&net_a(), &[1, 2, 3, 4, 5]));
+    nets.push(with_section(&net_b(1), &[7; 5]));
+    // Nothing behind the bit; bytes missing; one above 7, at each end of the section; bytes over.
+    let sections: [&[u8]; 6] = [&[], &[7, 7], &[8, 0, 0], &[0, 0, 8], &[0; 4], &[0, 0, 0, 8]];
+    nets.extend(sections.map(|section| with_section(&net_c(), section)));
+    // A section without its bit; I alone, in its range and beyond.
+    nets.push([net_c(), vec![1, 1, 0]].concat());
+    nets.extend([0x80, 0x81, 0x90, 0x91, 0xc1].map(|first| vec![first]));
+    nets
+}
+
+/// Document 01's nets, lines around the limits, the largest record, one net of each family and nets with a
+/// section, as records.
 pub fn hand_made() -> Vec<Vec<u8>> {
     let mut nets = vec![
         net_a(),
@@ -410,5 +436,6 @@ pub fn hand_made() -> Vec<Vec<u8>> {
     for family in 0..FAMILIES.len() {
         nets.push(encode(&of_family(family, &mut Random::new(7), 6, 2)));
     }
+    nets.extend(with_sections());
     nets
 }

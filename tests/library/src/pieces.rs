@@ -1,11 +1,11 @@
 //! The pieces of mark one by one, each against the second mapper's own function for it:
 //! the reader (4 to 8), the checks (9 to 11), the cone walk (14) and the tables (15).
 
-use crate::compare::{deep, some_k, some_net, Sides, LIMITS};
+use crate::compare::{deep, some_k, some_net, some_section, Sides, LIMITS};
 use crate::nets::{line, wide_cone};
 use second::bytes::table_mask;
 use second::damage::{damaged_net, random_leaf};
-use second::encode::{encode, encode_with_holes};
+use second::encode::{encode, encode_with_holes, random_section, with_section};
 use second::generate::{random_net, wild_net, Shape};
 use second::jobs::SCRATCH_BYTES;
 use second::{
@@ -61,6 +61,7 @@ impl Sides {
         };
         let k = random.within(pins.max(2), 6) as u32;
         let bytes = encode_with_holes(&net, random);
+        let bytes = some_section(random, bytes);
         self.net_alone(random, &bytes, k);
     }
 
@@ -125,7 +126,10 @@ impl Sides {
             period: random.within(1, 32) as u32,
             luts: luts.into_iter().map(|(lut, _)| lut).collect(),
         };
-        let (bytes, record) = (encode(net), write_record(&cover));
+        let (mut bytes, record) = (encode(net), write_record(&cover));
+        if random.chance(20) {
+            bytes = with_section(&bytes, &random_section(net.nodes(), random));
+        }
         let expected = refusal.map(Answer::Refused);
         self.mark(random, &bytes, k, &record, SCRATCH_BYTES, expected);
     }

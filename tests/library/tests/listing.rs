@@ -1,5 +1,6 @@
 //! The program `listing` over standard input and output, against the second mapper's text.
 
+use library::compare::some_section;
 use library::nets::{hand_made, largest_record, net, net_a, net_b, net_c, Read, AND};
 use library::programs;
 use second::damage::damaged_net;
@@ -115,6 +116,7 @@ fn labels_and_cuts() {
                     let gates = random.within(1, 14);
                     let shape = Shape::any(&mut random, gates, 4);
                     let net = encode(&random_net(&mut random, &shape));
+                    let net = some_section(&mut random, net);
                     let k = random.within(4, 6) as u8;
                     let text = same(k, random.pick(&[0, 0, 1, 2, 3]), &net);
                     covers += usize::from(text.starts_with("period"));

@@ -1,8 +1,8 @@
 //! The program `marking` over standard input and output, against the second mapper's text.
 
 use library::batch::case;
-use library::compare::{some_net, LIMITS};
-use library::nets::{net_a, net_b, net_c};
+use library::compare::{some_net, some_section, LIMITS};
+use library::nets::{net_a, net_b, net_c, with_sections};
 use library::programs::printed;
 use second::damage::{candidate, damaged};
 use second::generate::{random_net, Shape};
@@ -33,7 +33,9 @@ fn examples() {
     assert_eq!(marked(2, &net_b(1), &lag(1)), "excess 0\n");
     assert_eq!(marked(2, &net_b(1), &lag(2)), "refused 17\n");
     for k in 0..9 {
-        for net in [net_a(), net_b(0), net_b(1), net_c(), Vec::new()] {
+        let mut nets = vec![net_a(), net_b(0), net_b(1), net_c(), Vec::new()];
+        nets.extend(with_sections());
+        for net in nets {
             marked(k, &net, &RECORD_A);
             marked(k, &net, &RECORD_B);
         }
@@ -73,7 +75,7 @@ fn random_pairs() {
         };
         let bytes = match turn % 10 {
             0 => some_net(&mut random).0,
-            _ => second::encode::encode(&net),
+            _ => some_section(&mut random, second::encode::encode(&net)),
         };
         let mut given = [&case(k, &bytes)[..], &record].concat();
         if turn % 10 == 1 {

@@ -2,11 +2,11 @@
 
 use library::compare::{cases, on_threads, seed, Sides, Tally};
 use library::nets::{
-    largest_record, line, net, net_a, net_b, net_c, ring_cover, ring_from_input, ring_from_last,
-    wide_cone, Read, AND,
+    c_with_section, largest_record, line, net, net_a, net_b, net_c, ring_cover, ring_from_input,
+    ring_from_last, wide_cone, with_sections, Read, AND,
 };
 use library::pieces::every_change;
-use second::encode::{encode, encode_with_holes};
+use second::encode::{encode, encode_with_holes, with_section};
 use second::jobs::SCRATCH_BYTES;
 use second::{write_record, Answer, Random};
 
@@ -52,7 +52,8 @@ fn reader_by_hand() {
     let holes = encode_with_holes(&net(2, &holes, &[(3, 1), (2, 0)]), &mut random);
     let twice = encode(&net(1, &[(&[(0, 0), (0, 1)], AND)], &[(1, 0)]));
     let mut nets = vec![net_a(), net_b(0), net_b(1), net_b(3), net_b(4), net_c()];
-    nets.extend([holes, twice, encode(&line(3, 3))]);
+    nets.extend([holes, twice, encode(&line(3, 3)), c_with_section()]);
+    nets.push(with_section(&net_a(), &[7, 0, 1, 2, 4]));
     let tally = on_threads(|thread, threads| {
         let mut random = Random::new(thread);
         let mut sides = Sides::new(&mut random);
@@ -63,9 +64,11 @@ fn reader_by_hand() {
                 }
             }
         }
-        for long in [line(32, 0), line(33, 0), largest_record()] {
+        let mut long: Vec<Vec<u8>> = with_sections();
+        long.extend([line(32, 0), line(33, 0), largest_record()].map(|net| encode(&net)));
+        for net in long {
             for k in 0..=8 {
-                sides.net_alone(&mut random, &encode(&long), k);
+                sides.net_alone(&mut random, &net, k);
             }
         }
         sides.tally

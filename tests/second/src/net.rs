@@ -12,10 +12,6 @@ pub const MOST_COUNT: u8 = 3;
 pub const SECTION_BIT: u8 = 1 << 7;
 pub const MOST_PAST: u8 = 7;
 
-/// Whether map, mark, the listing and the reader take nets with a section; where not, its bit makes the
-/// inputs too many. The bench always takes them.
-pub const SECTIONS: bool = false;
-
 /// A pin reads `source` through `count` registers.
 #[derive(Clone, Copy, Debug, PartialEq, Eq)]
 pub struct Pin {
@@ -143,20 +139,15 @@ impl Net {
 
 /// Read a net record; 4 to 8, the first met counting. A section changes nothing of the net.
 pub fn parse_net(bytes: &[u8], k: u32) -> Result<Net, u8> {
-    parse(bytes, k, SECTIONS).map(|(net, _)| net)
+    parse_with_section(bytes, k).map(|(net, _)| net)
 }
 
 /// The same with the section, if the record has one.
 pub fn parse_with_section(bytes: &[u8], k: u32) -> Result<(Net, Option<Section>), u8> {
-    parse(bytes, k, true)
-}
-
-fn parse(bytes: &[u8], k: u32, sections: bool) -> Result<(Net, Option<Section>), u8> {
     let mut walk = Walk::new(bytes, 4);
     let within = |most: u8| move |byte: u8| (1..=most).contains(&byte);
-    let bit = if sections { SECTION_BIT } else { 0 };
-    let first = walk.take_if(5, |byte| within(MOST_INPUTS)(byte & !bit))?;
-    let inputs = usize::from(first & !bit);
+    let first = walk.take_if(5, |byte| within(MOST_INPUTS)(byte & !SECTION_BIT))?;
+    let inputs = usize::from(first & !SECTION_BIT);
     let gates = usize::from(walk.take_if(5, within(MOST_GATES))?);
     let outputs = walk.take_if(5, within(MOST_OUTPUTS))?;
     let nodes = inputs + gates;
@@ -171,7 +162,7 @@ fn parse(bytes: &[u8], k: u32, sections: bool) -> Result<(Net, Option<Section>),
     for _ in 0..outputs {
         net.outputs.push(parse_output(&mut walk, nodes)?);
     }
-    let section = if first & bit == 0 {
+    let section = if first & SECTION_BIT == 0 {
         None
     } else {
         let past = (0..nodes).map(|_| walk.take_if(6, |byte| byte <= MOST_PAST));

@@ -7,10 +7,10 @@ use common::{map, mark, net_a, net_b, net_bytes, net_c, GateText, AND};
 use second::damage::damaged;
 use second::encode::{encode, encode_with_holes, random_section, with_section};
 use second::generate::{random_net, wild_net, Shape};
-use second::net::{MOST_PAST, SECTIONS, SECTION_BIT};
+use second::net::{MOST_PAST, SECTION_BIT};
 use second::run::Run;
 use second::{
-    check_net, parse_net, parse_with_section, programs, Answer, Bench, Net, Pin, Random, Section,
+    check_net, parse_net, parse_with_section, programs, Bench, Net, Pin, Random, Section,
 };
 use std::collections::HashMap;
 
@@ -180,7 +180,7 @@ fn the_longest_record() {
     assert_eq!(bench(6, &with, &[0, 0]), "refused 11\n");
 }
 
-/// Where nets with a section are taken their answers are those without it; where not, the bit is 5.
+/// Map and mark answer as without the section.
 #[test]
 fn a_section_changes_no_cover() {
     let mut random = Random::new(71);
@@ -199,12 +199,8 @@ fn a_section_changes_no_cover() {
         let read = parse_with_section(&with, k).map(|(net, _)| net);
         assert_eq!(read, parse_net(&bytes, k));
         let target = random.pick(&[0, 0, 1, 2]);
-        let (mapped, marked) = match SECTIONS {
-            true => (map(&bytes, k, target), mark(&bytes, k, &record)),
-            false => (Err(Answer::Refused(5)), Answer::Refused(5)),
-        };
-        assert_eq!(map(&with, k, target), mapped);
-        assert_eq!(mark(&with, k, &record), marked);
+        assert_eq!(map(&with, k, target), map(&bytes, k, target));
+        assert_eq!(mark(&with, k, &record), mark(&bytes, k, &record));
     }
 }
 

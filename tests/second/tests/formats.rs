@@ -3,7 +3,7 @@
 
 use second::bytes::table_bytes;
 use second::loader::image;
-use second::programs::{listing, map, mark};
+use second::programs::{bench, listing, map, mark};
 use second::{read_net, solve, Cover, Limits, Lut, NodeCopy};
 use std::fs;
 use std::path::Path;
@@ -72,6 +72,20 @@ fn cover_of_net_a() {
 }
 
 #[test]
+fn bench_of_net_c() {
+    let blocks = blocks("Bench", "");
+    let given = bytes(&blocks[0]);
+    assert_eq!(given, file("examples/bench-c.bin"));
+    assert_eq!(bench(&given), blocks[1].as_bytes());
+    // Net C as it ships, but for bit 7, then the section.
+    let c = &file("examples/net-c.bin")[2..];
+    assert_eq!(
+        given[3..4 + c.len()],
+        [&[c[0] | 0x80], &c[1..], &[1]].concat()
+    );
+}
+
+#[test]
 fn loader_image() {
     let heading = "The loader image";
     let net = read_net(&file("examples/net-a.bin")[2..], 2).expect("net A");
@@ -119,6 +133,7 @@ fn files_by_hand() {
     assert_eq!(mark(&given), printed[1].as_bytes());
     *given.last_mut().unwrap() = 7;
     assert_eq!(mark(&given), b"refused 15\n");
+    assert_eq!(bench(&made("bench-odd.bin")), printed[2].as_bytes());
 
     let text = section(heading);
     let octal = text.split('`').find(|part| part.starts_with("printf '"));

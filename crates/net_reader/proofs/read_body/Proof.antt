@@ -1,5 +1,6 @@
 -- `net_reader::read_body` meets its contract: one law for each way out.
 use denote.Ref.{now}
+use native.Mathlib.Omega.{arith}
 use lib.ListN.{drop}
 use Rattle.net_bytes.specs.Stages.{fromSizes}
 use Rattle.net_fields.specs.FieldLaws.{stopping, onward-went, onward-stopped}
@@ -20,7 +21,11 @@ no-body-requires c κs = search needs
 returns : tie.Need-returns
 returns c =
     let a = c .before .before .before .before .before .before .before .before .args in
-    stopping _ _ (onward-stopped _ (c .before .before .before .before .read-sizes .ensures .result (a .k) (a .inputs)) (c .before .before .v .given .1)) (c .no-body .ensures)
+    record {
+      result = stopping _ _ (onward-stopped _ (c .before .before .before .before .read-sizes .ensures .result (a .k) (a .inputs)) (c .before .before .v .given .1)) (c .no-body .ensures .0);
+      inputs = omega (arith, c .no-body .ensures .1);
+      gates = omega (arith, c .no-body .ensures .2);
+    }
 
 enum-told : tie.Need-enum-told
 enum-told c = search needs
@@ -47,7 +52,11 @@ returns-2 c =
     let z = c .before .before .before .before .before .before .before .before .before .before .before .before .before .read-sizes in
     let e = onward-went (fromSizes (a .rules .wide) (a .k) (a .inputs) (z .result .gates) (z .result .outputs) (drop (z .result .at) s)) (z .ensures .result (a .k) (a .inputs)) (c .before .before .before .before .before .before .before .before .before .before .before .enum-told .given .1) in
     let y = c .before .before .before .before .before .before .before .before .read-gates in
-    stopping _ _ (gates-refused (a .rules) (a .k) s (a .at) (z .result .at) (record { inputs = a .inputs; gates = z .result .gates; outputs = z .result .outputs }) _ _ e (y .result) (y .ensures) (c .before .before .w .given .1)) (c .no-body2 .ensures)
+    record {
+      result = stopping _ _ (gates-refused (a .rules) (a .k) s (a .at) (z .result .at) (record { inputs = a .inputs; gates = z .result .gates; outputs = z .result .outputs }) _ _ e (y .result) (y .ensures) (c .before .before .w .given .1)) (c .no-body2 .ensures .0);
+      inputs = omega (arith, c .no-body2 .ensures .1);
+      gates = omega (arith, c .no-body2 .ensures .2);
+    }
 
 enum-told-2 : tie.Need-enum-told-2
 enum-told-2 c = search needs
@@ -69,7 +78,11 @@ returns-3 c =
     let e = onward-went (fromSizes (a .rules .wide) (a .k) (a .inputs) (z .result .gates) (z .result .outputs) (drop (z .result .at) s)) (z .ensures .result (a .k) (a .inputs)) (c .before .before .before .before .before .before .before .before .before .before .before .before .before .enum-told .given .1) in
     let y = c .before .before .before .before .before .before .before .before .before .before .read-gates in
     let x = c .before .before .read-outputs in
-    body-read (a .rules) (a .k) s (a .at) (z .result .at) (record { inputs = a .inputs; gates = z .result .gates; outputs = z .result .outputs }) _ _ e (y .result) (y .ensures) (c .before .before .before .before .enum-told2 .given .1) _ (x .result) (x .ensures)
+    record {
+      result = body-read (a .rules) (a .k) s (a .at) (z .result .at) (record { inputs = a .inputs; gates = z .result .gates; outputs = z .result .outputs }) _ _ e (y .result) (y .ensures) (c .before .before .before .before .enum-told2 .given .1) _ (x .result) (x .ensures);
+      inputs = c .before .before .before .before .before .before .before .before .before .before .before .before .before .before .before .before .before .before .before .pre .1 .0;
+      gates = z .ensures .gates;
+    }
 
 pub read-body-spec : {M : Type 1} → statement M
 read-body-spec =

@@ -1,9 +1,10 @@
-//! Map with and without a loader area, mark, those of the short course and now and then the listing program
-//! against the second mapper for some minutes, on nets and candidates of every kind.
+//! Map with and without a loader area, mark, those of the short course and now and then the programs listing
+//! and bench against the second mapper for some minutes, on nets and candidates of every kind.
 //!
 //! `soak [minutes] [seed]`: 20 minutes, and a seed from the clock. The exit code is 1 if
 //! there is a difference.
 
+use library::bench::random_bench;
 use library::compare::{each_thread, random_listing, Sides, Tally};
 use second::jobs::SHORT;
 use second::Random;
@@ -63,6 +64,7 @@ fn main() -> ExitCode {
         let mut marks = Sides::new(&mut random);
         let mut short = Sides::of(SHORT, &mut random);
         let mut texts = Tally::default();
+        let mut benches = Tally::default();
         while Instant::now() < end {
             maps.random_maps(&mut random);
             loads.random_loads(&mut random);
@@ -78,32 +80,36 @@ fn main() -> ExitCode {
             short.random_mark(&mut random);
             if random.below(50) == 0 {
                 random_listing(&mut texts, &mut random);
+                random_bench(&mut benches, &mut random);
             }
         }
-        [maps.tally, loads.tally, marks.tally, short.tally, texts]
+        [
+            maps.tally,
+            loads.tally,
+            marks.tally,
+            short.tally,
+            texts,
+            benches,
+        ]
     });
-    let mut maps = Tally::default();
-    let mut loads = Tally::default();
-    let mut marks = Tally::default();
-    let mut shorts = Tally::default();
-    let mut texts = Tally::default();
-    for [map, load, mark, short, text] in told {
-        maps.add(map);
-        loads.add(load);
-        marks.add(mark);
-        shorts.add(short);
-        texts.add(text);
+    let mut all: [Tally; 6] = Default::default();
+    for own in told {
+        for (sum, tally) in all.iter_mut().zip(own) {
+            sum.add(tally);
+        }
     }
+    let [maps, loads, marks, shorts, texts, benches] = &all;
     let of_map: Vec<usize> = (1..=12).collect();
     let of_mark: Vec<usize> = [1].into_iter().chain(3..=11).chain(13..=18).collect();
-    print("map", &maps, &of_map, "length", 100);
+    print("map", maps, &of_map, "length", 100);
     let of_load: Vec<usize> = (1..=12).chain([20]).collect();
-    print("map with a loader", &loads, &of_load, "length", 100);
-    print("mark", &marks, &of_mark, "excess", 1);
+    print("map with a loader", loads, &of_load, "length", 100);
+    print("mark", marks, &of_mark, "excess", 1);
     let of_both: Vec<usize> = (1..=18).collect();
-    print("short course", &shorts, &of_both, "done", 100);
-    print("listing", &texts, &[], "", 1);
+    print("short course", shorts, &of_both, "done", 100);
+    print("listing", texts, &[], "", 1);
+    let of_bench: Vec<usize> = [1].into_iter().chain(4..=11).chain([21]).collect();
+    print("bench", benches, &of_bench, "steps", 10);
     println!("seed {seed}");
-    let all = [maps, loads, marks, shorts, texts];
     ExitCode::from(u8::from(all.iter().any(|tally| tally.differences > 0)))
 }

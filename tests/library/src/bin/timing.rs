@@ -1,7 +1,7 @@
 //! Times of the library's map and mark and of the second mapper on the same nets, in
 //! microseconds, and the periods of ABC's `&sif` where it is installed.
 //!
-//! `bench [nets] [seed]`. Each call is timed three times and the least time counts.
+//! `timing [nets] [seed]`. Each call is timed three times and the least time counts.
 //! The areas are full of old bytes before a call; a call clears its scratch, and that is
 //! in the time. Build with the profile `timing`.
 

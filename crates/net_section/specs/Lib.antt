@@ -1,0 +1,2 @@
+pub mod SectionRead
+pub mod SectionReadLaws
