@@ -28,7 +28,7 @@ use Rattle.job_bench.specs.BenchProgram.{benchSection, benchGraph, benchDrawn, 
 use Rattle.job_bench.specs.BenchInputs.{of-unknown, of-refused, of-drawn}
 use Rattle.job_bench.specs.LongBench.{bench-cut}
 use Rattle.demands.specs.TurnedBack.{IsNet}
-use Rattle.demands.specs.BenchRun.{IsDrawn, TakenOff, Runs, BenchRun}
+use Rattle.demands.specs.BenchRun.{IsDrawn, TakenOff, Runs, Stops, loop, unreached, unled, BenchRun}
 
 -- ---- outcomes look at the net's record through the checks alone
 
@@ -77,7 +77,7 @@ drawn-most k bytes b d x = go (decLe (length bytes) mostNetBytes)
     go (yes l) = l
     go (no n) =
         let r = short-refuses (short-net long k) bytes b (omega arith) in
-        absurd (refused-not-got (r .0) (d .net) (x .0) (sym (r .1 []) ∙ ap (netReader long k) (append-nil bytes) ∙ drawn-net k bytes d x .1))
+        absurd (refused-not-got (r .0) (d .net) (drawn-net k bytes d x .0) (sym (r .1 []) ∙ ap (netReader long k) (append-nil bytes) ∙ drawn-net k bytes d x .1))
 
 -- ---- the text, one law for each way out
 
@@ -104,16 +104,16 @@ module _ (k : ℕ) (known : between leastK mostK k ≡ true) (bytes : List ℕ) 
         go (yes a) (no b) c = absurd (b (r .reached))
         go (yes a) (yes b) (no c) = absurd (c (r .leading))
 
-    stopped : ¬ Runs (d .net) → (n : ℕ) × ((9 ≤ n) × (n ≤ 11)) × ((pairs : List ℕ) → benchOf k bytes pairs ≡ refusalText n)
+    stopped : ¬ Runs (d .net) → (n : ℕ) × Stops (d .net) n × ((pairs : List ℕ) → benchOf k bytes pairs ≡ refusalText n)
     unfolding benchDrawn
     stopped r = go (loopless? (d .net)) (reached? (d .net)) (leading? (d .net)) (λ pairs. of-drawn k bytes pairs (ap not known) d read-all)
       where
         go : (a : Dec (Loopless (d .net))) (b : Dec (AllReached (d .net))) (c : Dec (AllLeading (d .net))) → ((pairs : List ℕ) → benchOf k bytes pairs ≡ benchGraph d pairs a b c)
-            → (n : ℕ) × ((9 ≤ n) × (n ≤ 11)) × ((pairs : List ℕ) → benchOf k bytes pairs ≡ refusalText n)
+            → (n : ℕ) × Stops (d .net) n × ((pairs : List ℕ) → benchOf k bytes pairs ≡ refusalText n)
         go (yes a) (yes b) (yes c) e = absurd (r (record { loopless = a; reached = b; leading = c }))
-        go (no a) b c e = (9, (omega arith, omega arith), λ pairs. e pairs ∙ (unfold benchGraph in refl))
-        go (yes a) (no b) c e = (10, (omega arith, omega arith), λ pairs. e pairs ∙ (unfold benchGraph in refl))
-        go (yes a) (yes b) (no c) e = (11, (omega arith, omega arith), λ pairs. e pairs ∙ (unfold benchGraph in refl))
+        go (no a) b c e = (9, loop a, λ pairs. e pairs ∙ (unfold benchGraph in refl))
+        go (yes a) (no b) c e = (10, unreached a b, λ pairs. e pairs ∙ (unfold benchGraph in refl))
+        go (yes a) (yes b) (no c) e = (11, unled a b c, λ pairs. e pairs ∙ (unfold benchGraph in refl))
 
 section-some : (N : Net) (section pairs : List ℕ) → 0 < length section → benchSection N section pairs ≡ benchText N section pairs
 section-some N [] pairs h = absurd (omega arith)
