@@ -5,9 +5,8 @@ use mathlib.Core.Bool.{Bool, cond}
 use mathlib.Core.List.{List, map}
 use Prim.Native.Nat.{ℕ, suc, _+_, _*_, _<_}
 use lib.Dec.{ltb}
-use lib.IntN.{ℤ, pos, _+ℤ_}
+use lib.IntN.{ℤ}
 use lib.ListN.{length}
-use lib.Signed.{_≤ℤ_}
 use Rattle.integers.specs.Parts.{up, dn}
 use Rattle.sequences.specs.Member.{_∈_}
 use Rattle.net_model.specs.Net.{Net}
@@ -15,12 +14,6 @@ use Rattle.net_model.specs.Copies.{Copy, IsCone, IsLeaves}
 use Rattle.net_model.specs.Tables.{apply, tableOf}
 use Rattle.run_theory.specs.Bench.{ago, Rule, repeated}
 use Rattle.cover_theory.specs.Covers.{Cover, lut, lagOf, registers, output, outputRegisters}
-
--- "A forward cover is one in which, for every LUT, lag plus the largest d among its cone's members is 0 or less."
-abbrev pub Forward : Net → Cover → Type 0
-Forward N K =
-    (i : ℕ) → i < length (K .luts) → (C : List Copy) → IsCone N ((lut K i) .root) C → IsLeaves N C ((lut K i) .leaves)
-    → (x : Copy) → x ∈ C → ((lut K i) .lag +ℤ pos (x .back)) ≤ℤ pos 0
 
 -- ---- first contents. Place j is the register j + 1, "newest first".
 

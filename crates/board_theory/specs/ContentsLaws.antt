@@ -18,7 +18,8 @@ use Rattle.net_model.specs.Tables.{asNumber}
 use Rattle.run_theory.specs.Bench.{valueAt, Counts, Keeps}
 use Rattle.run_theory.specs.BenchLaws.{bench}
 use Rattle.cover_theory.specs.Covers.{Cover, lut, lagOf, registers, output, outputRegisters, IsCover, Meets}
-use Rattle.board_theory.specs.Boards.{Forward, leafContents, outputContents, Filled, Tabled}
+use Rattle.cover_theory.specs.Forward.{Forward}
+use Rattle.board_theory.specs.Boards.{leafContents, outputContents, Filled, Tabled}
 use Rattle.board_theory.specs.BoardLaws.{boarded}
 use Rattle.board_theory.specs.RunBoards.{member-late}
 use Rattle.board_theory.specs.Wakes.{wakes, takes-over}

@@ -1,12 +1,10 @@
 -- A run of the net, shifted by the lags, is a board of a forward cover: its registers hold the run's own values from before.
 use mathlib.Core.Path.{_≡_, refl, sym, ap, ap₂, subst, _∙_}
-use mathlib.Core.Bool.{Bool, cond}
+use mathlib.Core.Bool.{Bool}
 use mathlib.Core.List.{List, map}
 use mathlib.Core.Logic.{_⊎_, inl, inr}
 use Prim.Native.Nat.{ℕ, suc, _+_, _≤_, _<_}
 use native.Mathlib.Omega.{arith}
-use borrow.Author.Tests.{lt-ltb, le-ltb}
-use lib.Dec.{ltb}
 use lib.IntN.{ℤ, pos, negsuc, _+ℤ_, _-ℤ_}
 use lib.ListN.{length}
 use lib.Signed.{_≤ℤ_}
@@ -21,7 +19,9 @@ use Rattle.cone_values.specs.Values.{map-same}
 use Rattle.run_theory.specs.AgoLaws.{ago-same, ago-agree, ago-shift}
 use Rattle.run_theory.specs.Bench.{ago, pinFrom, Bench}
 use Rattle.cover_theory.specs.Covers.{Cover, lut, lagOf, registers, output, outputRegisters, RootedAt, IsCover}
-use Rattle.board_theory.specs.Boards.{Forward, held, leafContents, outputContents, source, brings, boardRule, Boarded, shows, Tabled}
+use Rattle.cover_theory.specs.CoverLabels.{lag-gate, lag-input}
+use Rattle.cover_theory.specs.Forward.{Forward}
+use Rattle.board_theory.specs.Boards.{held, leafContents, outputContents, source, brings, boardRule, Boarded, shows, Tabled}
 use Rattle.board_theory.specs.BoardLaws.{source-input, source-gate}
 use Rattle.board_theory.specs.ConeRoot.{cone-root}
 
@@ -36,12 +36,6 @@ connection section value u q from z f t n r d e =
     ago-agree (held section value u q) (λ j. ago (section u) (value u) (dn q) (suc j)) from (λ s. value u (s + dn q)) t n
     (λ j l. ap (λ (m : ℕ). ago (section u) (value u) (dn q) m) (omega arith)) (λ s l. f s)
     ∙ ago-shift (section u) (value u) (dn q) t n ∙ ago-same (section u) (value u) (t + dn q) n (t + r) d (omega arith)
-
-pub lag-input : (N : Net) (K : Cover) (u l : ℕ) → IsInput N u → lagOf N K u l ≡ pos 0
-lag-input N K u l h = ap (λ (b : Bool). cond b (pos 0) ((lut K l) .lag)) (lt-ltb u (N .inputs) h)
-
-pub lag-gate : (N : Net) (K : Cover) (u l : ℕ) → IsGate N u → lagOf N K u l ≡ (lut K l) .lag
-lag-gate N K u l g = ap (λ (b : Bool). cond b (pos 0) ((lut K l) .lag)) (le-ltb u (N .inputs) (g .low))
 
 module _ {N : Net} {k : ℕ} {K : Cover} (cover : IsCover N k K) (forward : Forward N K) where
   -- members are no further back than the lag is below 0

@@ -19,8 +19,10 @@ use Rattle.run_theory.specs.AgoLaws.{ago-agree}
 use Rattle.run_theory.specs.Bench.{ago, pinFrom, Bench}
 use Rattle.run_theory.specs.BenchLaws.{pins-same, measure, earlier}
 use Rattle.cover_theory.specs.Covers.{Cover, lut, lagOf, registers, RootedAt, IsCover}
-use Rattle.board_theory.specs.Boards.{Forward, held}
-use Rattle.board_theory.specs.RunBoards.{lag-input, lag-gate, lag-low, fed}
+use Rattle.cover_theory.specs.CoverLabels.{lag-gate, lag-input}
+use Rattle.cover_theory.specs.Forward.{Forward}
+use Rattle.board_theory.specs.Boards.{held}
+use Rattle.board_theory.specs.RunBoards.{lag-low}
 
 module _ {N : Net} {k : ℕ} {K : Cover} (cover : IsCover N k K) (forward : Forward N K) (sound : Sound N) (loopless : Loopless N) where
   -- the step of a leaf's source, from that of a member's root: registers are 0 or more

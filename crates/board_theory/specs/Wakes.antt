@@ -16,7 +16,8 @@ use Rattle.run_theory.specs.AgoLaws.{ago-agree, ago-shift}
 use Rattle.run_theory.specs.Bench.{ago, pinFrom, Bench, sectionAt, Counts, Keeps}
 use Rattle.run_theory.specs.BenchLaws.{bench-later, bench-near}
 use Rattle.cover_theory.specs.Covers.{Cover, lut, registers, output, outputRegisters, RootedAt, IsCover, Meets}
-use Rattle.board_theory.specs.Boards.{Forward, leafContents, outputContents, Filled, source, Boarded, shows, Tabled}
+use Rattle.cover_theory.specs.Forward.{Forward}
+use Rattle.board_theory.specs.Boards.{leafContents, outputContents, Filled, source, Boarded, shows, Tabled}
 use Rattle.board_theory.specs.BoardLaws.{source-input, source-gate, boarded-filled, boarded-unique}
 use Rattle.board_theory.specs.RunBoards.{shifted, run-boards, run-shows}
 use Rattle.board_theory.specs.SameInputs.{held-same}
