@@ -13,6 +13,7 @@ pub mod Outcomes
 pub mod Program
 pub mod Accepted
 pub mod Kept
+pub mod Rows
 pub mod Held
 pub mod HeldLaws
 pub mod CheckLaws
