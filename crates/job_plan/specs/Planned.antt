@@ -12,7 +12,8 @@ use Rattle.limits.specs.Limits.{leastK, mostK, mostPeriod, mostTable, mostHeld}
 use Rattle.label_theory.specs.Labels.{Reachable}
 use Rattle.cover_theory.specs.Covers.{LeastPeriod}
 use Rattle.cover_theory.specs.Key.{Key, entries}
-use Rattle.cover_records.specs.Kept.{Kept, kept, entriesIn, Whole}
+use Rattle.cover_records.specs.Kept.{Kept, entriesIn, Whole}
+use Rattle.cover_records.specs.Rows.{rowRoom}
 use Rattle.signed.specs.Range.{Small}
 use Rattle.net_reader.specs.ReadAnswer.{arraysOf}
 use Rattle.net_reader.specs.WalkFacts.{WalkFacts}
@@ -56,12 +57,9 @@ pub record Planning (k target : ℕ) (z : NetSizes) (net ts : List ℕ) : Type 0
   pub graph : Graph z net (netIn (arraysOf z net ts))
 
 -- room for the cover of a net with G gates, and no gate marked
-pub record Roomy (G : ℕ) (marks sizes nodes backs luts : List ℕ) : Type 0 where
-  pub atMarks : G ≤ length marks
-  pub unmarked : (g : ℕ) → g < G → getD marks g 0 ≡ 0
-  pub atSizes : G ≤ length sizes
-  pub atNodes : stride * G ≤ length nodes
-  pub atBacks : stride * G ≤ length backs
+pub record Roomy (G : ℕ) (rows luts : List ℕ) : Type 0 where
+  pub atRows : rowRoom G ≤ length rows
+  pub unmarked : (g : ℕ) → g < G → getD rows g 0 ≡ 0
   pub atLuts : G ≤ length luts
 
 -- the parts of the slice that the labels ask for

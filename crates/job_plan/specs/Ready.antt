@@ -17,10 +17,11 @@ use Rattle.net_model.specs.Checks.{Passed}
 use Rattle.net_model.specs.PackedNet.{firstAt, sourcesAt, countsAt, orderAt, topsAt, outsAt, delaysAt, packedRoom, NetKept}
 use Rattle.net_model.specs.PackedNetLaws.{length-part, kept-between, kept-net}
 use Rattle.label_theory.specs.Pins.{OutPath}
-use Rattle.limits.specs.Limits.{mostBeyond, mostCount, mostGates, mostNodes, mostPeriod, mostPins, mostPlaces, mostReach, mostTable, mostHeld}
+use Rattle.limits.specs.Limits.{mostBeyond, mostCount, mostGates, mostNodes, mostPeriod, mostPins, mostReach, mostRows, mostTable, mostHeld}
 use Rattle.cone_theory.specs.Ranks.{ranked}
 use Rattle.cone_theory.specs.Reach.{reachOf}
-use Rattle.cover_records.specs.Kept.{Kept, kept, entriesIn}
+use Rattle.cover_records.specs.Kept.{Kept, entriesIn}
+use Rattle.cover_records.specs.Rows.{keptIn}
 use Rattle.cover_records.specs.Outcomes.{cleared}
 use Rattle.signed.specs.Range.{room, Small}
 use Rattle.net_reader.specs.ReadAnswer.{arraysOf}
@@ -273,15 +274,15 @@ module _ {k target : ℕ} {z : NetSizes} {net ts : List ℕ} (p : Planning k tar
     }
 
     -- **the cover, with its labels in front of a longer array**
-    plan-planned : {ls : List ℤ} {marks sizes nodes backs luts : List ℕ} {r : ℕ} (rest : List ℤ) → length ls ≡ I + G
-        → CoverTold extent (z .outputs) net ts k target (kept I G r ls marks sizes nodes backs luts)
-        → Planned N k target (kept I G r (ls ++ rest) marks sizes nodes backs luts)
-    plan-planned {ls} {marks} {sizes} {nodes} {backs} {luts} {r} rest e told = relabel (told .cover N suits (p .passed) tabled outputs-are)
+    plan-planned : {ls : List ℤ} {rows luts : List ℕ} {r : ℕ} (rest : List ℤ) → length ls ≡ I + G
+        → CoverTold extent (z .outputs) net ts k target (keptIn I G r ls rows luts)
+        → Planned N k target (keptIn I G r (ls ++ rest) rows luts)
+    plan-planned {ls} {rows} {luts} {r} rest e told = relabel (told .cover N suits (p .passed) tabled outputs-are)
       where
         same : (u : ℕ) → u < I + G → getD ls u (pos 0) ≡ getD (ls ++ rest) u (pos 0)
         same u h = sym (List·getD-append ls rest (pos 0) u (omega (arith, e, h)))
 
-        relabel : Planned N k target (kept I G r ls marks sizes nodes backs luts) → Planned N k target (kept I G r (ls ++ rest) marks sizes nodes backs luts)
+        relabel : Planned N k target (keptIn I G r ls rows luts) → Planned N k target (keptIn I G r (ls ++ rest) rows luts)
         relabel q = record { none = q .none; some = λ h. covered-with same (q .some h) (wired .inputs) (wired .gates) }
 
 -- ---- the same for the extent that the program makes
@@ -297,24 +298,17 @@ module _ {k target : ℕ} {z : NetSizes} {net ts : List ℕ} (p : Planning k tar
   pub planned-outputs : netIn (arraysOf z net ts) .outputs ≡ pinsIn (drop (outsAt (s .inputs) (s .gates)) net) (drop (delaysAt (s .inputs) (s .gates) (z .outputs)) net) 0 (z .outputs)
   planned-outputs = subst (λ (y : Extent). netIn (arraysOf z net ts) .outputs ≡ pinsIn (drop (outsAt (y .inputs) (y .gates)) net) (drop (delaysAt (y .inputs) (y .gates) (z .outputs)) net) 0 (z .outputs)) (sym (x .is)) (outputs-are p (x .sum))
 
-  pub planned-room : {marks sizes nodes backs luts : List ℕ} → Roomy (z .gates) marks sizes nodes backs luts → Roomy (s .gates) marks sizes nodes backs luts
-  planned-room {marks} {sizes} {nodes} {backs} {luts} r = subst (λ (y : Extent). Roomy (y .gates) marks sizes nodes backs luts) (sym (x .is)) r
+  pub planned-room : {rows luts : List ℕ} → Roomy (z .gates) rows luts → Roomy (s .gates) rows luts
+  planned-room {rows} {luts} r = subst (λ (y : Extent). Roomy (y .gates) rows luts) (sym (x .is)) r
 
-  pub planned-cover : {N : Net} → netIn (arraysOf z net ts) ≡ N → {ls : List ℤ} {marks sizes nodes backs luts : List ℕ} {r : ℕ} (rest : List ℤ) → length ls ≡ z .inputs + z .gates
-      → CoverTold s (z .outputs) net ts k target (kept (s .inputs) (s .gates) r ls marks sizes nodes backs luts)
-      → Planned N k target (kept (z .inputs) (z .gates) r (ls ++ rest) marks sizes nodes backs luts)
-  planned-cover same {ls} {marks} {sizes} {nodes} {backs} {luts} {r} rest e told =
-      subst (λ (N : Net). Planned N k target (kept (z .inputs) (z .gates) r (ls ++ rest) marks sizes nodes backs luts)) same
+  pub planned-cover : {N : Net} → netIn (arraysOf z net ts) ≡ N → {ls : List ℤ} {rows luts : List ℕ} {r : ℕ} (rest : List ℤ) → length ls ≡ z .inputs + z .gates
+      → CoverTold s (z .outputs) net ts k target (keptIn (s .inputs) (s .gates) r ls rows luts)
+      → Planned N k target (keptIn (z .inputs) (z .gates) r (ls ++ rest) rows luts)
+  planned-cover same {ls} {rows} {luts} {r} rest e told =
+      subst (λ (N : Net). Planned N k target (keptIn (z .inputs) (z .gates) r (ls ++ rest) rows luts)) same
       (plan-planned p (x .sum) rest e
-      (subst (λ (y : Extent). CoverTold y (z .outputs) net ts k target (kept (y .inputs) (y .gates) r ls marks sizes nodes backs luts)) (x .is) told))
+      (subst (λ (y : Extent). CoverTold y (z .outputs) net ts k target (keptIn (y .inputs) (y .gates) r ls rows luts)) (x .is) told))
 
--- arrays of zeros have room for a cover
-pub zero-room : (G : ℕ) → G ≤ mostGates → Roomy G (replicate mostGates 0) (replicate mostGates 0) (replicate mostPlaces 0) (replicate mostPlaces 0) (replicate mostGates 0)
-zero-room G h = record {
-  atMarks = h;
-  unmarked = λ g l. zeros mostGates g;
-  atSizes = h;
-  atNodes = omega arith;
-  atBacks = omega arith;
-  atLuts = h;
-}
+-- slices of zeros have room for a cover
+pub zero-room : (G : ℕ) → G ≤ mostGates → Roomy G (replicate mostRows 0) (replicate mostGates 0)
+zero-room G h = record { atRows = omega (arith, h); unmarked = λ g l. zeros mostRows g; atLuts = h }

@@ -8,9 +8,9 @@ use Rattle.job_plan.proofs.find_period.Tie as tie
 
 least-period-requires : tie.Need-least-period-requires
 least-period-requires c κs =
-    let p = c .before .before .before .before .before .before .before .before .before .before .before .before .before .before .before .pre .1 .1 in
-    let a = c .before .before .before .before .before .before .before .before .before .before .before .before .before .before .before .args .s .gates in
-    (c .before .before .before .before .before .before .before .before .before .before .before .before .before .before .before .pre .0, (c .before .before .before .before .before .before .before .before .before .before .before .before .before .before .before .pre .1 .0, (sized-less a (p .few) refl (p .sized), p .ordered, ceilings-less a (p .few) (p .ceilings), p .some)))
+    let p = c .before .before .before .before .before .before .before .before .before .before .before .before .before .before .before .before .pre .1 .1 in
+    let a = c .before .before .before .before .before .before .before .before .before .before .before .before .before .before .before .before .args .s .gates in
+    (c .before .before .before .before .before .before .before .before .before .before .before .before .before .before .before .before .pre .0, (c .before .before .before .before .before .before .before .before .before .before .before .before .before .before .before .before .pre .1 .0, (sized-less a (p .few) refl (p .sized), p .ordered, ceilings-less a (p .few) (p .ceilings), p .some)))
 
 same-length : tie.Need-same-length
 same-length c = search needs
@@ -34,13 +34,13 @@ same-length-7 : tie.Need-same-length-7
 same-length-7 c = search needs
 
 returns : tie.Need-returns
-returns c = (c .before .before .before .before .before .before .before .before .before .before .before .before .before .least-period .ensures .0, found-least (c .before .before .before .before .before .before .before .before .before .before .before .before .before .before .before .before .before .before .before .before .before .before .before .before .before .before .before .before .before .pre .1 .1 .few) (c .before .before .before .before .before .before .before .before .before .before .before .before .before .before .before .before .before .before .before .before .before .if1 .taken) (c .before .before .before .before .before .before .before .before .before .before .before .before .before .least-period .ensures .1))
+returns c = (c .before .before .before .before .before .before .before .before .before .before .before .before .before .least-period .ensures .0, found-least (c .before .before .before .before .before .before .before .before .before .before .before .before .before .before .before .before .before .before .before .before .before .before .before .before .before .before .before .before .before .before .pre .1 .1 .few) (c .before .before .before .before .before .before .before .before .before .before .before .before .before .before .before .before .before .before .before .before .before .if1 .taken) (c .before .before .before .before .before .before .before .before .before .before .before .before .before .least-period .ensures .1))
 
 reach-requires : tie.Need-reach-requires
 reach-requires c κs =
-    let p = c .before .before .before .before .before .before .before .before .before .before .before .before .before .before .before .pre .1 .1 in
-    let t = c .before .before .before .before .before .before .before .before .before .before .before .before .before .before .before .args .target in
-    (c .before .before .before .before .before .before .before .before .before .before .before .before .before .before .before .pre .0, (c .before .before .before .before .before .before .before .before .before .before .before .before .before .before .before .pre .1 .0, (sized-less t (p .near) refl (p .sized), p .ordered, ceilings-less t (p .near) (p .ceilings))))
+    let p = c .before .before .before .before .before .before .before .before .before .before .before .before .before .before .before .before .pre .1 .1 in
+    let t = c .before .before .before .before .before .before .before .before .before .before .before .before .before .before .before .before .args .a .phi in
+    (c .before .before .before .before .before .before .before .before .before .before .before .before .before .before .before .before .pre .0, (c .before .before .before .before .before .before .before .before .before .before .before .before .before .before .before .before .pre .1 .0, (sized-less t (p .near) refl (p .sized), p .ordered, ceilings-less t (p .near) (p .ceilings))))
 
 same-length-8 : tie.Need-same-length-8
 same-length-8 c = search needs
@@ -64,7 +64,7 @@ same-length-14 : tie.Need-same-length-14
 same-length-14 c = search needs
 
 returns-2 : tie.Need-returns-2
-returns-2 c = (c .before .before .before .before .before .before .before .before .before .before .before .before .before .before .reach .ensures .0, found-target (c .before .before .before .before .before .before .before .before .before .before .before .before .before .before .before .before .before .before .before .before .before .before .before .before .before .before .before .before .before .before .pre .1 .1 .near) (c .before .before .before .before .before .before .before .before .before .before .before .before .before .before .before .before .before .before .before .before .before .before .if1 .left) (c .before .before .before .before .before .before .before .before .before .before .before .before .before .before .reach .ensures .1) (c .if2 .taken))
+returns-2 c = (c .before .before .before .before .before .before .before .before .before .before .before .before .before .before .reach .ensures .0, found-target (c .before .before .before .before .before .before .before .before .before .before .before .before .before .before .before .before .before .before .before .before .before .before .before .before .before .before .before .before .before .before .before .pre .1 .1 .near) (c .before .before .before .before .before .before .before .before .before .before .before .before .before .before .before .before .before .before .before .before .before .before .if1 .left) (c .before .before .before .before .before .before .before .before .before .before .before .before .before .before .reach .ensures .1) (c .if2 .taken))
 
 same-length-15 : tie.Need-same-length-15
 same-length-15 c = search needs
