@@ -36,7 +36,7 @@ slice-aggregate-settle-6 c = search needs
 
 settle-requires : tie.Need-settle-requires
 settle-requires c κs =
-    let start = c@start in
+    let start = c .before .before .before .before .before .before .before .before .before .before in
     let f = start .pre .settling .facts in
     (start .pre .settling, ((omega (arith, f .gates-high), omega (arith, f .gates-high)), (omega (arith, length-replicate {A = ℕ} 27840 0), omega (arith, f .gates-high, f .inputs-high), zero-room (start .args .z .gates) (f .gates-high))))
 
@@ -50,13 +50,13 @@ same-length-2 : tie.Need-same-length-2
 same-length-2 c = search needs
 
 returns : tie.Need-returns
-returns c = lists-refused (c@settle .ensures .0) (c@if1 .taken) (c@write-refusal .ensures)
+returns c = lists-refused (c .before .before .before .before .before .before .before .before .before .before .before .before .before .settle .ensures .0) (c .before .before .before .before .if1 .taken) (c .before .before .write-refusal .ensures)
 
 outs-at-requires : tie.Need-outs-at-requires
-outs-at-requires c κs = omega (arith, c@start .pre .settling .room .packed, c@settle .ensures .1 .long)
+outs-at-requires c κs = omega (arith, c .before .before .before .before .before .before .before .before .before .before .before .before .before .before .before .before .before .before .before .before .before .pre .settling .room .packed, c .before .before .before .before .before .before .before .before .before .before .settle .ensures .1 .long)
 
 delays-at-requires : tie.Need-delays-at-requires
-delays-at-requires c κs = omega (arith, c@start .pre .settling .room .packed, c@settle .ensures .1 .long)
+delays-at-requires c κs = omega (arith, c .before .before .before .before .before .before .before .before .before .before .before .before .before .before .before .before .before .before .before .before .before .before .pre .settling .room .packed, c .before .before .before .before .before .before .before .before .before .before .before .settle .ensures .1 .long)
 
 slice-aggregate-write-text : tie.Need-slice-aggregate-write-text
 slice-aggregate-write-text c = search needs
@@ -68,41 +68,41 @@ slice-aggregate-write-text-3 : tie.Need-slice-aggregate-write-text-3
 slice-aggregate-write-text-3 c = search needs
 
 mul-write-text : tie.Need-mul-write-text
-mul-write-text c = omega (arith, c@start .pre .settling .room .packed, c@settle .ensures .1 .long, c@start .good, c@outs-at .ensures, c@delays-at .ensures)
+mul-write-text c = omega (arith, c .before .before .before .before .before .before .before .before .before .before .before .before .before .before .before .before .before .before .before .before .before .before .before .before .before .before .pre .settling .room .packed, c .before .before .before .before .before .before .before .before .before .before .before .before .before .before .before .settle .ensures .1 .long, c .before .before .before .before .before .before .before .before .before .before .before .before .before .before .before .before .before .before .before .before .before .before .before .before .before .before .good, c .before .before .before .before .outs-at .ensures, c .before .before .before .delays-at .ensures)
 
 sub-write-text : tie.Need-sub-write-text
-sub-write-text c = omega (arith, c@start .pre .settling .room .packed, c@settle .ensures .1 .long, c@start .good, c@outs-at .ensures, c@delays-at .ensures)
+sub-write-text c = omega (arith, c .before .before .before .before .before .before .before .before .before .before .before .before .before .before .before .before .before .before .before .before .before .before .before .before .before .before .pre .settling .room .packed, c .before .before .before .before .before .before .before .before .before .before .before .before .before .before .before .settle .ensures .1 .long, c .before .before .before .before .before .before .before .before .before .before .before .before .before .before .before .before .before .before .before .before .before .before .before .before .before .before .good, c .before .before .before .before .outs-at .ensures, c .before .before .before .delays-at .ensures)
 
 part-write-text-start : tie.Need-part-write-text-start
-part-write-text-start c = omega (arith, c@start .pre .settling .room .packed, c@settle .ensures .1 .long, c@start .good, c@outs-at .ensures, c@delays-at .ensures)
+part-write-text-start c = omega (arith, c .before .before .before .before .before .before .before .before .before .before .before .before .before .before .before .before .before .before .before .before .before .before .before .before .before .before .pre .settling .room .packed, c .before .before .before .before .before .before .before .before .before .before .before .before .before .before .before .settle .ensures .1 .long, c .before .before .before .before .before .before .before .before .before .before .before .before .before .before .before .before .before .before .before .before .before .before .before .before .before .before .good, c .before .before .before .before .outs-at .ensures, c .before .before .before .delays-at .ensures)
 
 part-write-text-end : tie.Need-part-write-text-end
 part-write-text-end c = search needs
 
 mul-write-text-2 : tie.Need-mul-write-text-2
-mul-write-text-2 c = omega (arith, c@start .pre .settling .room .packed, c@settle .ensures .1 .long, c@start .good, c@outs-at .ensures, c@delays-at .ensures)
+mul-write-text-2 c = omega (arith, c .before .before .before .before .before .before .before .before .before .before .before .before .before .before .before .before .before .before .before .before .before .before .before .before .before .before .before .pre .settling .room .packed, c .before .before .before .before .before .before .before .before .before .before .before .before .before .before .before .before .settle .ensures .1 .long, c .before .before .before .before .before .before .before .before .before .before .before .before .before .before .before .before .before .before .before .before .before .before .before .before .before .before .before .good, c .before .before .before .before .before .outs-at .ensures, c .before .before .before .before .delays-at .ensures)
 
 sub-write-text-2 : tie.Need-sub-write-text-2
-sub-write-text-2 c = omega (arith, c@start .pre .settling .room .packed, c@settle .ensures .1 .long, c@start .good, c@outs-at .ensures, c@delays-at .ensures)
+sub-write-text-2 c = omega (arith, c .before .before .before .before .before .before .before .before .before .before .before .before .before .before .before .before .before .before .before .before .before .before .before .before .before .before .before .pre .settling .room .packed, c .before .before .before .before .before .before .before .before .before .before .before .before .before .before .before .before .settle .ensures .1 .long, c .before .before .before .before .before .before .before .before .before .before .before .before .before .before .before .before .before .before .before .before .before .before .before .before .before .before .before .good, c .before .before .before .before .before .outs-at .ensures, c .before .before .before .before .delays-at .ensures)
 
 part-write-text-start-2 : tie.Need-part-write-text-start-2
-part-write-text-start-2 c = omega (arith, c@start .pre .settling .room .packed, c@settle .ensures .1 .long, c@start .good, c@outs-at .ensures, c@delays-at .ensures)
+part-write-text-start-2 c = omega (arith, c .before .before .before .before .before .before .before .before .before .before .before .before .before .before .before .before .before .before .before .before .before .before .before .before .before .before .before .pre .settling .room .packed, c .before .before .before .before .before .before .before .before .before .before .before .before .before .before .before .before .settle .ensures .1 .long, c .before .before .before .before .before .before .before .before .before .before .before .before .before .before .before .before .before .before .before .before .before .before .before .before .before .before .before .good, c .before .before .before .before .before .outs-at .ensures, c .before .before .before .before .delays-at .ensures)
 
 part-write-text-end-2 : tie.Need-part-write-text-end-2
 part-write-text-end-2 c = search needs
 
 write-text-requires : tie.Need-write-text-requires
 write-text-requires c κs =
-    let start = c@start in
+    let start = c .before .before .before .before .before .before .before .before .before .before .before .before .before .before .before .before .before .before .before .before .before .before .before .before .before .before .before .before .before in
     let z = start .args .z in
-    let k = c@settle .kept .1 .1 .1 .1 .1 .1 .1 .1 in
-    let last = c@settle .last .1 .1 .1 .1 .1 .1 .1 .1 in
-    let u = cover-settled (c@settle .ensures .0) (omega (arith, c@if1 .left)) in
+    let k = c .before .before .before .before .before .before .before .before .before .before .before .before .before .before .before .before .before .before .settle .kept .1 .1 .1 .1 .1 .1 .1 .1 in
+    let last = c .before .before .before .before .before .before .before .before .before .before .before .before .before .before .before .before .before .before .settle .last .1 .1 .1 .1 .1 .1 .1 .1 in
+    let u = cover-settled (c .before .before .before .before .before .before .before .before .before .before .before .before .before .before .before .before .before .before .settle .ensures .0) (omega (arith, c .before .before .before .before .before .before .before .before .before .if1 .left)) in
     let h = start .pre .settling .facts .gates-high in
-    (rw (c@outs-at .ensures, c@delays-at .ensures)
-    (two-parts (λ (os oc : List ℕ). Listable (keptIn (z .inputs) (z .gates) (c@settle .result .period) (last .0) (last .1 .0) (last .1 .1 .0)) os oc (z .outputs) (start .args .out .now))
-    (c@settle .last .1 .0) (outsAt (z .inputs) (z .gates)) (delaysAt (z .inputs) (z .gates) (z .outputs))
-    (cover-listable (start .pre .settling) (c@settle .ensures .1) (start .pre .room) refl refl (rows-long h (k .0) (k .1 .0) (k .1 .1 .0)) u)), omega (arith, h, k .1 .0))
+    (rw (c .before .before .before .before .before .before .before .outs-at .ensures, c .before .before .before .before .before .before .delays-at .ensures)
+    (two-parts (λ (os oc : List ℕ). Listable (keptIn (z .inputs) (z .gates) (c .before .before .before .before .before .before .before .before .before .before .before .before .before .before .before .before .before .before .settle .result .period) (last .0) (last .1 .0) (last .1 .1 .0)) os oc (z .outputs) (start .args .out .now))
+    (c .before .before .before .before .before .before .before .before .before .before .before .before .before .before .before .before .before .before .settle .last .1 .0) (outsAt (z .inputs) (z .gates)) (delaysAt (z .inputs) (z .gates) (z .outputs))
+    (cover-listable (start .pre .settling) (c .before .before .before .before .before .before .before .before .before .before .before .before .before .before .before .before .before .before .settle .ensures .1) (start .pre .room) refl refl (rows-long h (k .0) (k .1 .0) (k .1 .1 .0)) u)), omega (arith, h, k .1 .0))
 
 same-length-3 : tie.Need-same-length-3
 same-length-3 c = search needs
@@ -112,13 +112,13 @@ same-length-4 c = search needs
 
 returns-2 : tie.Need-returns-2
 returns-2 c =
-    let start = c@start in
+    let start = c .before .before .before .before .before .before .before .before .before .before .before .before .before .before .before .before .before .before .before .before .before .before .before .before .before .before .before .before .before .before .before .before in
     let z = start .args .z in
-    let last = c@settle .last .1 .1 .1 .1 .1 .1 .1 .1 in
-    let text = c@write-text in
-    lists-cover (start .pre .settling) (c@settle .ensures .1) (cover-settled (c@settle .ensures .0) (omega (arith, c@if1 .left)))
-    (two-wholes (λ (os oc : List ℕ). Lists (keptIn (z .inputs) (z .gates) (c@settle .result .period) (last .0) (last .1 .0) (last .1 .1 .0)) os oc (z .outputs) (start .args .out .now) (text .last .1 .1 .1 .1 .1 .1 .1 .0) (text .result))
-    (c@settle .last .1 .0) (outsAt (z .inputs) (z .gates)) (delaysAt (z .inputs) (z .gates) (z .outputs)) (rw (c@outs-at .ensures, c@delays-at .ensures) at (text .ensures)))
+    let last = c .before .before .before .before .before .before .before .before .before .before .before .before .before .before .before .before .before .before .before .before .before .settle .last .1 .1 .1 .1 .1 .1 .1 .1 in
+    let text = c .before .before .write-text in
+    lists-cover (start .pre .settling) (c .before .before .before .before .before .before .before .before .before .before .before .before .before .before .before .before .before .before .before .before .before .settle .ensures .1) (cover-settled (c .before .before .before .before .before .before .before .before .before .before .before .before .before .before .before .before .before .before .before .before .before .settle .ensures .0) (omega (arith, c .before .before .before .before .before .before .before .before .before .before .before .before .if1 .left)))
+    (two-wholes (λ (os oc : List ℕ). Lists (keptIn (z .inputs) (z .gates) (c .before .before .before .before .before .before .before .before .before .before .before .before .before .before .before .before .before .before .before .before .before .settle .result .period) (last .0) (last .1 .0) (last .1 .1 .0)) os oc (z .outputs) (start .args .out .now) (text .last .1 .1 .1 .1 .1 .1 .1 .0) (text .result))
+    (c .before .before .before .before .before .before .before .before .before .before .before .before .before .before .before .before .before .before .before .before .before .settle .last .1 .0) (outsAt (z .inputs) (z .gates)) (delaysAt (z .inputs) (z .gates) (z .outputs)) (rw (c .before .before .before .before .before .before .before .before .before .before .outs-at .ensures, c .before .before .before .before .before .before .before .before .before .delays-at .ensures) at (text .ensures)))
 
 pub list-read-spec : {M : Type 1} → statement M
 list-read-spec =
