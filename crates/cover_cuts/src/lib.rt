@@ -90,17 +90,7 @@ pub fn check_luts(
     ensures { λ _. ⌜ Clear (now (work .exit)) ⌝ }
 {
     let mut right = [0u64; LUTS];
-    let uncut = no_cuts(
-        inputs,
-        gates,
-        net,
-        tables,
-        rows,
-        k,
-        n,
-        &mut right,
-        work,
-    );
+    let uncut = no_cuts(inputs, gates, net, tables, rows, k, n, &mut right, work);
     let wrong = some_wrong(luts, &rows[n..], &right, n);
     if uncut {
         return 14;

@@ -38,12 +38,7 @@ fn counted(z: i64) -> u32
 }
 
 // The lag of a node: 0 for an input.
-fn lag_at(
-    s: CoverHead,
-    labels: &[i64],
-    rows: &[usize],
-    u: usize,
-) -> i64
+fn lag_at(s: CoverHead, labels: &[i64], rows: &[usize], u: usize) -> i64
     requires { ⌜ LagsHeld (marking (s .inputs) (s .gates) (s .period) (now labels) (now rows)) ⌝ }
     ensures { λ r. ⌜ Counted 128 (lagIn (entriesIn (marking (s .inputs) (s .gates) (s .period) (now (labels .entry)) (now (rows .entry)))) u) r ⌝ }
 {
@@ -109,13 +104,7 @@ fn take_leaves(
 }
 
 // The leaves of the LUT of gate g, where it has one.
-fn take_gate(
-    tally: Tally,
-    s: CoverHead,
-    labels: &[i64],
-    rows: &[usize],
-    g: usize,
-) -> Tally
+fn take_gate(tally: Tally, s: CoverHead, labels: &[i64], rows: &[usize], g: usize) -> Tally
     requires { ⌜ LeavesHeld (keptIn (s .inputs) (s .gates) (s .period) (now labels) (now rows) []) ⌝ }
     requires { ⌜ (g < s .gates) × (rowRoom (s .gates) ≤ length (now rows)) ⌝ }
     ensures { λ r. ⌜ Took (lutTaps (entriesIn (marking (s .inputs) (s .gates) (s .period) (now (labels .entry)) (now (rows .entry)))) (entriesFrom (keptIn (s .inputs) (s .gates) (s .period) (now (labels .entry)) (now (rows .entry)) []) g 1)) (tally .places) (r .places) ⌝ }
@@ -139,12 +128,7 @@ fn take_gate(
 }
 
 // The leaves of all LUTs.
-fn take_luts(
-    tally: Tally,
-    s: CoverHead,
-    labels: &[i64],
-    rows: &[usize],
-) -> Tally
+fn take_luts(tally: Tally, s: CoverHead, labels: &[i64], rows: &[usize]) -> Tally
     requires { ⌜ LeavesHeld (keptIn (s .inputs) (s .gates) (s .period) (now labels) (now rows) []) ⌝ }
     requires { ⌜ rowRoom (s .gates) ≤ length (now rows) ⌝ }
     ensures { λ r. ⌜ Took (lutTaps (entriesIn (marking (s .inputs) (s .gates) (s .period) (now (labels .entry)) (now (rows .entry)))) (entriesFrom (keptIn (s .inputs) (s .gates) (s .period) (now (labels .entry)) (now (rows .entry)) []) 0 (s .gates))) (tally .places) (r .places) ⌝ }
@@ -153,13 +137,7 @@ fn take_luts(
     let mut t = tally;
     let mut g = 0;
     while g < gates {
-        t = take_gate(
-            t,
-            s,
-            labels,
-            rows,
-            g,
-        );
+        t = take_gate(t, s, labels, rows, g);
         g += 1;
     }
     t
@@ -207,12 +185,7 @@ pub fn count_registers(
     ensures { λ r. ⌜ r ≡ registersOf (keptIn (s .inputs) (s .gates) (s .period) (now (labels .entry)) (now (rows .entry)) []) (now (outs .entry)) (now (delays .entry)) n ⌝ }
 {
     let empty = Tally::new();
-    let luts = take_luts(
-        empty,
-        s,
-        labels,
-        rows,
-    );
+    let luts = take_luts(empty, s, labels, rows);
     let all = take_outputs(luts, s, labels, rows, outs, delays, n);
     all.total()
 }

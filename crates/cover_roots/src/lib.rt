@@ -5,7 +5,6 @@ use cut_question::chosen;
 use label_visit::Aim;
 use limits::PINS;
 use net_marks::store;
-ghost use mathlib.Core.Path.{_≡_};
 ghost use mathlib.Core.List.{[]};
 ghost use Prim.Native.Nat.{_≤_, _<_};
 ghost use lib.ListN.{length};

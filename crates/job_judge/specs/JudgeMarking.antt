@@ -1,14 +1,14 @@
 -- Definitions: what mark asks of its parts, and what they tell: the answer that the definition has.
 use mathlib.Core.Path.{_≡_}
 use mathlib.Core.List.{List, []}
-use Prim.Native.Nat.{ℕ, _+_, _*_, _≤_}
+use Prim.Native.Nat.{ℕ, _≤_}
 use lib.IntN.{ℤ}
 use lib.ListN.{length, drop}
 use Rattle.net_model.specs.Net.{Net}
 use Rattle.net_model.specs.Arrays.{netIn}
 use Rattle.net_model.specs.Checks.{Passed}
 use Rattle.net_model.specs.PackedNet.{sourcesAt, countsAt, outsAt, delaysAt, packedRoom}
-use Rattle.limits.specs.Limits.{mostGates, mostPeriod, mostPins, mostLuts, scratchArea}
+use Rattle.limits.specs.Limits.{mostGates, mostPeriod, mostLuts, scratchArea}
 use Rattle.limits.specs.declared.Rules.{Rules}
 use Rattle.net_bytes.specs.Reading.{got}
 use Rattle.net_bytes.specs.Walk.{netReader}

@@ -78,17 +78,7 @@ fn judge_read(
     ensures { λ r. ⌜ MarksRead k (netIn (arraysOf z (now (net .entry)) (now (tables .entry)))) c (heldIn (c .luts) (now (rows .entry)) (now (lags .entry)) (now (luts .entry))) (answerOf r) ⌝ }
     ensures { λ _. ⌜ Clear (now (work .exit)) ⌝ }
 {
-    let l = check_luts(
-        z.inputs,
-        z.gates,
-        net,
-        tables,
-        rows,
-        luts,
-        k,
-        c.luts,
-        work,
-    );
+    let l = check_luts(z.inputs, z.gates, net, tables, rows, luts, k, c.luts, work);
     if l > 0 {
         return Grade::Refused(narrow(l));
     }

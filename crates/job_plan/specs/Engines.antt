@@ -15,11 +15,12 @@ use Rattle.cut_circuit.specs.Circuit.{Circuit, total}
 use Rattle.cut_circuit.specs.Packed.{packedOf, sourcesAt, countsAt}
 use Rattle.cut_circuit.specs.declared.Extent.{Extent}
 use Rattle.cut_question.specs.Separating.{AtRest}
-use Rattle.label_visit.specs.LabelVisits.{wiring}
+use Rattle.label_visit.specs.LabelVisits.{wiring, topsIn}
+use Rattle.label_sweep.specs.Sweeps.{outsIn, delaysIn}
 use Rattle.cover_roots.specs.Choosing.{Chooses, RootsTold}
 use Rattle.cone_luts.specs.Luts.{Tabulates}
 use Rattle.job_plan.specs.Found.{PeriodFound}
-use Rattle.job_plan.specs.Planned.{Engine, Roomy, topsOf, outsOf, delaysOf}
+use Rattle.job_plan.specs.Planned.{Engine, Roomy}
 use Rattle.job_plan.specs.Covering.{few-leaves, rising-leaves}
 
 -- ---- the first bytes of a table
@@ -66,7 +67,7 @@ module _ {s : Extent} {n : ℕ} {net ts : List ℕ} {k target : ℕ} {t : List �
     cleared = record { zero = clear-take ((s .inputs + s .gates) * s .width) t (e .clear); empty = zeros mostList 0 };
   }
 
-  pub engine-chooses : {rows luts : List ℕ} {ls′ : List ℤ} {r : ℕ} → Roomy (s .gates) rows luts → PeriodFound (wiring s net) k target (topsOf s net) (outsOf s net) (delaysOf s n net) n ls′ r
+  pub engine-chooses : {rows luts : List ℕ} {ls′ : List ℤ} {r : ℕ} → Roomy (s .gates) rows luts → PeriodFound (wiring s net) k target (topsIn s net 0) (outsIn s net) (delaysIn s net n) n ls′ r
       → Chooses (wiring s net) ls′ r k rows
   engine-chooses {r = r} room f = record {
     asking = record {
@@ -86,8 +87,8 @@ module _ {s : Extent} {n : ℕ} {net ts : List ℕ} {k target : ℕ} {t : List �
   }
 
   pub engine-tabulates : {rows₀ luts rows : List ℕ} {ls′ : List ℤ} {r : ℕ} → Roomy (s .gates) rows₀ luts → length rows ≡ length rows₀
-      → PeriodFound (wiring s net) k target (topsOf s net) (outsOf s net) (delaysOf s n net) n ls′ r → ¬ (r ≡ 0)
-      → RootsTold (wiring s net) ls′ (outsOf s net) n r k rows (sizesIn (s .gates) rows) (nodesIn (s .gates) rows) (backsIn (s .gates) rows)
+      → PeriodFound (wiring s net) k target (topsIn s net 0) (outsIn s net) (delaysIn s net n) n ls′ r → ¬ (r ≡ 0)
+      → RootsTold (wiring s net) ls′ (outsIn s net) n r k rows (sizesIn (s .gates) rows) (nodesIn (s .gates) rows) (backsIn (s .gates) rows)
       → Tabulates (s .inputs) (s .gates) net (drop (sourcesAt (s .gates)) net) (drop (countsAt (s .gates)) net) ts rows (sizesIn (s .gates) rows) (nodesIn (s .gates) rows) (backsIn (s .gates) rows)
   engine-tabulates {rows = rows} room a f z told =
       let m = room .atRows in

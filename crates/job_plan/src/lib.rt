@@ -18,18 +18,19 @@ use limits::TABLE;
 use net_reader::NetSizes;
 ghost use mathlib.Core.Path.{_≡_};
 ghost use Prim.Native.Nat.{max, _+_, _-_, _*_, _≤_, _<_};
-ghost use lib.ListN.{length, drop};
+ghost use lib.ListN.{length};
 ghost use Rattle.net_model.specs.Arrays.{netIn};
 ghost use Rattle.limits.specs.Limits.{mostTable};
-ghost use Rattle.net_model.specs.PackedNet.{outsAt, delaysAt, topsAt, orderAt, packedRoom, NetKept};
+ghost use Rattle.net_model.specs.PackedNet.{packedRoom, NetKept};
 ghost use Rattle.net_reader.specs.ReadAnswer.{arraysOf};
 ghost use Rattle.cut_circuit.specs.Packed.{packedOf};
 ghost use Rattle.cut_question.specs.Separating.{AtRest};
 ghost use Rattle.label_visit.specs.LabelVisits.{wiring, topsIn};
+ghost use Rattle.label_sweep.specs.Sweeps.{orderIn, outsIn, delaysIn};
 ghost use Rattle.job_plan.specs.Counts.{MostCount, Counted, SumCounts, Extending, ExtentOf};
 ghost use Rattle.cover_records.specs.Rows.{keptIn};
 ghost use Rattle.job_plan.specs.Found.{PeriodAsked, PeriodFound};
-ghost use Rattle.job_plan.specs.Planned.{orderOf, outsOf, delaysOf, Planned, Planning, Roomy, Engine, CoverTold};
+ghost use Rattle.job_plan.specs.Planned.{Planned, Planning, Roomy, Engine, CoverTold};
 
 fn larger(a: usize, b: usize) -> usize
     ensures { λ r. ⌜ r ≡ max a b ⌝ }
@@ -98,9 +99,9 @@ fn find_period(
 ) -> usize
     requires { ⌜ AtRest (packedOf s (now net) (now slots)) (now table) (now list) (now stack) (now counts) (now members) ⌝ }
     requires { ⌜ packedRoom (s .inputs) (s .gates) (a .outputs) ≤ length (now net) ⌝ }
-    requires { ⌜ PeriodAsked s (now net) (now labels) (topsIn s (now net) 0) (orderOf s (now net)) (outsOf s (now net)) (delaysOf s (a .outputs) (now net)) (a .outputs) (a .phi) (a .k) ⌝ }
+    requires { ⌜ PeriodAsked s (now net) (now labels) (topsIn s (now net) 0) (orderIn s (now net)) (outsIn s (now net)) (delaysIn s (now net) (a .outputs)) (a .outputs) (a .phi) (a .k) ⌝ }
     ensures { λ _. ⌜ AtRest (packedOf s (now (net .entry)) (now (slots .exit))) (now (table .exit)) (now (list .exit)) (now (stack .exit)) (now (counts .exit)) (now (members .exit)) ⌝ }
-    ensures { λ r. ⌜ PeriodFound (wiring s (now (net .entry))) (a .k) (a .phi) (topsIn s (now (net .entry)) 0) (outsOf s (now (net .entry))) (delaysOf s (a .outputs) (now (net .entry))) (a .outputs) (now (labels .exit)) r ⌝ }
+    ensures { λ r. ⌜ PeriodFound (wiring s (now (net .entry))) (a .k) (a .phi) (topsIn s (now (net .entry)) 0) (outsIn s (now (net .entry))) (delaysIn s (now (net .entry)) (a .outputs)) (a .outputs) (now (labels .exit)) r ⌝ }
 {
     if a.phi == 0 {
         return least_period(

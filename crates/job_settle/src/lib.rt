@@ -46,17 +46,7 @@ pub fn settle(
             period: 0,
         };
     }
-    let phi = plan(
-        z,
-        net,
-        tables,
-        k,
-        target,
-        work,
-        labels,
-        rows,
-        luts,
-    );
+    let phi = plan(z, net, tables, k, target, work, labels, rows, luts);
     if phi == 0 {
         return Settled {
             refusal: 12,

@@ -1,15 +1,10 @@
 -- `cone_luts::try_row` meets its contract: the wiring and the leaves are parts of two slices.
-use Prim.Native.Nat.{_+_}
-use lib.ListN.{getD}
 use native.Mathlib.Omega.{arith}
 use Rattle.sequences.specs.Behind.{length-behind}
 use Rattle.cone_luts.specs.LutLaws.{nodesFrom, backsFrom, leafCount, row-few, rising-row, tried-row, wires-part}
 use borrow.Author.Needs.{needs}
 use Rattle.cone_luts.proofs.try_row.Statement.{statement}
 use Rattle.cone_luts.proofs.try_row.Tie as tie
-use Rattle.cone_luts.proofs.try_row.Reads as reads
-use Rattle.cone_luts.proofs.try_row.Lts as lts
-use Rattle.cone_luts.proofs.try_lut.Reads as try-lut-reads
 
 mul-a : tie.Need-mul-a
 mul-a c = search needs

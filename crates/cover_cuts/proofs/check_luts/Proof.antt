@@ -11,10 +11,6 @@ use Rattle.cover_cuts.specs.CutLaws.{few-leaves, told-no-cut, told-wrong
 use borrow.Author.Needs.{needs}
 use Rattle.cover_cuts.proofs.check_luts.Statement.{statement}
 use Rattle.cover_cuts.proofs.check_luts.Tie as tie
-use Rattle.cover_cuts.proofs.check_luts.Reads as reads
-use Rattle.cover_cuts.proofs.check_luts.Lts as lts
-use Rattle.cover_cuts.proofs.no_cuts.Reads as no-cuts-reads
-use Rattle.cover_cuts.proofs.some_wrong.Reads as some-wrong-reads
 
 slice-aggregate-no-cuts : tie.Need-slice-aggregate-no-cuts
 slice-aggregate-no-cuts c = search needs

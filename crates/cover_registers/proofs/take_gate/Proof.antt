@@ -17,9 +17,6 @@ use Rattle.cover_registers.specs.Counting.{lagsOf}
 use Rattle.cover_registers.specs.LagLaws.{gate-none, gate-some}
 use Rattle.cover_registers.proofs.take_gate.Statement.{statement}
 use Rattle.cover_registers.proofs.take_gate.Tie as tie
-use Rattle.cover_registers.proofs.take_gate.Reads as reads
-use Rattle.cover_registers.proofs.take_gate.Lts as lts
-use Rattle.cover_registers.proofs.take_leaves.Reads as take-leaves-reads
 
 mul-if1 : tie.Need-mul-if1
 mul-if1 c =

@@ -4,10 +4,6 @@ use Rattle.cover_roots.specs.RootRoundsLaws.{stored-none, stored-some}
 use borrow.Author.Needs.{needs}
 use Rattle.cover_roots.proofs.finish.Statement.{statement}
 use Rattle.cover_roots.proofs.finish.Tie as tie
-use Rattle.cover_roots.proofs.finish.Reads as reads
-use Rattle.cover_roots.proofs.finish.Lts as lts
-use Rattle.cover_roots.proofs.keep.Reads as keep-reads
-use Rattle.cover_roots.proofs.mark_nodes.Reads as mark-nodes-reads
 
 mul-rows : tie.Need-mul-rows
 mul-rows c = search needs

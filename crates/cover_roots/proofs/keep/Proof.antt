@@ -1,5 +1,5 @@
 -- `cover_roots::keep` meets its contract: a mark, a number of leaves, their nodes and their d.
-use mathlib.Core.Path.{_≡_, _∙_}
+use mathlib.Core.Path.{_∙_}
 use Prim.Native.Nat.{_+_}
 use native.Mathlib.Omega.{arith}
 use lib.ListN.{set, length-set}
@@ -7,9 +7,6 @@ use Rattle.cover_roots.specs.RootRoundsLaws.{row-kept}
 use borrow.Author.Needs.{needs}
 use Rattle.cover_roots.proofs.keep.Statement.{statement}
 use Rattle.cover_roots.proofs.keep.Tie as tie
-use Rattle.cover_roots.proofs.keep.Reads as reads
-use Rattle.cover_roots.proofs.keep.Lts as lts
-use Rattle.net_marks.proofs.store.Reads as store-reads
 
 mul-rows : tie.Need-mul-rows
 mul-rows c = search needs

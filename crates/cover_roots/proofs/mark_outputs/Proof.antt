@@ -7,9 +7,6 @@ use Rattle.cover_roots.specs.RootMarks.{Among, Marks}
 use borrow.Author.Needs.{needs}
 use Rattle.cover_roots.proofs.mark_outputs.Statement.{statement}
 use Rattle.cover_roots.proofs.mark_outputs.Tie as tie
-use Rattle.cover_roots.proofs.mark_outputs.Reads as reads
-use Rattle.cover_roots.proofs.mark_outputs.Lts as lts
-use Rattle.cover_roots.proofs.mark_nodes.Reads as mark-nodes-reads
 
 mul-y : tie.Need-mul-y
 mul-y c = search needs

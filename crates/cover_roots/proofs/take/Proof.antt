@@ -1,5 +1,5 @@
 -- `cover_roots::take` meets its contract: the engine is asked at the gate's own label, and g is done.
-use mathlib.Core.Path.{refl, _∙_}
+use mathlib.Core.Path.{refl}
 use Prim.Native.Nat.{_+_}
 use native.Mathlib.Omega.{arith}
 use denote.Ref.{now}
@@ -10,10 +10,6 @@ use Rattle.cover_roots.specs.RootRoundsLaws.{cut-written}
 use borrow.Author.Needs.{needs}
 use Rattle.cover_roots.proofs.take.Statement.{statement}
 use Rattle.cover_roots.proofs.take.Tie as tie
-use Rattle.cover_roots.proofs.take.Reads as reads
-use Rattle.cover_roots.proofs.take.Lts as lts
-use Rattle.cover_roots.proofs.finish.Reads as finish-reads
-use Rattle.cut_question.proofs.chosen.Reads as chosen-reads
 
 add-v : tie.Need-add-v
 add-v c = search needs

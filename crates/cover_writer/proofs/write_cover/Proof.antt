@@ -62,11 +62,13 @@ write-luts-requires c κs =
     let start = c .before .before .before .before .before .before .before .before .before in
     let a = (keptIn (start .args .s .inputs) (start .args .s .gates) (start .args .s .period) (now (start .args .labels)) (now (start .args .rows)) (now (start .args .tables))) in
     let p = start .pre .0 in (
-    record {
-      arrays = p .arrays;
-      luts = p .luts;
-      room = room-behind (allLutBytes false (entriesIn a)) (c .before .before .before .write-front .ensures) (both a (count-luts .result) p (count-luts .ensures));
-    }, start .pre .1)
+      record {
+        arrays = p .arrays;
+        luts = p .luts;
+        room = room-behind (allLutBytes false (entriesIn a)) (c .before .before .before .write-front .ensures) (both a (count-luts .result) p (count-luts .ensures));
+      },
+      start .pre .1,
+    )
 
 add-result : tie.Need-add-result
 add-result c =

@@ -38,13 +38,15 @@ write-gate-requires : tie.Need-write-gate-requires Inv-loop μ-loop
 write-gate-requires c κs =
     let start = c .before .before .before .before .before .before in
     let p = start .pre .0 in (
-    record {
-      arrays = p .arrays;
-      luts = p .luts;
-      gate = c .before .loop-test .taken;
-      room = room-behind (bytesAt (keptIn (start .args .s .inputs) (start .args .s .gates) (start .args .s .period) (now (start .args .labels)) (now (start .args .rows)) (now (start .args .tables))) (c .before .before .loop .g)) (c .before .before .loop .inv .1)
-          (room-next (c .before .before .loop .g) (c .before .loop-test .taken) p);
-    }, start .pre .1)
+      record {
+        arrays = p .arrays;
+        luts = p .luts;
+        gate = c .before .loop-test .taken;
+        room = room-behind (bytesAt (keptIn (start .args .s .inputs) (start .args .s .gates) (start .args .s .period) (now (start .args .labels)) (now (start .args .rows)) (now (start .args .tables))) (c .before .before .loop .g)) (c .before .before .loop .inv .1)
+            (room-next (c .before .before .loop .g) (c .before .loop-test .taken) p);
+      },
+      start .pre .1,
+    )
 
 add-at : tie.Need-add-at Inv-loop μ-loop
 add-at c =

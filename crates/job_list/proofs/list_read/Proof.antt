@@ -98,11 +98,13 @@ write-text-requires c κs =
     let k = c .before .before .before .before .before .before .before .before .before .before .before .before .before .before .before .before .before .before .settle .kept .1 .1 .1 .1 .1 .1 .1 .1 in
     let last = c .before .before .before .before .before .before .before .before .before .before .before .before .before .before .before .before .before .before .settle .last .1 .1 .1 .1 .1 .1 .1 .1 in
     let u = cover-settled (c .before .before .before .before .before .before .before .before .before .before .before .before .before .before .before .before .before .before .settle .ensures .0) (omega (arith, c .before .before .before .before .before .before .before .before .before .if1 .left)) in
-    let h = start .pre .settling .facts .gates-high in
-    (rw (c .before .before .before .before .before .before .before .outs-at .ensures, c .before .before .before .before .before .before .delays-at .ensures)
-    (two-parts (λ (os oc : List ℕ). Listable (keptIn (z .inputs) (z .gates) (c .before .before .before .before .before .before .before .before .before .before .before .before .before .before .before .before .before .before .settle .result .period) (last .0) (last .1 .0) (last .1 .1 .0)) os oc (z .outputs) (start .args .out .now))
-    (c .before .before .before .before .before .before .before .before .before .before .before .before .before .before .before .before .before .before .settle .last .1 .0) (outsAt (z .inputs) (z .gates)) (delaysAt (z .inputs) (z .gates) (z .outputs))
-    (cover-listable (start .pre .settling) (c .before .before .before .before .before .before .before .before .before .before .before .before .before .before .before .before .before .before .settle .ensures .1) (start .pre .room) refl refl (rows-long h (k .0) (k .1 .0) (k .1 .1 .0)) u)), omega (arith, h, k .1 .0))
+    let h = start .pre .settling .facts .gates-high in (
+      rw (c .before .before .before .before .before .before .before .outs-at .ensures, c .before .before .before .before .before .before .delays-at .ensures)
+          (two-parts (λ (os oc : List ℕ). Listable (keptIn (z .inputs) (z .gates) (c .before .before .before .before .before .before .before .before .before .before .before .before .before .before .before .before .before .before .settle .result .period) (last .0) (last .1 .0) (last .1 .1 .0)) os oc (z .outputs) (start .args .out .now))
+          (c .before .before .before .before .before .before .before .before .before .before .before .before .before .before .before .before .before .before .settle .last .1 .0) (outsAt (z .inputs) (z .gates)) (delaysAt (z .inputs) (z .gates) (z .outputs))
+          (cover-listable (start .pre .settling) (c .before .before .before .before .before .before .before .before .before .before .before .before .before .before .before .before .before .before .settle .ensures .1) (start .pre .room) refl refl (rows-long h (k .0) (k .1 .0) (k .1 .1 .0)) u)),
+      omega (arith, h, k .1 .0),
+    )
 
 same-length-3 : tie.Need-same-length-3
 same-length-3 c = search needs

@@ -6,7 +6,6 @@ use native.Mathlib.Omega.{arith}
 use lib.ListN.{length, drop}
 use lib.Seq.{length-take-le}
 use Rattle.job_plan.specs.Engines.{engine-rest, engine-chooses, engine-tabulates, rest-part, clear-behind, length-behind}
-use Rattle.job_plan.specs.Lent.{period-lent, found-whole}
 use Rattle.job_plan.specs.Covering.{told-none, told-cover}
 use borrow.Author.Needs.{needs}
 use Rattle.job_plan.proofs.cover.Statement.{statement}
@@ -46,7 +45,7 @@ slice-aggregate-find-period-6 c = search needs
 find-period-requires : tie.Need-find-period-requires
 find-period-requires c κs =
     let e = c .before .before .before .before .before .before .before .before .before .before .before .before .before .before .pre .0 in
-    (engine-rest e, (e .parts, period-lent (e .period)))
+    (engine-rest e, (e .parts, e .period))
 
 same-length : tie.Need-same-length
 same-length c = search needs
@@ -55,7 +54,7 @@ same-length-2 : tie.Need-same-length-2
 same-length-2 c = search needs
 
 returns : tie.Need-returns
-returns c = told-none (found-whole (c .before .before .before .before .before .before .before .before .before .find-period .ensures .1)) (c .if1 .taken)
+returns c = told-none (c .before .before .before .before .before .before .before .before .before .find-period .ensures .1) (c .if1 .taken)
 
 slice-aggregate-choose : tie.Need-slice-aggregate-choose
 slice-aggregate-choose c = search needs
@@ -98,7 +97,7 @@ slice-aggregate-choose-6 c = search needs
 
 choose-requires : tie.Need-choose-requires
 choose-requires c κs =
-    (rest-part _ (c .before .before .before .before .before .before .before .before .before .before .before .before .before .before .before .before .before .find-period .ensures .0), (c .before .before .before .before .before .before .before .before .before .before .before .before .before .before .before .before .before .before .before .before .before .before .before .before .before .before .before .before .before .before .before .before .pre .0 .parts, engine-chooses (c .before .before .before .before .before .before .before .before .before .before .before .before .before .before .before .before .before .before .before .before .before .before .before .before .before .before .before .before .before .before .before .before .pre .0) (c .before .before .before .before .before .before .before .before .before .before .before .before .before .before .before .before .before .before .before .before .before .before .before .before .before .before .before .before .before .before .before .before .pre .1) (found-whole (c .before .before .before .before .before .before .before .before .before .before .before .before .before .before .before .before .before .find-period .ensures .1))))
+    (rest-part _ (c .before .before .before .before .before .before .before .before .before .before .before .before .before .before .before .before .before .find-period .ensures .0), (c .before .before .before .before .before .before .before .before .before .before .before .before .before .before .before .before .before .before .before .before .before .before .before .before .before .before .before .before .before .before .before .before .pre .0 .parts, engine-chooses (c .before .before .before .before .before .before .before .before .before .before .before .before .before .before .before .before .before .before .before .before .before .before .before .before .before .before .before .before .before .before .before .before .pre .0) (c .before .before .before .before .before .before .before .before .before .before .before .before .before .before .before .before .before .before .before .before .before .before .before .before .before .before .before .before .before .before .before .before .pre .1) (c .before .before .before .before .before .before .before .before .before .before .before .before .before .before .before .before .before .find-period .ensures .1)))
 
 tabulate-requires : tie.Need-tabulate-requires
 tabulate-requires c κs =
@@ -113,7 +112,7 @@ tabulate-requires c κs =
     let y = c .before .before .before .before .before .before .before .before .before .before .before .before .choose .last .1 .1 .1 .0 in
     let m = length-behind y (x ++ drop n t) n k (c .before .before .before .before .before .before .before .before .before .before .before .before .choose .kept .1 .1 .1 .0) in
     let rows = c .before .before .before .before .before .before .before .before .before .before .before .before .choose .kept .1 .1 .1 .1 .1 .1 .1 .1 .1 .1 .0 in (
-      (engine-tabulates e (c .before .before .before .before .before .before .before .before .before .before .before .before .before .before .before .before .before .before .before .before .before .before .before .before .before .before .before .before .before .before .before .before .before .before .before .before .before .before .before .before .before .before .before .before .before .pre .1) rows (found-whole (c .before .before .before .before .before .before .before .before .before .before .before .before .before .before .before .before .before .before .before .before .before .before .before .before .before .before .before .before .before .before .find-period .ensures .1)) (c .before .before .before .before .before .before .before .before .before .before .before .before .before .before .before .before .before .before .before .before .before .if1 .left) (c .before .before .before .before .before .before .before .before .before .before .before .before .choose .ensures .1), c .before .before .before .before .before .before .before .before .before .before .before .before .before .before .before .before .before .before .before .before .before .before .before .before .before .before .before .before .before .before .before .before .before .before .before .before .before .before .before .before .before .before .before .before .before .pre .1 .atLuts),
+      (engine-tabulates e (c .before .before .before .before .before .before .before .before .before .before .before .before .before .before .before .before .before .before .before .before .before .before .before .before .before .before .before .before .before .before .before .before .before .before .before .before .before .before .before .before .before .before .before .before .before .pre .1) rows (c .before .before .before .before .before .before .before .before .before .before .before .before .before .before .before .before .before .before .before .before .before .before .before .before .before .before .before .before .before .before .find-period .ensures .1) (c .before .before .before .before .before .before .before .before .before .before .before .before .before .before .before .before .before .before .before .before .before .if1 .left) (c .before .before .before .before .before .before .before .before .before .before .before .before .choose .ensures .1), c .before .before .before .before .before .before .before .before .before .before .before .before .before .before .before .before .before .before .before .before .before .before .before .before .before .before .before .before .before .before .before .before .before .before .before .before .before .before .before .before .before .before .before .before .before .pre .1 .atLuts),
       (
         (omega (arith, e .parts), omega (arith, rows, c .before .before .before .before .before .before .before .before .before .before .before .before .before .before .before .before .before .before .before .before .before .before .before .before .before .before .before .before .before .before .before .before .before .before .before .before .before .before .before .before .before .before .before .before .before .pre .1 .atRows)),
         (omega (arith, m, l, e .size), clear-behind y (x ++ drop n t) n (c .before .before .before .before .before .before .before .before .before .before .before .before .choose .ensures .0 .cleared .zero) (clear-behind x t n (c .before .before .before .before .before .before .before .before .before .before .before .before .before .before .before .before .before .before .before .before .before .before .before .before .before .before .before .before .before .before .find-period .ensures .0 .cleared .zero) (e .clear))),
@@ -144,7 +143,7 @@ same-length-6 : tie.Need-same-length-6
 same-length-6 c = search needs
 
 returns-2 : tie.Need-returns-2
-returns-2 c = told-cover (c .before .before .before .before .before .before .before .before .before .before .before .before .before .before .before .before .before .before .before .before .before .before .before .before .before .before .before .before .before .before .before .before .before .before .before .before .before .before .before .before .before .before .before .before .before .before .before .before .before .before .pre .0 .few) (found-whole (c .before .before .before .before .before .before .before .before .before .before .before .before .before .before .before .before .before .before .before .before .before .before .before .before .before .before .before .before .before .before .before .before .before .before .before .find-period .ensures .1)) (c .before .before .before .before .before .before .before .before .before .before .before .before .before .before .before .before .before .before .before .before .before .before .before .before .before .before .if1 .left) (c .before .before .before .before .before .before .before .before .before .before .before .before .before .before .before .before .before .choose .ensures .1) (c .before .before .before .before .tabulate .ensures .0)
+returns-2 c = told-cover (c .before .before .before .before .before .before .before .before .before .before .before .before .before .before .before .before .before .before .before .before .before .before .before .before .before .before .before .before .before .before .before .before .before .before .before .before .before .before .before .before .before .before .before .before .before .before .before .before .before .before .pre .0 .few) (c .before .before .before .before .before .before .before .before .before .before .before .before .before .before .before .before .before .before .before .before .before .before .before .before .before .before .before .before .before .before .before .before .before .before .before .find-period .ensures .1) (c .before .before .before .before .before .before .before .before .before .before .before .before .before .before .before .before .before .before .before .before .before .before .before .before .before .before .if1 .left) (c .before .before .before .before .before .before .before .before .before .before .before .before .before .before .before .before .before .choose .ensures .1) (c .before .before .before .before .tabulate .ensures .0)
 
 pub cover-spec : {M : Type 1} → statement M
 cover-spec =

@@ -59,14 +59,17 @@ put-lines-put-lines-requires t c κs =
     let q = p .gate in
     let r = p .room in (
       omega (arith, c .before .before .before .before .before .before .before .before .before .before .pre .0),
-      (record {
-        arrays = p .arrays;
-        luts = p .luts;
-        gate = omega arith;
-        room = put-room
-            (361 * (c .before .before .before .before .before .before .before .before .before .before .args .s .gates -
-            (c .before .before .before .before .before .before .before .before .before .before .args .g + 1))) (c .before .before .before .put-gate .ensures) (omega arith);
-      }, c .before .before .before .before .before .before .before .before .before .before .pre .1 .1),
+      (
+        record {
+          arrays = p .arrays;
+          luts = p .luts;
+          gate = omega arith;
+          room = put-room
+              (361 * (c .before .before .before .before .before .before .before .before .before .before .args .s .gates -
+              (c .before .before .before .before .before .before .before .before .before .before .args .g + 1))) (c .before .before .before .put-gate .ensures) (omega arith);
+        },
+        c .before .before .before .before .before .before .before .before .before .before .pre .1 .1,
+      ),
     )
 
 put-lines-same-length : (t : ℕ) → put-lines-lts.Need-same-length (put-lines-claims t) (put-lines-at t) put-lines.Post

@@ -163,9 +163,10 @@ put-back-requires c κs =
     let k = (keptIn (a .s .inputs) (a .s .gates) (a .s .period) (now (a .labels)) (now (a .rows)) (now (a .tables))) in
     let h = c .before .before .before .before .before .before .before .before .before .before .before .before .before .before .before .before .before .before .before .before .before .before .pre .0 .arrays in
     let i = c .before .before .before .before .before .before .before .before .before .before .before .before .before .before .before .before .before .before .before .before .before .before .pre .0 .gate in
-    let f = held k (a .g) (a .at) (c .before .before .before .before .before .before .before .before .before .before .before .before .before .before .before .before .before .before .before .before .before .before .pre .0) (c .before .before .before .before .before .before .before .before .before .before .before .before .before .before .before .before .before .if1 .left) .few in
-    (row-lent (a .s .gates) (now (a .rows)) (λ (no ba : List ℕ) (n : ℕ). (n ≤ stride) × (stride * a .g + n ≤ length no) × (stride * a .g + n ≤ length ba)) (a .g) (f, omega arith, omega arith),
-    put-room 283 (c .before .before .before .before .before .before .before .before .before .before .before .put-front .ensures) (c .before .before .before .before .before .before .before .before .before .before .before .before .before .before .before .before .before .before .before .before .before .before .pre .0 .room))
+    let f = held k (a .g) (a .at) (c .before .before .before .before .before .before .before .before .before .before .before .before .before .before .before .before .before .before .before .before .before .before .pre .0) (c .before .before .before .before .before .before .before .before .before .before .before .before .before .before .before .before .before .if1 .left) .few in (
+      row-lent (a .s .gates) (now (a .rows)) (λ (no ba : List ℕ) (n : ℕ). (n ≤ stride) × (stride * a .g + n ≤ length no) × (stride * a .g + n ≤ length ba)) (a .g) (f, omega arith, omega arith),
+      put-room 283 (c .before .before .before .before .before .before .before .before .before .before .before .put-front .ensures) (c .before .before .before .before .before .before .before .before .before .before .before .before .before .before .before .before .before .before .before .before .before .before .pre .0 .room),
+    )
 
 same-length : tie.Need-same-length
 same-length c = search needs
