@@ -11,10 +11,11 @@ shared-slice-read-if1 : tie.Need-shared-slice-read-if1
 shared-slice-read-if1 c = search needs
 
 returns : tie.Need-returns
-returns c = (
-  gate-none (c .before .before .before .before .before .before .args .g) 0 (c .if1 .taken),
-  c .before .before .before .before .before .before .pre .1 .1 .1,
-)
+returns c =
+    let start = c .before .before .before .before .before .before in (
+      gate-none (start .args .g) 0 (c .if1 .taken),
+      start .pre .1 .1 .1,
+    )
 
 try-row-requires : tie.Need-try-row-requires
 try-row-requires c κs =

@@ -21,13 +21,14 @@ abbrev μ-loop : tie.MeasureT-loop
 μ-loop inputs gates net tables rows luts₀ work₀ g₀ luts work g = gates - g
 
 loop-holds : tie.Need-loop-holds Inv-loop μ-loop
-loop-holds c = (
-  omega arith,
-  refl,
-  tabulated-none (now (c .before .before .before .before .before .args .luts)),
-  refl,
-  c .before .before .before .before .before .pre .1 .1 .1,
-)
+loop-holds c =
+    let start = c .before .before .before .before .before in (
+      omega arith,
+      refl,
+      tabulated-none (now (start .args .luts)),
+      refl,
+      start .pre .1 .1 .1,
+    )
 
 gate-table-requires : tie.Need-gate-table-requires Inv-loop μ-loop
 gate-table-requires c κs =
@@ -49,14 +50,15 @@ loop-less c = let h = c .before .before .before .before .loop-test .taken in ome
 
 loop-again : tie.Need-loop-again Inv-loop μ-loop
 loop-again c =
+    let loop = c .before .before .before .before .before .loop in
     let h = c .before .before .before .before .loop-test .taken in (
       omega arith,
-      length-set (c .before .before .before .before .before .loop .luts) (c .before .before .before .before .before .loop .g) (c .before .before .gate-table .result) ∙
-          c .before .before .before .before .before .loop .inv .1,
-      tabulated-next _ (c .before .before .before .before .before .loop .g) _
-          (let a = c .before .before .before .before .before .before .before .before .before .before .before .pre .0 .1 in let e = c .before .before .before .before .before .loop .inv .1 in omega arith)
-          (c .before .before .before .before .before .loop .inv .2) (c .before .before .gate-table .ensures .0),
-      c .before .before .gate-table .kept .1 .1 .1 .1 .1 .1 .0 ∙ c .before .before .before .before .before .loop .inv .3,
+      length-set (loop .luts) (loop .g) (c .before .before .gate-table .result) ∙
+          loop .inv .1,
+      tabulated-next _ (loop .g) _
+          (let a = c .before .before .before .before .before .before .before .before .before .before .before .pre .0 .1 in let e = loop .inv .1 in omega arith)
+          (loop .inv .2) (c .before .before .gate-table .ensures .0),
+      c .before .before .gate-table .kept .1 .1 .1 .1 .1 .1 .0 ∙ loop .inv .3,
       c .before .before .gate-table .ensures .1,
     )
 

@@ -35,8 +35,9 @@ slice-aggregate-some-wrong c = search needs
 
 some-wrong-requires : tie.Need-some-wrong-requires
 some-wrong-requires c κs =
-    let a = c .before .before .before .before .before .before .before .before .before .before .before .before .before .args in
-    let p = c .before .before .before .before .before .before .before .before .before .before .before .before .before .pre .0 in
+    let start = c .before .before .before .before .before .before .before .before .before .before .before .before .before in
+    let a = start .args in
+    let p = start .pre .0 in
     let sizes = to-part (λ (l : List ℕ). (a .n ≤ length l) × ((i : ℕ) → i < a .n → getD l i 0 ≤ mostPins)) (a .rows .now) (a .n) (p .0 .atSizes, few-leaves (p .0)) in
     (p .2, sizes .0, omega (arith, c .before .before .before .before .before .no-cuts .kept .1 .1 .1 .1 .1 .1 .1 .0, p .1), sizes .1)
 
@@ -44,25 +45,32 @@ same-length : tie.Need-same-length
 same-length c = search needs
 
 returns : tie.Need-returns
-returns c = (told-no-cut (c .before .before .before .before .before .before .before .before .before .before .before .before .before .before .before .pre .0 .0) (now (c .before .before .before .before .before .before .before .before .before .before .before .before .before .before .before .args .luts)) (c .before .before .before .before .before .before .before .no-cuts .ensures .0) (c .if1 .taken), c .before .before .before .before .before .before .before .no-cuts .ensures .1)
+returns c =
+    let no-cuts = c .before .before .before .before .before .before .before .no-cuts in
+    let start = c .before .before .before .before .before .before .before .before .before .before .before .before .before .before .before in
+    (told-no-cut (start .pre .0 .0) (now (start .args .luts)) (no-cuts .ensures .0) (c .if1 .taken), no-cuts .ensures .1)
 
 same-length-2 : tie.Need-same-length-2
 same-length-2 c = search needs
 
 returns-2 : tie.Need-returns-2
 returns-2 c =
-    let a = c .before .before .before .before .before .before .before .before .before .before .before .before .before .before .before .before .args in
-    let compared = from-part (λ (l : List ℕ). Compared (now (a .luts)) l (c .before .before .before .before .before .before .before .before .no-cuts .last .1 .1 .1 .1 .1 .1 .1 .0) (a .n) (c .before .before .some-wrong .result)) (a .rows .now) (a .n) (c .before .before .some-wrong .ensures) in
-    (told-wrong (c .before .before .before .before .before .before .before .before .before .before .before .before .before .before .before .before .pre .0 .0) (now (a .luts)) (c .before .before .before .before .before .before .before .before .no-cuts .ensures .0) (c .before .if1 .left) compared (c .if2 .taken), c .before .before .before .before .before .before .before .before .no-cuts .ensures .1)
+    let no-cuts = c .before .before .before .before .before .before .before .before .no-cuts in
+    let start = c .before .before .before .before .before .before .before .before .before .before .before .before .before .before .before .before in
+    let a = start .args in
+    let compared = from-part (λ (l : List ℕ). Compared (now (a .luts)) l (no-cuts .last .1 .1 .1 .1 .1 .1 .1 .0) (a .n) (c .before .before .some-wrong .result)) (a .rows .now) (a .n) (c .before .before .some-wrong .ensures) in
+    (told-wrong (start .pre .0 .0) (now (a .luts)) (no-cuts .ensures .0) (c .before .if1 .left) compared (c .if2 .taken), no-cuts .ensures .1)
 
 same-length-3 : tie.Need-same-length-3
 same-length-3 c = search needs
 
 returns-3 : tie.Need-returns-3
 returns-3 c =
-    let a = c .before .before .before .before .before .before .before .before .before .before .before .before .before .before .before .before .args in
-    let compared = from-part (λ (l : List ℕ). Compared (now (a .luts)) l (c .before .before .before .before .before .before .before .before .no-cuts .last .1 .1 .1 .1 .1 .1 .1 .0) (a .n) (c .before .before .some-wrong .result)) (a .rows .now) (a .n) (c .before .before .some-wrong .ensures) in
-    (told-right (c .before .before .before .before .before .before .before .before .before .before .before .before .before .before .before .before .pre .0 .0) (now (a .luts)) (c .before .before .before .before .before .before .before .before .no-cuts .ensures .0) (c .before .if1 .left) compared (c .if2 .left), c .before .before .before .before .before .before .before .before .no-cuts .ensures .1)
+    let no-cuts = c .before .before .before .before .before .before .before .before .no-cuts in
+    let start = c .before .before .before .before .before .before .before .before .before .before .before .before .before .before .before .before in
+    let a = start .args in
+    let compared = from-part (λ (l : List ℕ). Compared (now (a .luts)) l (no-cuts .last .1 .1 .1 .1 .1 .1 .1 .0) (a .n) (c .before .before .some-wrong .result)) (a .rows .now) (a .n) (c .before .before .some-wrong .ensures) in
+    (told-right (start .pre .0 .0) (now (a .luts)) (no-cuts .ensures .0) (c .before .if1 .left) compared (c .if2 .left), no-cuts .ensures .1)
 
 pub check-luts-spec : {M : Type 1} → statement M
 check-luts-spec =

@@ -20,13 +20,14 @@ abbrev μ-loop : tie.MeasureT-loop
 μ-loop inputs gates net tables rows k n right₀ work₀ i₀ right work i = n - i
 
 loop-holds : tie.Need-loop-holds Inv-loop μ-loop
-loop-holds c = (
-  omega arith,
-  refl,
-  good-none (c .before .before .before .before .before .pre .0 .0),
-  refl,
-  c .before .before .before .before .before .pre .1 .1 .1,
-)
+loop-holds c =
+    let start = c .before .before .before .before .before in (
+      omega arith,
+      refl,
+      good-none (start .pre .0 .0),
+      refl,
+      start .pre .1 .1 .1,
+    )
 
 mul-g : tie.Need-mul-g Inv-loop μ-loop
 mul-g c = let p = c .before .before .before .before .before .before .before .pre .0 in let s = p .0 .atRoots in let m = p .1 in let h = c .loop-test .taken in search needs
@@ -43,13 +44,15 @@ sub-g c =
 
 try-row-requires : tie.Need-try-row-requires Inv-loop μ-loop
 try-row-requires c κs =
-    let p = c .before .before .before .before .before .before .before .before .before .pre .0 .0 in
-    let i = c .before .before .before .loop .i in
+    let loop = c .before .before .before .loop in
+    let start = c .before .before .before .before .before .before .before .before .before in
+    let p = start .pre .0 .0 in
+    let i = loop .i in
     let h = c .before .before .loop-test .taken in
-    let e = c .before .before .before .loop .inv .3 in
-    let space = c .before .before .before .before .before .before .before .before .before .pre .1 .1 .0 in
-    let room = c .before .before .before .before .before .before .before .before .before .pre .1 .0 in
-    ((p .wires, p .atTables, lut-row p i h, let l = p .low i h in let u = p .high i h in omega arith), ((room .0, h, room .1), (omega (arith, e, space), c .before .before .before .loop .inv .4)))
+    let e = loop .inv .3 in
+    let space = start .pre .1 .1 .0 in
+    let room = start .pre .1 .0 in
+    ((p .wires, p .atTables, lut-row p i h, let l = p .low i h in let u = p .high i h in omega arith), ((room .0, h, room .1), (omega (arith, e, space), loop .inv .4)))
 
 same-length : tie.Need-same-length Inv-loop μ-loop
 same-length c = c .before .before .before .before .before .before .before .loop .inv .1
@@ -58,12 +61,13 @@ same-length-2 : tie.Need-same-length-2 Inv-loop μ-loop
 same-length-2 c = c .before .before .before .try-row .kept .1 .1 .1 .1 .1 .1 .1 .1 .0 ∙ c .before .before .before .before .before .before .before .loop .inv .3
 
 returns : tie.Need-returns Inv-loop μ-loop
-returns c = (
-  cuts-not (c .before .before .before .before .before .before .before .before .before .before .before .before .before .pre .0 .0)
-      (c .before .before .before .before .before .before .before .loop .i) (c .before .before .before .before .before .before .loop-test .taken) (c .before .before .before .try-row .ensures .0)
-      (c .if1 .taken),
-  c .before .before .before .try-row .ensures .1,
-)
+returns c =
+    let try-row = c .before .before .before .try-row in (
+      cuts-not (c .before .before .before .before .before .before .before .before .before .before .before .before .before .pre .0 .0)
+          (c .before .before .before .before .before .before .before .loop .i) (c .before .before .before .before .before .before .loop-test .taken) (try-row .ensures .0)
+          (c .if1 .taken),
+      try-row .ensures .1,
+    )
 
 mul-right : tie.Need-mul-right Inv-loop μ-loop
 mul-right c =
@@ -85,6 +89,7 @@ loop-less c = let h = c .before .before .before .before .before .before .loop-te
 
 loop-again : tie.Need-loop-again Inv-loop μ-loop
 loop-again c =
+    let try-row = c .before .before .before .try-row in
     let loop = c .before .before .before .before .before .before .before .loop in
     let start = c .before .before .before .before .before .before .before .before .before .before .before .before .before in
     let h = c .before .before .before .before .before .before .loop-test .taken in
@@ -92,9 +97,9 @@ loop-again c =
     let room = start .pre .0 .2 in (
       omega arith,
       length-set (loop .right) (loop .i) _ ∙ e,
-      good-next (start .pre .0 .0) (loop .right) (loop .i) h (omega arith) (loop .inv .2) (c .before .before .before .try-row .ensures .0) (c .if1 .left),
-      c .before .before .before .try-row .kept .1 .1 .1 .1 .1 .1 .1 .1 .0 ∙ loop .inv .3,
-      c .before .before .before .try-row .ensures .1,
+      good-next (start .pre .0 .0) (loop .right) (loop .i) h (omega arith) (loop .inv .2) (try-row .ensures .0) (c .if1 .left),
+      try-row .kept .1 .1 .1 .1 .1 .1 .1 .1 .0 ∙ loop .inv .3,
+      try-row .ensures .1,
     )
 
 same-length-3 : tie.Need-same-length-3 Inv-loop μ-loop

@@ -170,21 +170,24 @@ shared-slice-read-take-leaves c =
 
 take-leaves-requires : tie.Need-take-leaves-requires
 take-leaves-requires c κs =
-    let s = c .before .before .before .before .before .before .before .before .before .before .args in
-    let p = c .before .before .before .before .before .before .before .before .before .before .pre .0 in
-    let h = c .before .before .before .before .before .before .before .before .before .before .pre .1 .0 in
-    let f = p .leaves (s .g) h (c .before .before .before .before .before .before .before .if1 .left) in
+    let if1 = c .before .before .before .before .before .before .before .if1 in
+    let start = c .before .before .before .before .before .before .before .before .before .before in
+    let s = start .args in
+    let p = start .pre .0 in
+    let h = start .pre .1 .0 in
+    let f = p .leaves (s .g) h (if1 .left) in
     let a = p .nodes in
     let b = p .backs in
     let leaves = row-lent (s .s .gates) (now (s .rows)) (λ (no ba : List ℕ) (n : ℕ). ((stride * s .g + n ≤ length no) × (stride * s .g + n ≤ length ba)) × Below depthRoom ba (stride * s .g) n) (s .g)
-    ((omega arith, omega arith), p .small (s .g) h (c .before .before .before .before .before .before .before .if1 .left)) in
+    ((omega arith, omega arith), p .small (s .g) h (if1 .left)) in
     (p .lags, (leaves .0, leaves .1))
 
 returns-2 : tie.Need-returns-2
 returns-2 c =
-    let s = c .before .before .before .before .before .before .before .before .before .before .before .args in
+    let start = c .before .before .before .before .before .before .before .before .before .before .before in
+    let s = start .args in
     let a = keptIn (s .s .inputs) (s .s .gates) (s .s .period) (now (s .labels)) (now (s .rows)) [] in
-    took-same (gate-some a (s .g) (c .before .before .before .before .before .before .before .before .before .before .before .pre .1 .0) (c .before .before .before .before .before .before .before .before .if1 .left))
+    took-same (gate-some a (s .g) (start .pre .1 .0) (c .before .before .before .before .before .before .before .before .if1 .left))
     (row-whole (s .s .gates) (now (s .rows)) (λ (no ba : List ℕ) (n : ℕ). Took (leafTaps (lagsOf a) (lagIn (lagsOf a) (s .s .inputs + s .g)) (copiesFrom no ba (stride * s .g) n)) (s .tally .places) (c .take-leaves .result .places)) (s .g)
     (c .take-leaves .ensures))
 

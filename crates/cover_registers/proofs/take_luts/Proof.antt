@@ -30,7 +30,9 @@ loop-holds c =
     (omega arith, took-same (sym (luts-none (lagsOf a) a)) (took-none (s .tally .places)))
 
 take-gate-requires : tie.Need-take-gate-requires Inv-loop μ-loop
-take-gate-requires c κs = (c .before .before .before .pre .0, (omega arith, c .before .before .before .pre .1))
+take-gate-requires c κs =
+    let start = c .before .before .before in
+    (start .pre .0, (omega arith, start .pre .1))
 
 add-g : tie.Need-add-g Inv-loop μ-loop
 add-g c = search needs

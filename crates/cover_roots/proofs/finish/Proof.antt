@@ -15,7 +15,9 @@ same-length : tie.Need-same-length
 same-length c = search needs
 
 returns : tie.Need-returns
-returns c = stored-none (omega (arith, c .if1 .taken)) (c .before .before .before .before .pre .1) (c .before .before .before .before .pre .2)
+returns c =
+    let start = c .before .before .before .before in
+    stored-none (omega (arith, c .if1 .taken)) (start .pre .1) (start .pre .2)
 
 keep-requires : tie.Need-keep-requires
 keep-requires c κs = search needs

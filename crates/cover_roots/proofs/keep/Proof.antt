@@ -21,7 +21,9 @@ mul-rows-2 : tie.Need-mul-rows-2
 mul-rows-2 c = search needs
 
 slice-write-rows-2 : tie.Need-slice-write-rows-2
-slice-write-rows-2 c = omega (arith, c .before .before .before .pre .0, c .before .before .before .pre .2, length-set (c .before .before .before .args .rows .now) (c .before .before .before .args .g) 2)
+slice-write-rows-2 c =
+    let start = c .before .before .before in
+    omega (arith, start .pre .0, start .pre .2, length-set (start .args .rows .now) (start .args .g) 2)
 
 mul-store : tie.Need-mul-store
 mul-store c = search needs
@@ -34,8 +36,9 @@ add-store c = search needs
 
 store-requires : tie.Need-store-requires
 store-requires c κs =
-    let a = c .before .before .before .before .args in
-    (c .before .before .before .before .pre .3, omega (arith, c .before .before .before .before .pre .0, c .before .before .before .before .pre .1, c .before .before .before .before .pre .2, length-set (a .rows .now) (a .g) 2, length-set (set (a .rows .now) (a .g) 2) (a .gates + a .g) (a .r)))
+    let start = c .before .before .before .before in
+    let a = start .args in
+    (start .pre .3, omega (arith, start .pre .0, start .pre .1, start .pre .2, length-set (a .rows .now) (a .g) 2, length-set (set (a .rows .now) (a .g) 2) (a .gates + a .g) (a .r)))
 
 add-store-2 : tie.Need-add-store-2
 add-store-2 c = search needs
@@ -51,8 +54,9 @@ add-store-3 c = search needs
 
 store-requires-2 : tie.Need-store-requires-2
 store-requires-2 c κs =
-    let a = c .before .before .before .before .before .before .before .before .args in
-    (c .before .before .before .before .before .before .before .before .pre .4, omega (arith, c .before .before .before .before .before .before .before .before .pre .0, c .before .before .before .before .before .before .before .before .pre .1, c .before .before .before .before .before .before .before .before .pre .2, c .before .before .before .store .kept .1 .1 .0, length-set (a .rows .now) (a .g) 2, length-set (set (a .rows .now) (a .g) 2) (a .gates + a .g) (a .r)))
+    let start = c .before .before .before .before .before .before .before .before in
+    let a = start .args in
+    (start .pre .4, omega (arith, start .pre .0, start .pre .1, start .pre .2, c .before .before .before .store .kept .1 .1 .0, length-set (a .rows .now) (a .g) 2, length-set (set (a .rows .now) (a .g) 2) (a .gates + a .g) (a .r)))
 
 same-length : tie.Need-same-length
 same-length c =
@@ -61,8 +65,9 @@ same-length c =
 
 returns : tie.Need-returns
 returns c =
-    let a = c .before .before .before .before .before .before .before .before .before .before .before .args in
-    row-kept (a .gates) (a .g) (a .r) (a .rows .now) (c .before .before .before .before .before .before .before .before .before .before .before .pre .0) (c .before .before .before .before .before .before .before .before .before .before .before .pre .1) (c .before .before .before .before .before .before .before .before .before .before .before .pre .2) (c .before .before .before .before .before .before .store .ensures) (c .before .before .store2 .ensures)
+    let start = c .before .before .before .before .before .before .before .before .before .before .before in
+    let a = start .args in
+    row-kept (a .gates) (a .g) (a .r) (a .rows .now) (start .pre .0) (start .pre .1) (start .pre .2) (c .before .before .before .before .before .before .store .ensures) (c .before .before .store2 .ensures)
 
 pub keep-spec : {M : Type 1} → statement M
 keep-spec =

@@ -84,8 +84,9 @@ shared-slice-copy-out-lag-of c = search needs
 lag-of-requires : tie.Need-lag-of-requires
 unfolding label
 lag-of-requires c κs =
-    let a = c .before .before .before .before .before .before .before .args in
-    lag-asked (keptIn (a .s .inputs) (a .s .gates) (a .s .period) (now (a .labels)) (now (a .rows)) (now (a .tables))) (a .g) (c .before .before .before .before .before .before .before .pre .0) (c .before .before .if1 .left)
+    let start = c .before .before .before .before .before .before .before in
+    let a = start .args in
+    lag-asked (keptIn (a .s .inputs) (a .s .gates) (a .s .period) (now (a .labels)) (now (a .rows)) (now (a .tables))) (a .g) (start .pre .0) (c .before .before .if1 .left)
 
 add-n : tie.Need-add-n
 add-n c = search needs
@@ -104,8 +105,9 @@ shared-slice-read-low c = search needs
 
 low-requires : tie.Need-low-requires
 low-requires c κs =
-    let a = c .before .before .before .before .before .before .before .before .before .before .before .args in
-    let f = c .before .before .before .before .before .before .before .before .before .before .before .pre .0 .luts .each (a .g) (c .before .before .before .before .before .before .before .before .before .before .before .pre .0 .gate) (c .before .before .before .before .before .before .if1 .left) .few in
+    let start = c .before .before .before .before .before .before .before .before .before .before .before in
+    let a = start .args in
+    let f = start .pre .0 .luts .each (a .g) (start .pre .0 .gate) (c .before .before .before .before .before .before .if1 .left) .few in
     omega (arith, f, size-at (a .s .gates) (now (a .rows)) (a .g))
 
 mul-a : tie.Need-mul-a
@@ -147,12 +149,15 @@ mul-write-lut-3 c = search needs
 write-lut-requires : tie.Need-write-lut-requires
 unfolding label
 write-lut-requires c κs =
-    let a = c .before .before .before .before .before .before .before .before .before .before .before .before .before .before .before .before .before .args in
+    let lag-of = c .before .before .before .before .before .before .before .before .before .lag-of in
+    let if1 = c .before .before .before .before .before .before .before .before .before .before .before .before .if1 in
+    let start = c .before .before .before .before .before .before .before .before .before .before .before .before .before .before .before .before .before in
+    let a = start .args in
     let k = (keptIn (a .s .inputs) (a .s .gates) (a .s .period) (now (a .labels)) (now (a .rows)) (now (a .tables))) in
     let v = lag (a .s .period) (getD (now (a .labels)) (a .s .inputs + a .g) (pos 0)) in
-    rw (c .before .before .before .before .before .low .ensures, lagged k (a .g) (c .before .before .before .before .before .before .before .before .before .before .before .before .before .before .before .before .before .pre .0) (c .before .before .before .before .before .before .before .before .before .before .before .before .if1 .left) (c .before .before .before .before .before .before .before .before .before .lag-of .result) (c .before .before .before .before .before .before .before .before .before .lag-of .ensures))
+    rw (c .before .before .before .before .before .low .ensures, lagged k (a .g) (start .pre .0) (if1 .left) (lag-of .result) (lag-of .ensures))
     (row-lent (a .s .gates) (now (a .rows)) (λ (no ba : List ℕ) (n : ℕ). LutAsked (a .s .inputs + a .g) no ba (stride * a .g) n v (shortTable n (getD (now (a .tables)) (a .g) 0)) (now (a .area))) (a .g)
-    (lut-asked k (a .g) (c .before .before .before .before .before .before .before .before .before .before .before .before .before .before .before .before .before .pre .0) (c .before .before .before .before .before .before .before .before .before .before .before .before .if1 .left)))
+    (lut-asked k (a .g) (start .pre .0) (if1 .left)))
 
 same-length : tie.Need-same-length
 same-length c = search needs
@@ -160,12 +165,15 @@ same-length c = search needs
 returns-2 : tie.Need-returns-2
 unfolding label
 returns-2 c =
-    let a = c .before .before .before .before .before .before .before .before .before .before .before .before .before .before .before .before .before .before .before .before .args in
+    let lag-of = c .before .before .before .before .before .before .before .before .before .before .before .before .lag-of in
+    let if1 = c .before .before .before .before .before .before .before .before .before .before .before .before .before .before .before .if1 in
+    let start = c .before .before .before .before .before .before .before .before .before .before .before .before .before .before .before .before .before .before .before .before in
+    let a = start .args in
     let k = (keptIn (a .s .inputs) (a .s .gates) (a .s .period) (now (a .labels)) (now (a .rows)) (now (a .tables))) in
     let v = lag (a .s .period) (getD (now (a .labels)) (a .s .inputs + a .g) (pos 0)) in
-    rw (at-some k (a .g) (c .before .before .before .before .before .before .before .before .before .before .before .before .before .before .before .if1 .left))
+    rw (at-some k (a .g) (if1 .left))
     (row-whole (a .s .gates) (now (a .rows)) (λ (no ba : List ℕ) (n : ℕ). Wrote (lutBytes false (lutOf (a .s .inputs + a .g) no ba (stride * a .g) n v (shortTable n (getD (now (a .tables)) (a .g) 0)))) (now (a .area)) (c .before .before .write-lut .last .1 .1 .1 .1 .1 .1 .1 .0) (c .before .before .write-lut .result)) (a .g)
-    (rw (c .before .before .before .before .before .before .before .before .low .ensures, lagged k (a .g) (c .before .before .before .before .before .before .before .before .before .before .before .before .before .before .before .before .before .before .before .before .pre .0) (c .before .before .before .before .before .before .before .before .before .before .before .before .before .before .before .if1 .left) (c .before .before .before .before .before .before .before .before .before .before .before .before .lag-of .result) (c .before .before .before .before .before .before .before .before .before .before .before .before .lag-of .ensures)) at (c .before .before .write-lut .ensures)))
+    (rw (c .before .before .before .before .before .before .before .before .low .ensures, lagged k (a .g) (start .pre .0) (if1 .left) (lag-of .result) (lag-of .ensures)) at (c .before .before .write-lut .ensures)))
 
 pub write-gate-spec : {M : Type 1} → statement M
 write-gate-spec =

@@ -28,8 +28,9 @@ slice-relend-prefix-least-period c = search needs
 
 slice-aggregate-least-period-2 : tie.Need-slice-aggregate-least-period-2
 slice-aggregate-least-period-2 c =
-    let e = c .before .before .before .before .before .before .pre .engine in
-    let a = c .before .before .before .before .before .before .args in
+    let start = c .before .before .before .before .before .before in
+    let e = start .pre .engine in
+    let a = start .args in
     let h : (a .s .inputs + a .s .gates) * a .s .width ≤ length (a .table .now) = omega (arith, e .size, e .fits) in
     sym (length-take-le ((a .s .inputs + a .s .gates) * a .s .width) (a .table .now) h)
 
@@ -50,15 +51,17 @@ array-borrow-prefix-labels c = search needs
 
 slice-aggregate-least-period-7 : tie.Need-slice-aggregate-least-period-7
 slice-aggregate-least-period-7 c =
-    let e = c .before .before .before .before .before .before .before .before .before .before .before .pre .engine in
-    let a = c .before .before .before .before .before .before .before .before .before .before .before .args in
+    let start = c .before .before .before .before .before .before .before .before .before .before .before in
+    let e = start .pre .engine in
+    let a = start .args in
     let h : a .s .inputs + a .s .gates ≤ length (replicate mostNodes (pos 0)) = omega (arith, e .wires .inputs, e .wires .gates) in
     sym (length-take-le (a .s .inputs + a .s .gates) (replicate mostNodes (pos 0)) h)
 
 least-period-requires : tie.Need-least-period-requires
 least-period-requires c κs =
-    let e = c .before .before .before .before .before .before .before .before .before .before .before .pre .engine in
-    let a = c .before .before .before .before .before .before .before .before .before .before .before .args in
+    let start = c .before .before .before .before .before .before .before .before .before .before .before in
+    let e = start .pre .engine in
+    let a = start .args in
     let h : a .s .inputs + a .s .gates ≤ length (replicate mostNodes (pos 0)) = omega (arith, e .wires .inputs, e .wires .gates) in
     let l = length-take-le (a .s .inputs + a .s .gates) (replicate mostNodes (pos 0)) h in
     let p = asked-labels (take (a .s .inputs + a .s .gates) (replicate mostNodes (pos 0))) (l ∙ sym (length-replicate (a .s .inputs + a .s .gates) (pos 0))) (e .period) in

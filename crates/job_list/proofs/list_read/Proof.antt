@@ -68,41 +68,54 @@ slice-aggregate-write-text-3 : tie.Need-slice-aggregate-write-text-3
 slice-aggregate-write-text-3 c = search needs
 
 mul-write-text : tie.Need-mul-write-text
-mul-write-text c = omega (arith, c .before .before .before .before .before .before .before .before .before .before .before .before .before .before .before .before .before .before .before .before .before .before .before .before .before .before .pre .settling .room .packed, c .before .before .before .before .before .before .before .before .before .before .before .before .before .before .before .settle .ensures .1 .long, c .before .before .before .before .before .before .before .before .before .before .before .before .before .before .before .before .before .before .before .before .before .before .before .before .before .before .good, c .before .before .before .before .outs-at .ensures, c .before .before .before .delays-at .ensures)
+mul-write-text c =
+    let start = c .before .before .before .before .before .before .before .before .before .before .before .before .before .before .before .before .before .before .before .before .before .before .before .before .before .before in
+    omega (arith, start .pre .settling .room .packed, c .before .before .before .before .before .before .before .before .before .before .before .before .before .before .before .settle .ensures .1 .long, start .good, c .before .before .before .before .outs-at .ensures, c .before .before .before .delays-at .ensures)
 
 sub-write-text : tie.Need-sub-write-text
-sub-write-text c = omega (arith, c .before .before .before .before .before .before .before .before .before .before .before .before .before .before .before .before .before .before .before .before .before .before .before .before .before .before .pre .settling .room .packed, c .before .before .before .before .before .before .before .before .before .before .before .before .before .before .before .settle .ensures .1 .long, c .before .before .before .before .before .before .before .before .before .before .before .before .before .before .before .before .before .before .before .before .before .before .before .before .before .before .good, c .before .before .before .before .outs-at .ensures, c .before .before .before .delays-at .ensures)
+sub-write-text c =
+    let start = c .before .before .before .before .before .before .before .before .before .before .before .before .before .before .before .before .before .before .before .before .before .before .before .before .before .before in
+    omega (arith, start .pre .settling .room .packed, c .before .before .before .before .before .before .before .before .before .before .before .before .before .before .before .settle .ensures .1 .long, start .good, c .before .before .before .before .outs-at .ensures, c .before .before .before .delays-at .ensures)
 
 part-write-text-start : tie.Need-part-write-text-start
-part-write-text-start c = omega (arith, c .before .before .before .before .before .before .before .before .before .before .before .before .before .before .before .before .before .before .before .before .before .before .before .before .before .before .pre .settling .room .packed, c .before .before .before .before .before .before .before .before .before .before .before .before .before .before .before .settle .ensures .1 .long, c .before .before .before .before .before .before .before .before .before .before .before .before .before .before .before .before .before .before .before .before .before .before .before .before .before .before .good, c .before .before .before .before .outs-at .ensures, c .before .before .before .delays-at .ensures)
+part-write-text-start c =
+    let start = c .before .before .before .before .before .before .before .before .before .before .before .before .before .before .before .before .before .before .before .before .before .before .before .before .before .before in
+    omega (arith, start .pre .settling .room .packed, c .before .before .before .before .before .before .before .before .before .before .before .before .before .before .before .settle .ensures .1 .long, start .good, c .before .before .before .before .outs-at .ensures, c .before .before .before .delays-at .ensures)
 
 part-write-text-end : tie.Need-part-write-text-end
 part-write-text-end c = search needs
 
 mul-write-text-2 : tie.Need-mul-write-text-2
-mul-write-text-2 c = omega (arith, c .before .before .before .before .before .before .before .before .before .before .before .before .before .before .before .before .before .before .before .before .before .before .before .before .before .before .before .pre .settling .room .packed, c .before .before .before .before .before .before .before .before .before .before .before .before .before .before .before .before .settle .ensures .1 .long, c .before .before .before .before .before .before .before .before .before .before .before .before .before .before .before .before .before .before .before .before .before .before .before .before .before .before .before .good, c .before .before .before .before .before .outs-at .ensures, c .before .before .before .before .delays-at .ensures)
+mul-write-text-2 c =
+    let start = c .before .before .before .before .before .before .before .before .before .before .before .before .before .before .before .before .before .before .before .before .before .before .before .before .before .before .before in
+    omega (arith, start .pre .settling .room .packed, c .before .before .before .before .before .before .before .before .before .before .before .before .before .before .before .before .settle .ensures .1 .long, start .good, c .before .before .before .before .before .outs-at .ensures, c .before .before .before .before .delays-at .ensures)
 
 sub-write-text-2 : tie.Need-sub-write-text-2
-sub-write-text-2 c = omega (arith, c .before .before .before .before .before .before .before .before .before .before .before .before .before .before .before .before .before .before .before .before .before .before .before .before .before .before .before .pre .settling .room .packed, c .before .before .before .before .before .before .before .before .before .before .before .before .before .before .before .before .settle .ensures .1 .long, c .before .before .before .before .before .before .before .before .before .before .before .before .before .before .before .before .before .before .before .before .before .before .before .before .before .before .before .good, c .before .before .before .before .before .outs-at .ensures, c .before .before .before .before .delays-at .ensures)
+sub-write-text-2 c =
+    let start = c .before .before .before .before .before .before .before .before .before .before .before .before .before .before .before .before .before .before .before .before .before .before .before .before .before .before .before in
+    omega (arith, start .pre .settling .room .packed, c .before .before .before .before .before .before .before .before .before .before .before .before .before .before .before .before .settle .ensures .1 .long, start .good, c .before .before .before .before .before .outs-at .ensures, c .before .before .before .before .delays-at .ensures)
 
 part-write-text-start-2 : tie.Need-part-write-text-start-2
-part-write-text-start-2 c = omega (arith, c .before .before .before .before .before .before .before .before .before .before .before .before .before .before .before .before .before .before .before .before .before .before .before .before .before .before .before .pre .settling .room .packed, c .before .before .before .before .before .before .before .before .before .before .before .before .before .before .before .before .settle .ensures .1 .long, c .before .before .before .before .before .before .before .before .before .before .before .before .before .before .before .before .before .before .before .before .before .before .before .before .before .before .before .good, c .before .before .before .before .before .outs-at .ensures, c .before .before .before .before .delays-at .ensures)
+part-write-text-start-2 c =
+    let start = c .before .before .before .before .before .before .before .before .before .before .before .before .before .before .before .before .before .before .before .before .before .before .before .before .before .before .before in
+    omega (arith, start .pre .settling .room .packed, c .before .before .before .before .before .before .before .before .before .before .before .before .before .before .before .before .settle .ensures .1 .long, start .good, c .before .before .before .before .before .outs-at .ensures, c .before .before .before .before .delays-at .ensures)
 
 part-write-text-end-2 : tie.Need-part-write-text-end-2
 part-write-text-end-2 c = search needs
 
 write-text-requires : tie.Need-write-text-requires
 write-text-requires c κs =
+    let settle = c .before .before .before .before .before .before .before .before .before .before .before .before .before .before .before .before .before .before .settle in
     let start = c .before .before .before .before .before .before .before .before .before .before .before .before .before .before .before .before .before .before .before .before .before .before .before .before .before .before .before .before .before in
     let z = start .args .z in
-    let k = c .before .before .before .before .before .before .before .before .before .before .before .before .before .before .before .before .before .before .settle .kept .1 .1 .1 .1 .1 .1 .1 .1 in
-    let last = c .before .before .before .before .before .before .before .before .before .before .before .before .before .before .before .before .before .before .settle .last .1 .1 .1 .1 .1 .1 .1 .1 in
-    let u = cover-settled (c .before .before .before .before .before .before .before .before .before .before .before .before .before .before .before .before .before .before .settle .ensures .0) (omega (arith, c .before .before .before .before .before .before .before .before .before .if1 .left)) in
+    let k = settle .kept .1 .1 .1 .1 .1 .1 .1 .1 in
+    let last = settle .last .1 .1 .1 .1 .1 .1 .1 .1 in
+    let u = cover-settled (settle .ensures .0) (omega (arith, c .before .before .before .before .before .before .before .before .before .if1 .left)) in
     let h = start .pre .settling .facts .gates-high in (
       rw (c .before .before .before .before .before .before .before .outs-at .ensures, c .before .before .before .before .before .before .delays-at .ensures)
-          (two-parts (λ (os oc : List ℕ). Listable (keptIn (z .inputs) (z .gates) (c .before .before .before .before .before .before .before .before .before .before .before .before .before .before .before .before .before .before .settle .result .period) (last .0) (last .1 .0) (last .1 .1 .0)) os oc (z .outputs) (start .args .out .now))
-          (c .before .before .before .before .before .before .before .before .before .before .before .before .before .before .before .before .before .before .settle .last .1 .0) (outsAt (z .inputs) (z .gates)) (delaysAt (z .inputs) (z .gates) (z .outputs))
-          (cover-listable (start .pre .settling) (c .before .before .before .before .before .before .before .before .before .before .before .before .before .before .before .before .before .before .settle .ensures .1) (start .pre .room) refl refl (rows-long h (k .0) (k .1 .0) (k .1 .1 .0)) u)),
+          (two-parts (λ (os oc : List ℕ). Listable (keptIn (z .inputs) (z .gates) (settle .result .period) (last .0) (last .1 .0) (last .1 .1 .0)) os oc (z .outputs) (start .args .out .now))
+          (settle .last .1 .0) (outsAt (z .inputs) (z .gates)) (delaysAt (z .inputs) (z .gates) (z .outputs))
+          (cover-listable (start .pre .settling) (settle .ensures .1) (start .pre .room) refl refl (rows-long h (k .0) (k .1 .0) (k .1 .1 .0)) u)),
       omega (arith, h, k .1 .0),
     )
 
@@ -114,13 +127,14 @@ same-length-4 c = search needs
 
 returns-2 : tie.Need-returns-2
 returns-2 c =
+    let settle = c .before .before .before .before .before .before .before .before .before .before .before .before .before .before .before .before .before .before .before .before .before .settle in
     let start = c .before .before .before .before .before .before .before .before .before .before .before .before .before .before .before .before .before .before .before .before .before .before .before .before .before .before .before .before .before .before .before .before in
     let z = start .args .z in
-    let last = c .before .before .before .before .before .before .before .before .before .before .before .before .before .before .before .before .before .before .before .before .before .settle .last .1 .1 .1 .1 .1 .1 .1 .1 in
+    let last = settle .last .1 .1 .1 .1 .1 .1 .1 .1 in
     let text = c .before .before .write-text in
-    lists-cover (start .pre .settling) (c .before .before .before .before .before .before .before .before .before .before .before .before .before .before .before .before .before .before .before .before .before .settle .ensures .1) (cover-settled (c .before .before .before .before .before .before .before .before .before .before .before .before .before .before .before .before .before .before .before .before .before .settle .ensures .0) (omega (arith, c .before .before .before .before .before .before .before .before .before .before .before .before .if1 .left)))
-    (two-wholes (λ (os oc : List ℕ). Lists (keptIn (z .inputs) (z .gates) (c .before .before .before .before .before .before .before .before .before .before .before .before .before .before .before .before .before .before .before .before .before .settle .result .period) (last .0) (last .1 .0) (last .1 .1 .0)) os oc (z .outputs) (start .args .out .now) (text .last .1 .1 .1 .1 .1 .1 .1 .0) (text .result))
-    (c .before .before .before .before .before .before .before .before .before .before .before .before .before .before .before .before .before .before .before .before .before .settle .last .1 .0) (outsAt (z .inputs) (z .gates)) (delaysAt (z .inputs) (z .gates) (z .outputs)) (rw (c .before .before .before .before .before .before .before .before .before .before .outs-at .ensures, c .before .before .before .before .before .before .before .before .before .delays-at .ensures) at (text .ensures)))
+    lists-cover (start .pre .settling) (settle .ensures .1) (cover-settled (settle .ensures .0) (omega (arith, c .before .before .before .before .before .before .before .before .before .before .before .before .if1 .left)))
+    (two-wholes (λ (os oc : List ℕ). Lists (keptIn (z .inputs) (z .gates) (settle .result .period) (last .0) (last .1 .0) (last .1 .1 .0)) os oc (z .outputs) (start .args .out .now) (text .last .1 .1 .1 .1 .1 .1 .1 .0) (text .result))
+    (settle .last .1 .0) (outsAt (z .inputs) (z .gates)) (delaysAt (z .inputs) (z .gates) (z .outputs)) (rw (c .before .before .before .before .before .before .before .before .before .before .outs-at .ensures, c .before .before .before .before .before .before .before .before .before .delays-at .ensures) at (text .ensures)))
 
 pub list-read-spec : {M : Type 1} → statement M
 list-read-spec =

@@ -25,8 +25,9 @@ slice-relend-prefix-find-period c = search needs
 
 slice-aggregate-find-period-2 : tie.Need-slice-aggregate-find-period-2
 slice-aggregate-find-period-2 c =
-    let e = c .before .before .before .before .before .before .before .before .before .pre .0 in
-    let a = c .before .before .before .before .before .before .before .before .before .args in
+    let start = c .before .before .before .before .before .before .before .before .before in
+    let e = start .pre .0 in
+    let a = start .args in
     let h : (a .s .inputs + a .s .gates) * a .s .width ≤ length (a .table .now) = omega (arith, e .size, e .fits) in
     sym (length-take-le ((a .s .inputs + a .s .gates) * a .s .width) (a .table .now) h)
 
@@ -61,25 +62,29 @@ slice-aggregate-choose c = search needs
 
 slice-relend-prefix-choose : tie.Need-slice-relend-prefix-choose
 slice-relend-prefix-choose c =
-    let e = c .before .before .before .before .before .before .before .before .before .before .before .before .before .before .before .before .before .before .before .before .before .before .before .before .before .pre .0 in
-    let a = c .before .before .before .before .before .before .before .before .before .before .before .before .before .before .before .before .before .before .before .before .before .before .before .before .before .args in
+    let find-period = c .before .before .before .before .before .before .before .before .before .before .find-period in
+    let start = c .before .before .before .before .before .before .before .before .before .before .before .before .before .before .before .before .before .before .before .before .before .before .before .before .before in
+    let e = start .pre .0 in
+    let a = start .args in
     let t = a .table .now in
     let n = (a .s .inputs + a .s .gates) * a .s .width in
     let h : n ≤ length t = omega (arith, e .size, e .fits) in
-    let x = c .before .before .before .before .before .before .before .before .before .before .find-period .last .1 .1 .1 .0 in
-    let l = length-behind x t n h (c .before .before .before .before .before .before .before .before .before .before .find-period .kept .1 .1 .1 .0) in
+    let x = find-period .last .1 .1 .1 .0 in
+    let l = length-behind x t n h (find-period .kept .1 .1 .1 .0) in
     let k : n ≤ length (x ++ drop n t) = omega arith in
     k
 
 slice-aggregate-choose-2 : tie.Need-slice-aggregate-choose-2
 slice-aggregate-choose-2 c =
-    let e = c .before .before .before .before .before .before .before .before .before .before .before .before .before .before .before .before .before .before .before .before .before .before .before .before .before .before .pre .0 in
-    let a = c .before .before .before .before .before .before .before .before .before .before .before .before .before .before .before .before .before .before .before .before .before .before .before .before .before .before .args in
+    let find-period = c .before .before .before .before .before .before .before .before .before .before .before .find-period in
+    let start = c .before .before .before .before .before .before .before .before .before .before .before .before .before .before .before .before .before .before .before .before .before .before .before .before .before .before in
+    let e = start .pre .0 in
+    let a = start .args in
     let t = a .table .now in
     let n = (a .s .inputs + a .s .gates) * a .s .width in
     let h : n ≤ length t = omega (arith, e .size, e .fits) in
-    let x = c .before .before .before .before .before .before .before .before .before .before .before .find-period .last .1 .1 .1 .0 in
-    let l = length-behind x t n h (c .before .before .before .before .before .before .before .before .before .before .before .find-period .kept .1 .1 .1 .0) in
+    let x = find-period .last .1 .1 .1 .0 in
+    let l = length-behind x t n h (find-period .kept .1 .1 .1 .0) in
     let k : n ≤ length (x ++ drop n t) = omega arith in
     sym (length-take-le n (x ++ drop n t) k)
 
@@ -97,40 +102,48 @@ slice-aggregate-choose-6 c = search needs
 
 choose-requires : tie.Need-choose-requires
 choose-requires c κs =
-    (rest-part _ (c .before .before .before .before .before .before .before .before .before .before .before .before .before .before .before .before .before .find-period .ensures .0), (c .before .before .before .before .before .before .before .before .before .before .before .before .before .before .before .before .before .before .before .before .before .before .before .before .before .before .before .before .before .before .before .before .pre .0 .parts, engine-chooses (c .before .before .before .before .before .before .before .before .before .before .before .before .before .before .before .before .before .before .before .before .before .before .before .before .before .before .before .before .before .before .before .before .pre .0) (c .before .before .before .before .before .before .before .before .before .before .before .before .before .before .before .before .before .before .before .before .before .before .before .before .before .before .before .before .before .before .before .before .pre .1) (c .before .before .before .before .before .before .before .before .before .before .before .before .before .before .before .before .before .find-period .ensures .1)))
+    let find-period = c .before .before .before .before .before .before .before .before .before .before .before .before .before .before .before .before .before .find-period in
+    let start = c .before .before .before .before .before .before .before .before .before .before .before .before .before .before .before .before .before .before .before .before .before .before .before .before .before .before .before .before .before .before .before .before in
+    (rest-part _ (find-period .ensures .0), (start .pre .0 .parts, engine-chooses (start .pre .0) (start .pre .1) (find-period .ensures .1)))
 
 tabulate-requires : tie.Need-tabulate-requires
 tabulate-requires c κs =
-    let e = c .before .before .before .before .before .before .before .before .before .before .before .before .before .before .before .before .before .before .before .before .before .before .before .before .before .before .before .before .before .before .before .before .before .before .before .before .before .before .before .before .before .before .before .before .before .pre .0 in
-    let a = c .before .before .before .before .before .before .before .before .before .before .before .before .before .before .before .before .before .before .before .before .before .before .before .before .before .before .before .before .before .before .before .before .before .before .before .before .before .before .before .before .before .before .before .before .before .args in
+    let choose = c .before .before .before .before .before .before .before .before .before .before .before .before .choose in
+    let find-period = c .before .before .before .before .before .before .before .before .before .before .before .before .before .before .before .before .before .before .before .before .before .before .before .before .before .before .before .before .before .before .find-period in
+    let start = c .before .before .before .before .before .before .before .before .before .before .before .before .before .before .before .before .before .before .before .before .before .before .before .before .before .before .before .before .before .before .before .before .before .before .before .before .before .before .before .before .before .before .before .before .before in
+    let e = start .pre .0 in
+    let a = start .args in
     let t = a .table .now in
     let n = (a .s .inputs + a .s .gates) * a .s .width in
     let h : n ≤ length t = omega (arith, e .size, e .fits) in
-    let x = c .before .before .before .before .before .before .before .before .before .before .before .before .before .before .before .before .before .before .before .before .before .before .before .before .before .before .before .before .before .before .find-period .last .1 .1 .1 .0 in
-    let l = length-behind x t n h (c .before .before .before .before .before .before .before .before .before .before .before .before .before .before .before .before .before .before .before .before .before .before .before .before .before .before .before .before .before .before .find-period .kept .1 .1 .1 .0) in
+    let x = find-period .last .1 .1 .1 .0 in
+    let l = length-behind x t n h (find-period .kept .1 .1 .1 .0) in
     let k : n ≤ length (x ++ drop n t) = omega arith in
-    let y = c .before .before .before .before .before .before .before .before .before .before .before .before .choose .last .1 .1 .1 .0 in
-    let m = length-behind y (x ++ drop n t) n k (c .before .before .before .before .before .before .before .before .before .before .before .before .choose .kept .1 .1 .1 .0) in
-    let rows = c .before .before .before .before .before .before .before .before .before .before .before .before .choose .kept .1 .1 .1 .1 .1 .1 .1 .1 .1 .1 .0 in (
-      (engine-tabulates e (c .before .before .before .before .before .before .before .before .before .before .before .before .before .before .before .before .before .before .before .before .before .before .before .before .before .before .before .before .before .before .before .before .before .before .before .before .before .before .before .before .before .before .before .before .before .pre .1) rows (c .before .before .before .before .before .before .before .before .before .before .before .before .before .before .before .before .before .before .before .before .before .before .before .before .before .before .before .before .before .before .find-period .ensures .1) (c .before .before .before .before .before .before .before .before .before .before .before .before .before .before .before .before .before .before .before .before .before .if1 .left) (c .before .before .before .before .before .before .before .before .before .before .before .before .choose .ensures .1), c .before .before .before .before .before .before .before .before .before .before .before .before .before .before .before .before .before .before .before .before .before .before .before .before .before .before .before .before .before .before .before .before .before .before .before .before .before .before .before .before .before .before .before .before .before .pre .1 .atLuts),
+    let y = choose .last .1 .1 .1 .0 in
+    let m = length-behind y (x ++ drop n t) n k (choose .kept .1 .1 .1 .0) in
+    let rows = choose .kept .1 .1 .1 .1 .1 .1 .1 .1 .1 .1 .0 in (
+      (engine-tabulates e (start .pre .1) rows (find-period .ensures .1) (c .before .before .before .before .before .before .before .before .before .before .before .before .before .before .before .before .before .before .before .before .before .if1 .left) (choose .ensures .1), start .pre .1 .atLuts),
       (
-        (omega (arith, e .parts), omega (arith, rows, c .before .before .before .before .before .before .before .before .before .before .before .before .before .before .before .before .before .before .before .before .before .before .before .before .before .before .before .before .before .before .before .before .before .before .before .before .before .before .before .before .before .before .before .before .before .pre .1 .atRows)),
-        (omega (arith, m, l, e .size), clear-behind y (x ++ drop n t) n (c .before .before .before .before .before .before .before .before .before .before .before .before .choose .ensures .0 .cleared .zero) (clear-behind x t n (c .before .before .before .before .before .before .before .before .before .before .before .before .before .before .before .before .before .before .before .before .before .before .before .before .before .before .before .before .before .before .find-period .ensures .0 .cleared .zero) (e .clear))),
+        (omega (arith, e .parts), omega (arith, rows, start .pre .1 .atRows)),
+        (omega (arith, m, l, e .size), clear-behind y (x ++ drop n t) n (choose .ensures .0 .cleared .zero) (clear-behind x t n (find-period .ensures .0 .cleared .zero) (e .clear))),
       ),
     )
 
 same-length-3 : tie.Need-same-length-3
 same-length-3 c =
-    let e = c .before .before .before .before .before .before .before .before .before .before .before .before .before .before .before .before .before .before .before .before .before .before .before .before .before .before .before .before .before .before .before .before .before .before .before .before .before .before .before .before .before .before .before .before .before .before .before .before .before .before .pre .0 in
-    let a = c .before .before .before .before .before .before .before .before .before .before .before .before .before .before .before .before .before .before .before .before .before .before .before .before .before .before .before .before .before .before .before .before .before .before .before .before .before .before .before .before .before .before .before .before .before .before .before .before .before .before .args in
+    let choose = c .before .before .before .before .before .before .before .before .before .before .before .before .before .before .before .before .before .choose in
+    let find-period = c .before .before .before .before .before .before .before .before .before .before .before .before .before .before .before .before .before .before .before .before .before .before .before .before .before .before .before .before .before .before .before .before .before .before .before .find-period in
+    let start = c .before .before .before .before .before .before .before .before .before .before .before .before .before .before .before .before .before .before .before .before .before .before .before .before .before .before .before .before .before .before .before .before .before .before .before .before .before .before .before .before .before .before .before .before .before .before .before .before .before .before in
+    let e = start .pre .0 in
+    let a = start .args in
     let t = a .table .now in
     let n = (a .s .inputs + a .s .gates) * a .s .width in
     let h : n ≤ length t = omega (arith, e .size, e .fits) in
-    let x = c .before .before .before .before .before .before .before .before .before .before .before .before .before .before .before .before .before .before .before .before .before .before .before .before .before .before .before .before .before .before .before .before .before .before .before .find-period .last .1 .1 .1 .0 in
-    let l = length-behind x t n h (c .before .before .before .before .before .before .before .before .before .before .before .before .before .before .before .before .before .before .before .before .before .before .before .before .before .before .before .before .before .before .before .before .before .before .before .find-period .kept .1 .1 .1 .0) in
+    let x = find-period .last .1 .1 .1 .0 in
+    let l = length-behind x t n h (find-period .kept .1 .1 .1 .0) in
     let k : n ≤ length (x ++ drop n t) = omega arith in
-    let y = c .before .before .before .before .before .before .before .before .before .before .before .before .before .before .before .before .before .choose .last .1 .1 .1 .0 in
-    let m = length-behind y (x ++ drop n t) n k (c .before .before .before .before .before .before .before .before .before .before .before .before .before .before .before .before .before .choose .kept .1 .1 .1 .0) in
+    let y = choose .last .1 .1 .1 .0 in
+    let m = length-behind y (x ++ drop n t) n k (choose .kept .1 .1 .1 .0) in
     c .before .before .before .before .tabulate .kept .1 .1 .1 .1 .1 .1 .0 ∙ m ∙ l
 
 same-length-4 : tie.Need-same-length-4

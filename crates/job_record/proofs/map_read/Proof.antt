@@ -53,10 +53,12 @@ slice-aggregate-write-cover-3 c = search needs
 
 write-cover-requires : tie.Need-write-cover-requires
 write-cover-requires c κs =
-    let k = c .before .before .before .before .before .before .before .before .before .before .before .before .before .before .settle .kept .1 .1 .1 .1 .1 .1 .1 .1 in
-    let h = c .before .before .before .before .before .before .before .before .before .before .before .before .before .before .before .before .before .before .before .before .before .before .before .before .before .before .before .pre .settling .facts .gates-high in
-    let u = cover-settled (c .before .before .before .before .before .before .before .before .before .before .before .before .before .before .settle .ensures .0) (omega (arith, c .before .before .before .before .if1 .left)) in
-    (cover-writable (c .before .before .before .before .before .before .before .before .before .before .before .before .before .before .before .before .before .before .before .before .before .before .before .before .before .before .before .pre .settling) refl refl (rows-long h (k .0) (k .1 .0) (k .1 .1 .0)) (u .passed) (u .cover) _ (c .before .before .before .before .before .before .before .before .before .before .before .before .before .before .before .before .before .before .before .before .before .before .before .before .before .before .before .pre .room), omega (arith, h, k .1 .0))
+    let settle = c .before .before .before .before .before .before .before .before .before .before .before .before .before .before .settle in
+    let start = c .before .before .before .before .before .before .before .before .before .before .before .before .before .before .before .before .before .before .before .before .before .before .before .before .before .before .before in
+    let k = settle .kept .1 .1 .1 .1 .1 .1 .1 .1 in
+    let h = start .pre .settling .facts .gates-high in
+    let u = cover-settled (settle .ensures .0) (omega (arith, c .before .before .before .before .if1 .left)) in
+    (cover-writable (start .pre .settling) refl refl (rows-long h (k .0) (k .1 .0) (k .1 .1 .0)) (u .passed) (u .cover) _ (start .pre .room), omega (arith, h, k .1 .0))
 
 slice-aggregate-write-image : tie.Need-slice-aggregate-write-image
 slice-aggregate-write-image c = search needs
@@ -66,12 +68,13 @@ slice-aggregate-write-image-2 c = search needs
 
 write-image-requires : tie.Need-write-image-requires
 write-image-requires c κs =
+    let start = c .before .before .before .before .before .before .before .before .before .before .before .before .before .before .before .before .before .before .before .before .before .before .before .before .before .before .before .before .before .before .before .before .before in
     let k = c .before .before .before .before .before .before .before .before .before .before .before .before .before .before .before .before .before .before .before .before .settle .kept .1 .1 .1 .1 .1 .1 .1 .1 in
-    let f = c .before .before .before .before .before .before .before .before .before .before .before .before .before .before .before .before .before .before .before .before .before .before .before .before .before .before .before .before .before .before .before .before .before .pre .settling .facts in
+    let f = start .pre .settling .facts in
     record {
       atMarks = omega (arith, k .1 .0, f .gates-high);
       atLuts = omega (arith, k .1 .1 .0, f .gates-high);
-      room = λ n. omega (arith, c .before .before .before .before .before .before .before .before .before .before .before .before .before .before .before .before .before .before .before .before .before .before .before .before .before .before .before .before .before .before .before .before .before .pre .load n, f .gates-high);
+      room = λ n. omega (arith, start .pre .load n, f .gates-high);
     }
 
 same-length-3 : tie.Need-same-length-3
@@ -88,10 +91,13 @@ same-length-6 c = search needs
 
 returns-2 : tie.Need-returns-2
 returns-2 c =
-    let k = c .before .before .before .before .before .before .before .before .before .before .before .before .before .before .before .before .before .before .before .before .before .before .before .settle .kept .1 .1 .1 .1 .1 .1 .1 .1 in
-    let u = cover-settled (c .before .before .before .before .before .before .before .before .before .before .before .before .before .before .before .before .before .before .before .before .before .before .before .settle .ensures .0) (omega (arith, c .before .before .before .before .before .before .before .before .before .before .before .before .before .if1 .left)) in
-    let l = rows-long (c .before .before .before .before .before .before .before .before .before .before .before .before .before .before .before .before .before .before .before .before .before .before .before .before .before .before .before .before .before .before .before .before .before .before .before .before .pre .settling .facts .gates-high) (k .0) (k .1 .0) (k .1 .1 .0) in
-    net-covered _ _ u (cover-small (c .before .before .before .before .before .before .before .before .before .before .before .before .before .before .before .before .before .before .before .before .before .before .before .before .before .before .before .before .before .before .before .before .before .before .before .before .pre .settling) refl refl l (u .passed) (u .cover)) (c .before .before .before .before .before .before .before .before .write-cover .ensures .0) (c .before .before .before .before .before .before .before .before .write-cover .ensures .1)
+    let write-cover = c .before .before .before .before .before .before .before .before .write-cover in
+    let settle = c .before .before .before .before .before .before .before .before .before .before .before .before .before .before .before .before .before .before .before .before .before .before .before .settle in
+    let start = c .before .before .before .before .before .before .before .before .before .before .before .before .before .before .before .before .before .before .before .before .before .before .before .before .before .before .before .before .before .before .before .before .before .before .before .before in
+    let k = settle .kept .1 .1 .1 .1 .1 .1 .1 .1 in
+    let u = cover-settled (settle .ensures .0) (omega (arith, c .before .before .before .before .before .before .before .before .before .before .before .before .before .if1 .left)) in
+    let l = rows-long (start .pre .settling .facts .gates-high) (k .0) (k .1 .0) (k .1 .1 .0) in
+    net-covered _ _ u (cover-small (start .pre .settling) refl refl l (u .passed) (u .cover)) (write-cover .ensures .0) (write-cover .ensures .1)
     (c .before .before .write-image .ensures .image _ (record { gates-are = refl; marks-are = refl; luts-are = refl }) (u .cover .whole))
 
 pub map-read-spec : {M : Type 1} → statement M

@@ -79,10 +79,11 @@ shared-slice-copy-out-lag-of c = search needs
 lag-of-requires : tie.Need-lag-of-requires
 unfolding label
 lag-of-requires c κs =
-    let a = c .before .before .before .before .before .before .before .args in
+    let start = c .before .before .before .before .before .before .before in
+    let a = start .args in
     let k = (keptIn (a .s .inputs) (a .s .gates) (a .s .period) (now (a .labels)) (now (a .rows)) (now (a .tables))) in
-    let h = c .before .before .before .before .before .before .before .pre .0 .arrays in
-    lag-asked (label k (a .g) (a .at) (c .before .before .before .before .before .before .before .pre .0) (c .before .before .if1 .left)) (a .s .period) (lent k (a .g) (a .at) (c .before .before .before .before .before .before .before .pre .0) (c .before .before .if1 .left)) (h .least) (h .period)
+    let h = start .pre .0 .arrays in
+    lag-asked (label k (a .g) (a .at) (start .pre .0) (c .before .before .if1 .left)) (a .s .period) (lent k (a .g) (a .at) (start .pre .0) (c .before .before .if1 .left)) (h .least) (h .period)
 
 mul-put-front : tie.Need-mul-put-front
 mul-put-front c = search needs
@@ -93,10 +94,12 @@ shared-slice-copy-out-put-front c = search needs
 put-front-requires : tie.Need-put-front-requires
 unfolding label
 put-front-requires c κs =
-    let a = c .before .before .before .before .before .before .before .before .before .before .args in
+    let if1 = c .before .before .before .before .before .if1 in
+    let start = c .before .before .before .before .before .before .before .before .before .before in
+    let a = start .args in
     let k = (keptIn (a .s .inputs) (a .s .gates) (a .s .period) (now (a .labels)) (now (a .rows)) (now (a .tables))) in
-    let r = c .before .before .before .before .before .before .before .before .before .before .pre .0 .room in
-    ((rw (lent-label k (a .g) (a .at) (c .before .before .before .before .before .before .before .before .before .before .pre .0) (c .before .before .before .before .before .if1 .left)) (lent k (a .g) (a .at) (c .before .before .before .before .before .before .before .before .before .before .pre .0) (c .before .before .before .before .before .if1 .left)), rw (lagged k (a .g) (a .at) (c .before .before .before .before .before .before .before .before .before .before .pre .0) (c .before .before .before .before .before .if1 .left) (c .before .before .lag-of .result) (c .before .before .lag-of .ensures)) (small-lag k (a .g) (a .at) (c .before .before .before .before .before .before .before .before .before .before .pre .0) (c .before .before .before .before .before .if1 .left))), omega arith)
+    let r = start .pre .0 .room in
+    ((rw (lent-label k (a .g) (a .at) (start .pre .0) (if1 .left)) (lent k (a .g) (a .at) (start .pre .0) (if1 .left)), rw (lagged k (a .g) (a .at) (start .pre .0) (if1 .left) (c .before .before .lag-of .result) (c .before .before .lag-of .ensures)) (small-lag k (a .g) (a .at) (start .pre .0) (if1 .left))), omega arith)
 
 add-n : tie.Need-add-n
 add-n c = search needs
@@ -115,9 +118,10 @@ shared-slice-read-low c = search needs
 
 low-requires : tie.Need-low-requires
 low-requires c κs =
-    let a = c .before .before .before .before .before .before .before .before .before .before .before .before .before .before .before .before .args in
+    let start = c .before .before .before .before .before .before .before .before .before .before .before .before .before .before .before .before in
+    let a = start .args in
     let k = (keptIn (a .s .inputs) (a .s .gates) (a .s .period) (now (a .labels)) (now (a .rows)) (now (a .tables))) in
-    let f = held k (a .g) (a .at) (c .before .before .before .before .before .before .before .before .before .before .before .before .before .before .before .before .pre .0) (c .before .before .before .before .before .before .before .before .before .before .before .if1 .left) .few in
+    let f = held k (a .g) (a .at) (start .pre .0) (c .before .before .before .before .before .before .before .before .before .before .before .if1 .left) .few in
     omega (arith, f, size-at (a .s .gates) (now (a .rows)) (a .g))
 
 mul-a : tie.Need-mul-a
@@ -159,13 +163,14 @@ mul-put-back-3 c = search needs
 put-back-requires : tie.Need-put-back-requires
 unfolding label
 put-back-requires c κs =
-    let a = c .before .before .before .before .before .before .before .before .before .before .before .before .before .before .before .before .before .before .before .before .before .before .args in
+    let start = c .before .before .before .before .before .before .before .before .before .before .before .before .before .before .before .before .before .before .before .before .before .before in
+    let a = start .args in
     let k = (keptIn (a .s .inputs) (a .s .gates) (a .s .period) (now (a .labels)) (now (a .rows)) (now (a .tables))) in
-    let h = c .before .before .before .before .before .before .before .before .before .before .before .before .before .before .before .before .before .before .before .before .before .before .pre .0 .arrays in
-    let i = c .before .before .before .before .before .before .before .before .before .before .before .before .before .before .before .before .before .before .before .before .before .before .pre .0 .gate in
-    let f = held k (a .g) (a .at) (c .before .before .before .before .before .before .before .before .before .before .before .before .before .before .before .before .before .before .before .before .before .before .pre .0) (c .before .before .before .before .before .before .before .before .before .before .before .before .before .before .before .before .before .if1 .left) .few in (
+    let h = start .pre .0 .arrays in
+    let i = start .pre .0 .gate in
+    let f = held k (a .g) (a .at) (start .pre .0) (c .before .before .before .before .before .before .before .before .before .before .before .before .before .before .before .before .before .if1 .left) .few in (
       row-lent (a .s .gates) (now (a .rows)) (λ (no ba : List ℕ) (n : ℕ). (n ≤ stride) × (stride * a .g + n ≤ length no) × (stride * a .g + n ≤ length ba)) (a .g) (f, omega arith, omega arith),
-      put-room 283 (c .before .before .before .before .before .before .before .before .before .before .before .put-front .ensures) (c .before .before .before .before .before .before .before .before .before .before .before .before .before .before .before .before .before .before .before .before .before .before .pre .0 .room),
+      put-room 283 (c .before .before .before .before .before .before .before .before .before .before .before .put-front .ensures) (start .pre .0 .room),
     )
 
 same-length : tie.Need-same-length
@@ -174,11 +179,15 @@ same-length c = search needs
 returns-2 : tie.Need-returns-2
 unfolding label
 returns-2 c =
-    let a = c .before .before .before .before .before .before .before .before .before .before .before .before .before .before .before .before .before .before .before .before .before .before .before .before .before .args in
+    let put-front = c .before .before .before .before .before .before .before .before .before .before .before .before .before .before .put-front in
+    let lag-of = c .before .before .before .before .before .before .before .before .before .before .before .before .before .before .before .before .before .lag-of in
+    let if1 = c .before .before .before .before .before .before .before .before .before .before .before .before .before .before .before .before .before .before .before .before .if1 in
+    let start = c .before .before .before .before .before .before .before .before .before .before .before .before .before .before .before .before .before .before .before .before .before .before .before .before .before in
+    let a = start .args in
     let k = (keptIn (a .s .inputs) (a .s .gates) (a .s .period) (now (a .labels)) (now (a .rows)) (now (a .tables))) in
-    put-same (sym (line-some k (a .g) (c .before .before .before .before .before .before .before .before .before .before .before .before .before .before .before .before .before .before .before .before .if1 .left)))
-    (put-then (front k (a .g) (a .at) (c .before .before .before .before .before .before .before .before .before .before .before .before .before .before .before .before .before .before .before .before .before .before .before .before .before .pre .0) (c .before .before .before .before .before .before .before .before .before .before .before .before .before .before .before .before .before .before .before .before .if1 .left) (c .before .before .before .before .before .before .before .before .before .before .before .before .before .before .before .before .before .lag-of .result) (c .before .before .before .before .before .before .before .before .before .before .before .before .before .before .before .before .before .lag-of .ensures) (c .before .before .before .before .before .before .before .before .before .before .before .before .before .before .put-front .ensures))
-    (row-whole (a .s .gates) (now (a .rows)) (λ (no ba : List ℕ) (n : ℕ). Put 283 (c .before .before .before .before .before .before .before .before .before .before .before .before .before .before .put-front .result) (lineBack n (shortTable n (getD (now (a .tables)) (a .g) 0)) no ba (stride * a .g)) (c .before .before .before .before .before .before .before .before .before .before .before .before .before .before .put-front .last .1 .1 .1 .1 .0) (c .before .before .put-back .last .1 .1 .1 .1 .1 .1 .0) (c .before .before .put-back .result)) (a .g)
+    put-same (sym (line-some k (a .g) (if1 .left)))
+    (put-then (front k (a .g) (a .at) (start .pre .0) (if1 .left) (lag-of .result) (lag-of .ensures) (put-front .ensures))
+    (row-whole (a .s .gates) (now (a .rows)) (λ (no ba : List ℕ) (n : ℕ). Put 283 (put-front .result) (lineBack n (shortTable n (getD (now (a .tables)) (a .g) 0)) no ba (stride * a .g)) (put-front .last .1 .1 .1 .1 .0) (c .before .before .put-back .last .1 .1 .1 .1 .1 .1 .0) (c .before .before .put-back .result)) (a .g)
     (rw (c .before .before .before .before .before .before .before .before .low .ensures) at (c .before .before .put-back .ensures))))
 
 pub put-gate-spec : {M : Type 1} → statement M
