@@ -23,8 +23,8 @@ use Rattle.cover_records.specs.Listing.{refusalText}
 use Rattle.cover_records.specs.CheckLaws.{check-same}
 use Rattle.cover_records.specs.LoaderOutcome.{LoaderOutcome, loaderSized, loaderFit, loaderOutcome, tooShort}
 use Rattle.cover_records.specs.Outcomes.{Checked, checkNet, cleared, MapOutcome, MarkOutcome, mapSizes, mapChecked, mapSized, mapOutcome, markSizes, markChecked, markSized, markOutcome}
-use Rattle.text_bench.specs.BenchText.{benchText}
 use Rattle.job_bench.specs.BenchProgram.{benchSection, benchGraph, benchDrawn, benchOf, benchProgram}
+use Rattle.job_bench.specs.BenchJobLaws.{section-none, section-some}
 use Rattle.job_bench.specs.BenchInputs.{of-unknown, of-refused, of-drawn}
 use Rattle.job_bench.specs.LongBench.{bench-cut}
 use Rattle.demands.specs.TurnedBack.{IsNet}
@@ -115,14 +115,6 @@ module _ (k : ℕ) (known : between leastK mostK k ≡ true) (bytes : List ℕ) 
         go (yes a) (no b) c e = (10, unreached a b, λ pairs. e pairs ∙ (unfold benchGraph in refl))
         go (yes a) (yes b) (no c) e = (11, unled a b c, λ pairs. e pairs ∙ (unfold benchGraph in refl))
 
-section-some : (N : Net) (section pairs : List ℕ) → 0 < length section → benchSection N section pairs ≡ benchText N section pairs
-section-some N [] pairs h = absurd (omega arith)
-section-some N (b ∷ bytes) pairs h = refl
-
-section-none : (N : Net) (section pairs : List ℕ) → length section ≡ 0 → benchSection N section pairs ≡ refusalText 21
-section-none N [] pairs h = refl
-section-none N (b ∷ bytes) pairs h = absurd (omega arith)
-
 pub bench-run : BenchRun
 bench-run = record {
   net = drawn-net;
@@ -134,10 +126,10 @@ bench-run = record {
   run = λ s l. law.bench s l;
   only = λ s l section inputs b. law.bench-unique s l section inputs b;
   demand-2 = law.bench-run;
-  text = λ k known bytes d x r h pairs. passed k known bytes d x r pairs ∙ section-some (d .net) (d .section) pairs h;
+  text = λ k known bytes d x r h pairs. passed k known bytes d x r pairs ∙ sym (section-some (d .net) (d .section) pairs (λ e. omega (arith, h, e)));
   unknown = λ k h bytes pairs. of-unknown k bytes pairs (ap not h);
   walk = walk-told;
   graph = stopped;
-  none = λ k known bytes d x r h pairs. passed k known bytes d x r pairs ∙ section-none (d .net) (d .section) pairs h;
+  none = λ k known bytes d x r h pairs. passed k known bytes d x r pairs ∙ sym (section-none (d .net) (d .section) pairs h);
   unread = bench-cut;
 }
