@@ -1,4 +1,4 @@
--- The least period: a LUT for each gate alone meets G, so the first period that a cover meets exists, and it is at most G.
+-- The least period: a LUT for each gate alone meets the longest line of gates without registers, so G, and the first period that a cover meets exists, and is at most G.
 use mathlib.Core.Path.{_≡_, refl, sym, subst, ap, _∙_}
 use mathlib.Core.List.{List, [], _∷_, map}
 use mathlib.Core.Logic.{_⊎_, inl, inr, _↔_}
@@ -30,27 +30,25 @@ unfoldable pub levelsOf : {N : Net} {k : ℕ} → Passed N k → Levels N
 levelsOf P = levels (P .loopless)
 
 module _ {N : Net} {k : ℕ} (P : Passed N k) where
-  module _ (φ : ℕ) (enough : length (N .gates) ≤ φ) where
-    -- each gate labelled by the longest line of gates without registers that ends there
+  module _ (O : Levels N) (φ : ℕ) (enough : (v : ℕ) → O .level v ≤ φ) where
+    -- each gate labelled by its level, as that of the longest line of gates without registers that ends there
     unfoldable pub lineLabel : ℕ → ℤ
-    unfolding levelsOf
-    lineLabel v = pos (levelsOf P .level v)
+    lineLabel v = pos (O .level v)
 
-    line-pins : (v : ℕ) → IsGate N v → (q : Pin) → q ∈ pins N v → (c : ℕ) → q .count ≡ c → (lineLabel (q .src) -ℤ pos (φ * q .count)) ≤ℤ pos (levelsOf P .level v - 1)
+    line-pins : (v : ℕ) → IsGate N v → (q : Pin) → q ∈ pins N v → (c : ℕ) → q .count ≡ c → (lineLabel (q .src) -ℤ pos (φ * q .count)) ≤ℤ pos (O .level v - 1)
     unfolding lineLabel
     line-pins v g q i zero e =
-        let r = levelsOf P .rises (record { gate = g; pin = q; isPin = i; source = refl; free = e }) in
-        omega (arith, ints, sub-parts (pos (levelsOf P .level (q .src))) (pos (φ * q .count)))
+        let r = O .rises (record { gate = g; pin = q; isPin = i; source = refl; free = e }) in
+        omega (arith, ints, sub-parts (pos (O .level (q .src))) (pos (φ * q .count)))
     line-pins v g q i (suc c) e =
-        let a = levelsOf P .bound (q .src) in
+        let a = enough (q .src) in
         let b : φ * 1 ≤ φ * q .count = mul-le-mul-left φ (omega arith) in
-        omega (arith, ints, sub-parts (pos (levelsOf P .level (q .src))) (pos (φ * q .count)))
+        omega (arith, ints, sub-parts (pos (O .level (q .src))) (pos (φ * q .count)))
 
     -- the gate alone is a cut of that height
     pub line-cut : (v : ℕ) → IsGate N v → (J : LowCut N k φ lineLabel v (lineLabel v)) × (leavesOf N (copy v 0 ∷ []) .0 ≡ J .leaves)
     unfolding lineLabel
     line-cut v g =
-        let O = levelsOf P in
         let l = O .gate v g in
         let e : (pos (O .level v - 1) +ℤ pos 1) ≡ pos (O .level v) = omega (arith, ints, +-parts (pos (O .level v - 1)) (pos 1)) in
         let reach : (q : Pin) → q ∈ pins N v → (lineLabel (q .src) -ℤ pos (φ * q .count)) ≤ℤ pos (O .level v - 1) = λ q i. line-pins v g q i (q .count) refl in
@@ -59,18 +57,22 @@ module _ {N : Net} {k : ℕ} (P : Passed N k) where
 
     pub line-labelling : Labelling N k φ lineLabel
     unfolding lineLabel
-    line-labelling = record { inputs = λ v i. ap pos (levelsOf P .input v (not-gate i)); gates = λ v g. line-cut v g .0 }
+    line-labelling = record { inputs = λ v i. ap pos (O .input v (not-gate i)); gates = λ v g. line-cut v g .0 }
       where
         not-gate : {v : ℕ} → IsInput N v → ¬ IsGate N v
         not-gate i g = omega (arith, g)
 
     pub line-outputs : OutputsMet N φ lineLabel
     unfolding lineLabel
-    line-outputs = outputs-from N φ lineLabel (λ o i. let a = levelsOf P .bound (o .src) in omega (arith, ints))
+    line-outputs = outputs-from N φ lineLabel (λ o i. let a = enough (o .src) in omega (arith, ints))
 
-    -- **Every period from G up is reachable.**
-    pub gates-reach : Reachable N k φ
-    gates-reach = labelling-reaches P φ lineLabel line-labelling line-outputs
+    -- **Every period from the greatest level up is reachable.**
+    pub lines-reach : Reachable N k φ
+    lines-reach = labelling-reaches P φ lineLabel line-labelling line-outputs
+
+  -- **Every period from G up is reachable.**
+  pub gates-reach : (φ : ℕ) → length (N .gates) ≤ φ → Reachable N k φ
+  gates-reach φ h = lines-reach (levelsOf P) φ (λ v. le-trans (levelsOf P .bound v) h)
 
   -- ---- the least period
 
