@@ -1,4 +1,4 @@
-use Rattle.label_sweep.specs.StartingLaws.{started, filled-of}
+use Rattle.label_start.specs.StartLaws.{started, filled-of}
 use Rattle.signed.specs.Range.{labelIn, Small, room}
 use Rattle.signed.specs.RangeLaws.{back, fits-of, small-fits, minus-mag, plus-mag}
 use Prim.Native.Nat.{ℕ, _+_, _-_, _*_, _≤_, _<_}
@@ -8,11 +8,11 @@ use native.Mathlib.Omega.{arith}
 use lib.IntN.{ℤ, pos, _+ℤ_, _-ℤ_}
 use mathlib.Core.Path.{_≡_, refl, sym, ap, _∙_, subst}
 use borrow.Author.Needs.{needs}
-use Rattle.label_sweep.proofs.begin.Statement.{statement}
-use Rattle.label_sweep.proofs.begin.Tie as tie
-use Rattle.label_sweep.proofs.begin.Reads as reads
-use Rattle.label_sweep.proofs.begin.Lts as lts
-use Rattle.label_sweep.proofs.fill.Reads as fill-reads
+use Rattle.label_start.proofs.begin.Statement.{statement}
+use Rattle.label_start.proofs.begin.Tie as tie
+use Rattle.label_start.proofs.begin.Reads as reads
+use Rattle.label_start.proofs.begin.Lts as lts
+use Rattle.label_start.proofs.fill.Reads as fill-reads
 
 -- src/lib.rt:280:5
 fill-requires : tie.Need-fill-requires

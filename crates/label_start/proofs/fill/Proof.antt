@@ -1,7 +1,7 @@
 use mir.Val.{toZ, ofZ}
 use mir.Syntax.{w64}
-use Rattle.label_sweep.specs.StartingLaws.{filled-of, filled-none, filled-next, filled-at}
-use Rattle.label_sweep.specs.Sweeps.{Filled}
+use Rattle.label_start.specs.StartLaws.{filled-of, filled-none, filled-next, filled-at}
+use Rattle.label_start.specs.Starts.{Filled}
 use borrow.Author.Needs.{needs}
 use Rattle.signed.specs.Range.{labelIn, Small, room}
 use Rattle.signed.specs.RangeLaws.{back, fits-of, small-fits, minus-mag, plus-mag}
@@ -11,10 +11,10 @@ use denote.Ref.{now}
 use native.Mathlib.Omega.{arith}
 use lib.IntN.{ℤ, pos, _+ℤ_, _-ℤ_}
 use mathlib.Core.Path.{_≡_, refl, sym, ap, _∙_, subst}
-use Rattle.label_sweep.proofs.fill.Statement.{statement}
-use Rattle.label_sweep.proofs.fill.Tie as tie
-use Rattle.label_sweep.proofs.fill.Reads as reads
-use Rattle.label_sweep.proofs.fill.Lts as lts
+use Rattle.label_start.proofs.fill.Statement.{statement}
+use Rattle.label_start.proofs.fill.Tie as tie
+use Rattle.label_start.proofs.fill.Reads as reads
+use Rattle.label_start.proofs.fill.Lts as lts
 
 abbrev Inv-loop : tie.InvT-loop
 Inv-loop labels₀ from to z i₀ labels i = (from ≤ i) × (i ≤ to) × (to ≤ length labels₀) × Filled labels₀ labels from i (toZ w64 z)
