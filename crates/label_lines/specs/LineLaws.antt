@@ -1,17 +1,17 @@
 -- Laws of depths: pin by pin, gate by gate, and the levels that they are.
 use mathlib.Core.Path.{_≡_, refl, sym, ap, subst, _∙_}
 use mathlib.Core.List.{List}
-use Prim.Native.Nat.{ℕ, zero, suc, max, _+_, _-_, _*_, _≤_, _<_, zero-le}
+use Prim.Native.Nat.{ℕ, max, _+_, _-_, _*_, _≤_, _<_, zero-le}
 use native.Mathlib.Decide.{ℕ-discrete, decLt}
-use native.Mathlib.Nat.{le-trans, le-max-left, le-max-right}
+use native.Mathlib.Nat.{le-trans}
 use native.Mathlib.Omega.{arith}
-use lib.ListN.{length, getD}
+use lib.ListN.{getD}
 use Rattle.sequences.specs.Member.{_∈_}
 use Rattle.net_model.specs.Net.{Net, Pin, IsGate, pins}
 use Rattle.net_model.specs.Arrays.{stride}
-use Rattle.net_model.specs.ArrayLaws.{pinAt, pinsIn-in}
+use Rattle.net_model.specs.ArrayLaws.{pinsIn-in}
 use Rattle.net_model.specs.Wired.{Wires}
-use Rattle.net_model.specs.Checks.{Drives, Loopless}
+use Rattle.net_model.specs.Checks.{Drives}
 use Rattle.cone_theory.specs.CopyOrder.{Levels, levels}
 use Rattle.cut_circuit.specs.Circuit.{Circuit, Layout}
 use Rattle.cut_circuit.specs.Bridge.{Holds}

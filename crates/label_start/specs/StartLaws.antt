@@ -16,7 +16,7 @@ use Rattle.net_model.specs.Arrays.{stride}
 use Rattle.net_model.specs.ArrayLaws.{pinAt}
 use Rattle.cone_theory.specs.Reach.{reachOf}
 use Rattle.label_theory.specs.Labels.{Labelling}
-use Rattle.label_theory.specs.Floor.{Floors, floor, floor-pin}
+use Rattle.label_theory.specs.Floor.{floor, floor-pin}
 use Rattle.signed.specs.Range.{Small, room, labelIn}
 use Rattle.signed.specs.RangeLaws.{small-between}
 use Rattle.cut_circuit.specs.Circuit.{Circuit}

@@ -1,8 +1,7 @@
 -- `label_lines::deepen_all` meets its contract.
-use Prim.Native.Nat.{_-_, _≤_}
+use Prim.Native.Nat.{_-_}
 use native.Mathlib.Omega.{arith}
 use borrow.Author.Needs.{needs}
-use denote.Ref.{now}
 use mathlib.Core.Path.{refl}
 use mathlib.Core.Path.{_≡_, _∙_}
 use lib.ListN.{length}

@@ -5,7 +5,6 @@ use lib.ListN.{length-drop}
 use Rattle.sequences.specs.Behind.{behind}
 use Rattle.cut_circuit.specs.Packed.{sourcesAt, countsAt}
 use Rattle.label_lines.specs.LineLaws.{gate-read}
-use borrow.Author.Needs.{needs}
 use Rattle.label_lines.proofs.deepest_source.Statement.{statement}
 use Rattle.label_lines.proofs.deepest_source.Tie as tie
 

@@ -2,7 +2,6 @@
 use Prim.Native.Nat.{_-_}
 use native.Mathlib.Omega.{arith}
 use borrow.Author.Needs.{needs}
-use denote.Ref.{now}
 use mathlib.Core.Path.{_≡_, refl}
 use Rattle.label_visit.specs.LabelVisits.{wiring}
 use Rattle.label_lines.specs.Lines.{Levelled}

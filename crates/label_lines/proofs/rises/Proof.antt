@@ -1,5 +1,4 @@
 -- `label_lines::rises` meets its contract.
-use native.Mathlib.Omega.{arith}
 use mathlib.Core.Bool.{false≢true}
 use borrow.Author.Needs.{needs}
 use borrow.Author.Tests.{leb-true}
