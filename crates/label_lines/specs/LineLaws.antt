@@ -18,7 +18,7 @@ use Rattle.cut_circuit.specs.Bridge.{Holds}
 use Rattle.cut_circuit.specs.Packed.{packedOf}
 use Rattle.cut_circuit.specs.declared.Extent.{Extent}
 use Rattle.label_visit.specs.LabelVisits.{wiring}
-use Rattle.label_lines.specs.Lines.{PinsRead, Deepest, Readable, Rises, Levelled, LineTold}
+use Rattle.label_lines.specs.Lines.{DepthsRead, Deepest, DepthsHeld, Rises, Levelled, LongestTold}
 
 -- a circuit's layout has its wires
 pub layout-wires : {s : Extent} {net slots : List ℕ} → Layout (packedOf s net slots) → Wires (s .inputs) (s .gates) net (wiring s net .sources) (wiring s net .counts)
@@ -39,7 +39,7 @@ module _ (so co ds : List ℕ) (at : ℕ) where
   pub deepest-at : {m n r : ℕ} → m ≡ n → Deepest so co ds at m r → Deepest so co ds at n r
   deepest-at {r = r} e D = subst (λ (x : ℕ). Deepest so co ds at x r) e D
 
-pub gate-read : {s : Extent} {net ds : List ℕ} → Readable s net ds → (g : ℕ) → g < s .gates → PinsRead (wiring s net .sources) (wiring s net .counts) ds (stride * g) (getD net g 0)
+pub gate-read : {s : Extent} {net ds : List ℕ} → DepthsHeld s net ds → (g : ℕ) → g < s .gates → DepthsRead (wiring s net .sources) (wiring s net .counts) ds (stride * g) (getD net g 0)
 gate-read R g h = record {
   source = λ j l. let a = R .wires .pins g h in let b = R .wires .room in omega arith;
   count = λ j l. let a = R .wires .pins g h in let b = R .wires .room′ in omega arith;
@@ -153,13 +153,13 @@ module _ {C : Circuit} {ds : List ℕ} {least r : ℕ} (L : Levelled C ds (C .ga
     input = λ v n. pick-none (decLt v (C .inputs)) (decLt v (C .inputs + C .gates)) (getD ds v 0) (λ m h. n (record { low = let b = H .inputs in omega arith; high = let b = H .inputs in let d = H .gates in omega arith }));
   }
 
-pub line-told : {C : Circuit} {ds : List ℕ} {least n r : ℕ} → n ≡ C .gates → Levelled C ds n least r → LineTold C least r
+pub line-told : {C : Circuit} {ds : List ℕ} {least n r : ℕ} → n ≡ C .gates → Levelled C ds n least r → LongestTold C least r
 unfolding depth-levels level
 line-told {C} {ds} {least} {n} {r} e L = told (subst (λ (x : ℕ). Levelled C ds x least r) e L)
   where
-    told : Levelled C ds (C .gates) least r → LineTold C least r
+    told : Levelled C ds (C .gates) least r → LongestTold C least r
     told L = record { least = L .least; most = L .most; levels = λ N H l. (depth-levels L H, level-below L H) }
 
 -- no line has more gates than there are
-pub line-gates : {C : Circuit} {least : ℕ} → least ≤ C .gates → LineTold C least (C .gates)
+pub line-gates : {C : Circuit} {least : ℕ} → least ≤ C .gates → LongestTold C least (C .gates)
 line-gates h = record { least = h; most = omega arith; levels = λ N H l. (levels l, λ v. let a = levels l .bound v in let b = H .gates in omega arith) }

@@ -14,7 +14,7 @@ use Rattle.cut_circuit.specs.declared.Extent.{Extent}
 use Rattle.label_visit.specs.LabelVisits.{wiring}
 
 -- n pins from place `at` on can be read, and each source has a depth
-pub record PinsRead (sources counts depths : List ℕ) (at n : ℕ) : Type 0 where
+pub record DepthsRead (sources counts depths : List ℕ) (at n : ℕ) : Type 0 where
   pub source : (j : ℕ) → j < n → at + j < length sources
   pub count : (j : ℕ) → j < n → at + j < length counts
   pub node : (j : ℕ) → j < n → getD sources (at + j) 0 < length depths
@@ -24,7 +24,7 @@ pub record Deepest (sources counts depths : List ℕ) (at n r : ℕ) : Type 0 wh
   pub above : (j : ℕ) → j < n → getD counts (at + j) 0 ≡ 0 → getD depths (getD sources (at + j) 0) 0 ≤ r
 
 -- the pins of all gates can be read, and each node has a depth
-pub record Readable (s : Extent) (net depths : List ℕ) : Type 0 where
+pub record DepthsHeld (s : Extent) (net depths : List ℕ) : Type 0 where
   pub wires : Wires (s .inputs) (s .gates) net (wiring s net .sources) (wiring s net .counts)
   pub size : s .inputs + s .gates ≤ length depths
 
@@ -43,7 +43,7 @@ pub record Levelled (C : Circuit) (depths : List ℕ) (n low r : ℕ) : Type 0 w
   pub below : (g : ℕ) → g < n → getD depths (C .inputs + g) 0 ≤ r
 
 -- r bounds the levels of every net with this wiring
-pub record LineTold (C : Circuit) (low r : ℕ) : Type 0 where
+pub record LongestTold (C : Circuit) (low r : ℕ) : Type 0 where
   pub least : low ≤ r
   pub most : r ≤ C .gates
   pub levels : (N : Net) → Holds C N → Loopless N → (O : Levels N) × ((v : ℕ) → O .level v ≤ r)

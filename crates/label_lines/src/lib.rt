@@ -11,7 +11,7 @@ ghost use Rattle.net_model.specs.Arrays.{stride};
 ghost use Rattle.net_model.specs.Wired.{Wires};
 ghost use Rattle.label_visit.specs.LabelVisits.{wiring};
 ghost use Rattle.label_pass.specs.Passes.{orderIn, Ordered};
-ghost use Rattle.label_lines.specs.Lines.{PinsRead, Deepest, Readable, Rises, LineTold};
+ghost use Rattle.label_lines.specs.Lines.{DepthsRead, Deepest, DepthsHeld, Rises, LongestTold};
 
 // The depth of the source of the pin at place i, or d where that is greater or the pin has a register.
 fn deeper(sources: &[usize], counts: &[usize], depths: &[usize], i: usize, d: usize) -> usize
@@ -30,7 +30,7 @@ fn deeper(sources: &[usize], counts: &[usize], depths: &[usize], i: usize, d: us
 
 // The greatest depth of a source of n pins from place at on, those with registers left out.
 fn deepest(sources: &[usize], counts: &[usize], depths: &[usize], at: usize, n: usize) -> usize
-    requires { ⌜ PinsRead (now sources) (now counts) (now depths) at n ⌝ }
+    requires { ⌜ DepthsRead (now sources) (now counts) (now depths) at n ⌝ }
     ensures { λ r. ⌜ Deepest (now (sources .entry)) (now (counts .entry)) (now (depths .entry)) at n r ⌝ }
 {
     let mut d = 0;
@@ -44,7 +44,7 @@ fn deepest(sources: &[usize], counts: &[usize], depths: &[usize], at: usize, n: 
 
 // The same over the pins of gate g in the net's slice.
 fn deepest_source(s: Extent, net: &[usize], depths: &[usize], g: usize) -> usize
-    requires { ⌜ Readable s (now net) (now depths) × (g < s .gates) ⌝ }
+    requires { ⌜ DepthsHeld s (now net) (now depths) × (g < s .gates) ⌝ }
     ensures { λ r. ⌜ Deepest (wiring s (now (net .entry)) .sources) (wiring s (now (net .entry)) .counts) (now (depths .entry)) (stride * g) (getD (now (net .entry)) g 0) r ⌝ }
 {
     let a = 2 * s.gates;
@@ -54,7 +54,7 @@ fn deepest_source(s: Extent, net: &[usize], depths: &[usize], g: usize) -> usize
 
 // Gate g 1 deeper than what it reads, up to the number of gates.
 fn deepen(s: Extent, net: &[usize], depths: &mut [usize], g: usize)
-    requires { ⌜ Readable s (now net) (now depths) × (g < s .gates) ⌝ }
+    requires { ⌜ DepthsHeld s (now net) (now depths) × (g < s .gates) ⌝ }
 {
     let d = deepest_source(s, net, depths, g);
     if d < s.gates {
@@ -64,7 +64,7 @@ fn deepen(s: Extent, net: &[usize], depths: &mut [usize], g: usize)
 
 // The same for all gates, in the order.
 fn deepen_all(s: Extent, net: &[usize], depths: &mut [usize])
-    requires { ⌜ Readable s (now net) (now depths) × Ordered (wiring s (now net)) (orderIn s (now net)) ⌝ }
+    requires { ⌜ DepthsHeld s (now net) (now depths) × Ordered (wiring s (now net)) (orderIn s (now net)) ⌝ }
 {
     let end = s.gates;
     let mut i = 0;
@@ -76,7 +76,7 @@ fn deepen_all(s: Extent, net: &[usize], depths: &mut [usize])
 
 // Whether gate g is deeper than what it reads without registers, and at most as deep as there are gates.
 fn rises(s: Extent, net: &[usize], depths: &[usize], g: usize) -> bool
-    requires { ⌜ Readable s (now net) (now depths) × (g < s .gates) ⌝ }
+    requires { ⌜ DepthsHeld s (now net) (now depths) × (g < s .gates) ⌝ }
     ensures { λ r. ⌜ (r ≡ true → Rises (wiring s (now (net .entry))) (now (depths .entry)) g) ⌝ }
 {
     let d = deepest_source(s, net, depths, g);
@@ -96,8 +96,8 @@ fn greater(a: usize, b: usize) -> usize
 
 // The greatest depth, at least `least`, where every gate is deeper than what it reads; else the number of gates.
 fn greatest(s: Extent, net: &[usize], depths: &[usize], least: usize) -> usize
-    requires { ⌜ Readable s (now net) (now depths) × (least ≤ s .gates) ⌝ }
-    ensures { λ r. ⌜ LineTold (wiring s (now (net .entry))) least r ⌝ }
+    requires { ⌜ DepthsHeld s (now net) (now depths) × (least ≤ s .gates) ⌝ }
+    ensures { λ r. ⌜ LongestTold (wiring s (now (net .entry))) least r ⌝ }
 {
     let end = s.gates;
     let mut most = least;
@@ -116,7 +116,7 @@ fn greatest(s: Extent, net: &[usize], depths: &[usize], least: usize) -> usize
 // The longest line, at least `least`.
 pub fn longest_line(s: Extent, net: &[usize], least: usize) -> usize
     requires { ⌜ Wires (s .inputs) (s .gates) (now net) (wiring s (now net) .sources) (wiring s (now net) .counts) × Ordered (wiring s (now net)) (orderIn s (now net)) × (least ≤ s .gates) ⌝ }
-    ensures { λ r. ⌜ LineTold (wiring s (now (net .entry))) least r ⌝ }
+    ensures { λ r. ⌜ LongestTold (wiring s (now (net .entry))) least r ⌝ }
 {
     if s.inputs <= NODES {
         if s.gates <= NODES - s.inputs {

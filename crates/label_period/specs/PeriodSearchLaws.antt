@@ -18,7 +18,7 @@ use Rattle.cut_circuit.specs.Circuit.{Circuit}
 use Rattle.cut_circuit.specs.declared.Extent.{Extent}
 use Rattle.signed.specs.Range.{labelIn}
 use Rattle.label_visit.specs.LabelVisits.{Suits, Ceilings}
-use Rattle.label_lines.specs.Lines.{LineTold}
+use Rattle.label_lines.specs.Lines.{LongestTold}
 use Rattle.label_sweep.specs.Sweeps.{Sized, Labelled}
 use Rattle.label_period.specs.PeriodSearch.{Either, NoneBelow, Halved, Period}
 
@@ -76,7 +76,7 @@ module _ {C : Circuit} {k : ℕ} {tops os oc : List ℕ} {n : ℕ} where
   -- ---- by halves
 
   -- the longest line of gates without registers is reachable
-  pub halved-first : {φ γ : ℕ} → 1 ≤ φ → NoneBelow C k tops os oc n φ → LineTold C φ γ → Halved C k tops os oc n φ γ
+  pub halved-first : {φ γ : ℕ} → 1 ≤ φ → NoneBelow C k tops os oc n φ → LongestTold C φ γ → Halved C k tops os oc n φ γ
   halved-first one f l = record {
     positive = one;
     order = l .least;
