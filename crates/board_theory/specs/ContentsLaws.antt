@@ -136,8 +136,12 @@ module _ {N : Net} {k : ℕ} {K : Cover} (cover : IsCover N k K) (forward : Forw
   pub output-late : (o : ℕ) (h : o < length (N .outputs)) → up (outputRegisters N K o) + up (lagOf N K ((output N o) .src) (K .named o)) ≤ dn (lagOf N K ((output N o) .src) (K .named o)) + w
   output-late o h =
       let q = lagOf N K ((output N o) .src) (K .named o) in
-      omega (arith, ap dn (pos-up (outputRegisters N K o) (cover .outputRegisters o h)), sub-parts (pos ((output N o) .count)) q,
-      counts .output (output N o) (in-getD (N .outputs) o (record { src = 0; count = 0 }) h))
+      omega (
+        arith,
+        ap dn (pos-up (outputRegisters N K o) (cover .outputRegisters o h)),
+        sub-parts (pos ((output N o) .count)) q,
+        counts .output (output N o) (in-getD (N .outputs) o (record { src = 0; count = 0 }) h),
+      )
 
   -- no lag is more than D below 0
   module _ (D : ℕ) (high : (u l : ℕ) → dn (lagOf N K u l) ≤ D) (contents : ℕ → Copy → ℕ → Bool) (last : ℕ → ℕ → Bool) where
@@ -145,32 +149,59 @@ module _ {N : Net} {k : ℕ} {K : Cover} (cover : IsCover N k K) (forward : Forw
     unfolding leafCells
     leaves-few i h [] all = omega (arith, zero-mul (D + w))
     leaves-few i h (y ∷ L) all =
-        omega (arith, length-append (cells (contents i y) (up (registers N K i y))) (leafCells N K contents i L), length-cells (contents i y) (up (registers N K i y)),
-        leaf-late i h y (all y (here refl)), high (y .node) (K .feeder i y), suc-mul (length L) (D + w), leaves-few i h L (λ z m. all z (there m)))
+        omega (
+          arith,
+          length-append (cells (contents i y) (up (registers N K i y))) (leafCells N K contents i L),
+          length-cells (contents i y) (up (registers N K i y)),
+          leaf-late i h y (all y (here refl)),
+          high (y .node) (K .feeder i y),
+          suc-mul (length L) (D + w),
+          leaves-few i h L (λ z m. all z (there m)),
+        )
 
     luts-few : (n : ℕ) → n ≤ length (K .luts) → length (lutCells N K contents n) ≤ n * k * (D + w)
     unfolding lutCells
     luts-few zero h = omega (arith, zero-mul k, zero-mul (D + w))
     luts-few (suc n) h =
         let x = leafCells N K contents n ((lut K n) .leaves) in
-        omega (arith, length-append (lutCells N K contents n) x, luts-few n (omega arith), leaves-few n h ((lut K n) .leaves) (λ y m. m), mul-le-mul-right (D + w) (cover .cuts n h .few),
-        suc-mul n k, ap (λ (z : ℕ). z * (D + w)) (suc-mul n k), add-mul (n * k) k (D + w))
+        omega (
+          arith,
+          length-append (lutCells N K contents n) x,
+          luts-few n (omega arith),
+          leaves-few n h ((lut K n) .leaves) (λ y m. m),
+          mul-le-mul-right (D + w) (cover .cuts n h .few),
+          suc-mul n k,
+          ap (λ (z : ℕ). z * (D + w)) (suc-mul n k),
+          add-mul (n * k) k (D + w),
+        )
 
     outputs-few : (n : ℕ) → n ≤ length (N .outputs) → length (outputCells N K last n) ≤ n * (D + w)
     unfolding outputCells
     outputs-few zero h = omega (arith, zero-mul (D + w))
     outputs-few (suc n) h =
         let x = cells (last n) (up (outputRegisters N K n)) in
-        omega (arith, length-append (outputCells N K last n) x, length-cells (last n) (up (outputRegisters N K n)), output-late n h, high ((output N n) .src) (K .named n),
-        suc-mul n (D + w), outputs-few n (omega arith))
+        omega (
+          arith,
+          length-append (outputCells N K last n) x,
+          length-cells (last n) (up (outputRegisters N K n)),
+          output-late n h,
+          high ((output N n) .src) (K .named n),
+          suc-mul n (D + w),
+          outputs-few n (omega arith),
+        )
 
     -- **so many bytes at most**
     pub bytes-few : length (contentsBytes N K contents last) ≤ (length (K .luts) * k + length (N .outputs)) * (D + w)
     unfolding contentsBytes
     bytes-few =
         let a = lutCells N K contents (length (K .luts)) in
-        omega (arith, length-append a (outputCells N K last (length (N .outputs))), luts-few (length (K .luts)) (omega arith), outputs-few (length (N .outputs)) (omega arith),
-        add-mul (length (K .luts) * k) (length (N .outputs)) (D + w))
+        omega (
+          arith,
+          length-append a (outputCells N K last (length (N .outputs))),
+          luts-few (length (K .luts)) (omega arith),
+          outputs-few (length (N .outputs)) (omega arith),
+          add-mul (length (K .luts) * k) (length (N .outputs)) (D + w),
+        )
 
 -- ---- a board with these bytes
 

@@ -59,8 +59,18 @@ near-lag plain φ pos-φ z x i = tt
 near-lag forward φ pos-φ z x i =
     let p = lag-parts φ pos-φ z in
     let a = lag-step φ (lag φ z +ℤ pos (x .back)) (pos 0)
-    (omega (arith, ints, p .0, p .1, +-parts z (pos (φ * x .back)), scale φ (+-parts (lag φ z) (pos (x .back))), mul-add φ (up (lag φ z +ℤ pos (x .back))) (dn (lag φ z) + 0),
-    mul-add φ (dn (lag φ z +ℤ pos (x .back))) (up (lag φ z) + x .back), mul-add φ (up (lag φ z)) (x .back), mul-add φ (dn (lag φ z)) 0)) in
+    (omega (
+      arith,
+      ints,
+      p .0,
+      p .1,
+      +-parts z (pos (φ * x .back)),
+      scale φ (+-parts (lag φ z) (pos (x .back))),
+      mul-add φ (up (lag φ z +ℤ pos (x .back))) (dn (lag φ z) + 0),
+      mul-add φ (dn (lag φ z +ℤ pos (x .back))) (up (lag φ z) + x .back),
+      mul-add φ (up (lag φ z)) (x .back),
+      mul-add φ (dn (lag φ z)) 0,
+    )) in
     a
 
 -- What makes entries a cover for given labels: each is a gate with a cut no higher than its label and its label's lag; gate leaves and gate sources have entries.

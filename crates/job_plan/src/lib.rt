@@ -4,6 +4,7 @@ use cover_roots::choose;
 use cut_circuit::Extent;
 use cut_circuit::link;
 use job_scratch::clear_first;
+use label_lines::greater;
 use label_period::least_period;
 use label_sweep::reach;
 use label_visit::Aim;
@@ -17,7 +18,7 @@ use limits::STACK;
 use limits::TABLE;
 use net_reader::NetSizes;
 ghost use mathlib.Core.Path.{_≡_};
-ghost use Prim.Native.Nat.{max, _+_, _-_, _*_, _≤_, _<_};
+ghost use Prim.Native.Nat.{_+_, _-_, _*_, _≤_, _<_};
 ghost use lib.ListN.{length};
 ghost use Rattle.net_model.specs.Arrays.{netIn};
 ghost use Rattle.limits.specs.Limits.{mostTable};
@@ -32,12 +33,6 @@ ghost use Rattle.cover_records.specs.Rows.{keptIn};
 ghost use Rattle.job_plan.specs.Found.{PeriodAsked, PeriodFound};
 ghost use Rattle.job_plan.specs.Planned.{Planned, Planning, Roomy, Engine, CoverTold};
 
-fn larger(a: usize, b: usize) -> usize
-    ensures { λ r. ⌜ r ≡ max a b ⌝ }
-{
-    if a < b { b } else { a }
-}
-
 // The largest of n counts from a place on.
 fn most_count(counts: &[usize], at: usize, n: usize) -> usize
     requires { ⌜ at + n ≤ length (now counts) ⌝ }
@@ -46,7 +41,7 @@ fn most_count(counts: &[usize], at: usize, n: usize) -> usize
     let mut most = 0;
     let mut j = 0;
     while j < n {
-        most = larger(most, counts[at + j]);
+        most = greater(most, counts[at + j]);
         j += 1;
     }
     most

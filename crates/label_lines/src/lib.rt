@@ -88,7 +88,7 @@ fn rises(s: Extent, net: &[usize], depths: &[usize], g: usize) -> bool
 }
 
 // The greater of two numbers.
-fn greater(a: usize, b: usize) -> usize
+pub fn greater(a: usize, b: usize) -> usize
     ensures { λ r. ⌜ r ≡ max a b ⌝ }
 {
     if a < b { b } else { a }
