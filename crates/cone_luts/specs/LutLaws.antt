@@ -13,11 +13,14 @@ use Rattle.net_model.specs.Copies.{Copy, copy, Rising}
 use Rattle.net_model.specs.CopyLaws.{copy-path}
 use Rattle.net_model.specs.Arrays.{stride, copyAt, copiesFrom}
 use Rattle.net_model.specs.ArrayLaws.{length-copiesFrom, getD-copiesFrom}
+use Rattle.net_model.specs.PackedNet.{sourcesAt, countsAt}
+use Rattle.net_model.specs.PackedNetLaws.{to-part, from-part}
+use Rattle.cover_records.specs.Rows.{sizesIn, nodesIn, backsIn}
 use Rattle.cone_theory.specs.CopyOrder.{levels}
 use Rattle.cone_theory.specs.Part.{cone-determined}
 use Rattle.cone_theory.specs.Reach.{reachOf, reach}
 use Rattle.cone_values.specs.FullTableLaws.{full-same}
-use Rattle.cone_copies.specs.CopyLists.{copiesIn}
+use Rattle.cone_copies.specs.CopyLists.{SmallWires, copiesIn}
 use Rattle.cone_copies.specs.CopyListLaws.{length-copiesIn}
 use Rattle.cone_walk.specs.WalkTold.{numberOf, Walk}
 use Rattle.cone_walk.specs.WalkToldLaws.{cone-cut}
@@ -58,33 +61,61 @@ tried-table {I} {G} {ps} {so} {co} {ts} {L} {g} {r} t = go (r .none) refl
     go false e = t .table e
     go true e = record { table = λ N d b R A k J. absurd (t .none e N d R k J) }
 
--- leaves in a part of the arrays
-copies-part : (nodes backs : List ℕ) (at n : ℕ) → copiesIn (drop at nodes) (drop at backs) n ≡ copiesFrom nodes backs at n
-unfolding copiesIn
-copies-part nodes backs at n = ext-getD (copy 0 0) (copiesFrom (drop at nodes) (drop at backs) 0 n) (copiesFrom nodes backs at n)
-    (length-copiesFrom (drop at nodes) (drop at backs) 0 n ∙ sym (length-copiesFrom nodes backs at n))
-    (λ i h.
-    let l : i < n = omega (arith, h, length-copiesFrom (drop at nodes) (drop at backs) 0 n) in
-    getD-copiesFrom (drop at nodes) (drop at backs) 0 n i (copy 0 0) l
-    ∙ ap (copyAt (drop at nodes) (drop at backs)) (zero-add i)
-    ∙ copy-path (getD-drop at nodes i 0) (getD-drop at backs i 0)
-    ∙ sym (getD-copiesFrom nodes backs at n i (copy 0 0) l))
+-- row i of n: the numbers from the places of its leaves on
+module _ (rows : List ℕ) (n i : ℕ) where
+  abbrev pub nodesFrom : ℕ
+  nodesFrom = 2 * n + stride * i
 
--- row i of the arrays
-row-part : (sizes nodes backs : List ℕ) (i : ℕ)
-    → copiesIn (take (length nodes - stride * i) (drop (stride * i) nodes)) (take (length backs - stride * i) (drop (stride * i) backs)) (getD sizes i 0) ≡ copiesFrom nodes backs (stride * i)
-    (getD sizes i 0)
-row-part sizes nodes backs i =
-    ap₂ (λ (a b : List ℕ). copiesIn a b (getD sizes i 0)) (behind nodes (stride * i)) (behind backs (stride * i)) ∙ copies-part nodes backs (stride * i) (getD sizes i 0)
+  abbrev pub backsFrom : ℕ
+  backsFrom = (2 + stride) * n + stride * i
 
-pub rising-row : (sizes nodes backs : List ℕ) (i : ℕ) → Row sizes nodes backs i
-    → Rising (copiesIn (take (length nodes - stride * i) (drop (stride * i) nodes)) (take (length backs - stride * i) (drop (stride * i) backs)) (getD sizes i 0))
-rising-row sizes nodes backs i r = subst Rising (sym (row-part sizes nodes backs i)) (r .rising)
+  abbrev pub leafCount : ℕ
+  leafCount = getD rows (n + i) 0
 
-pub tried-row : {I G : ℕ} {ps so co ts : List ℕ} (sizes nodes backs : List ℕ) (i : ℕ) {g : ℕ} {r : Tried}
-    → LutTried I G ps so co ts (copiesIn (take (length nodes - stride * i) (drop (stride * i) nodes)) (take (length backs - stride * i) (drop (stride * i) backs)) (getD sizes i 0)) g r
-    → LutTried I G ps so co ts (copiesFrom nodes backs (stride * i) (getD sizes i 0)) g r
-tried-row {I} {G} {ps} {so} {co} {ts} sizes nodes backs i {g} {r} t = subst (λ (L : List Copy). LutTried I G ps so co ts L g r) (row-part sizes nodes backs i) t
+  -- a number of a part
+  number-part : (a j : ℕ) → getD (drop (a + stride * i) rows) j 0 ≡ getD (drop a rows) (stride * i + j) 0
+  number-part a j = getD-drop (a + stride * i) rows j 0 ∙ ap (λ (x : ℕ). getD rows x 0) (omega arith) ∙ sym (getD-drop a rows (stride * i + j) 0)
+
+  copies-part : (m : ℕ) → copiesIn (drop nodesFrom rows) (drop backsFrom rows) m ≡ copiesFrom (nodesIn n rows) (backsIn n rows) (stride * i) m
+  unfolding copiesIn
+  copies-part m = ext-getD (copy 0 0) (copiesFrom (drop nodesFrom rows) (drop backsFrom rows) 0 m) (copiesFrom (nodesIn n rows) (backsIn n rows) (stride * i) m)
+      (length-copiesFrom (drop nodesFrom rows) (drop backsFrom rows) 0 m ∙ sym (length-copiesFrom (nodesIn n rows) (backsIn n rows) (stride * i) m))
+      (λ j h.
+      let l : j < m = omega (arith, h, length-copiesFrom (drop nodesFrom rows) (drop backsFrom rows) 0 m) in
+      getD-copiesFrom (drop nodesFrom rows) (drop backsFrom rows) 0 m j (copy 0 0) l
+      ∙ ap (copyAt (drop nodesFrom rows) (drop backsFrom rows)) (zero-add j)
+      ∙ copy-path (number-part (2 * n) j) (number-part ((2 + stride) * n) j)
+      ∙ sym (getD-copiesFrom (nodesIn n rows) (backsIn n rows) (stride * i) m j (copy 0 0) l))
+
+  -- the leaves that are lent
+  abbrev pub lentLeaves : List Copy
+  lentLeaves = copiesIn (take (length rows - nodesFrom) (drop nodesFrom rows)) (take (length rows - backsFrom) (drop backsFrom rows)) leafCount
+
+  row-part : lentLeaves ≡ copiesFrom (nodesIn n rows) (backsIn n rows) (stride * i) (getD (sizesIn n rows) i 0)
+  row-part =
+      ap₂ (λ (a b : List ℕ). copiesIn a b leafCount) (behind rows nodesFrom) (behind rows backsFrom) ∙ copies-part leafCount
+      ∙ ap (copiesFrom (nodesIn n rows) (backsIn n rows) (stride * i)) (sym (getD-drop n rows i 0))
+
+  pub rising-row : Row (sizesIn n rows) (nodesIn n rows) (backsIn n rows) i → Rising lentLeaves
+  rising-row r = subst Rising (sym row-part) (r .rising)
+
+  pub row-few : Row (sizesIn n rows) (nodesIn n rows) (backsIn n rows) i → leafCount ≤ stride
+  row-few r = let f = r .few in omega (arith, f, getD-drop n rows i 0)
+
+  module _ {I G : ℕ} {ts : List ℕ} (net : List ℕ) {g : ℕ} {r : Tried} where
+    pub tried-row : LutTried I G net (take (length net - sourcesAt G) (drop (sourcesAt G) net)) (take (length net - countsAt G) (drop (countsAt G) net)) ts lentLeaves g r
+        → LutTried I G net (drop (sourcesAt G) net) (drop (countsAt G) net) ts (copiesFrom (nodesIn n rows) (backsIn n rows) (stride * i) (getD (sizesIn n rows) i 0)) g r
+    tried-row t =
+        subst (λ (L : List Copy). LutTried I G net (drop (sourcesAt G) net) (drop (countsAt G) net) ts L g r) row-part
+        (from-part (λ (l : List ℕ). LutTried I G net (drop (sourcesAt G) net) l ts lentLeaves g r) net (countsAt G)
+        (from-part (λ (l : List ℕ). LutTried I G net l (take (length net - countsAt G) (drop (countsAt G) net)) ts lentLeaves g r) net (sourcesAt G) t))
+
+-- the wiring in parts of the net's slice
+pub wires-part : {I G : ℕ} (net : List ℕ) → SmallWires I G net (drop (sourcesAt G) net) (drop (countsAt G) net)
+    → SmallWires I G net (take (length net - sourcesAt G) (drop (sourcesAt G) net)) (take (length net - countsAt G) (drop (countsAt G) net))
+wires-part {I} {G} net w =
+    to-part (λ (l : List ℕ). SmallWires I G net l (take (length net - countsAt G) (drop (countsAt G) net))) net (sourcesAt G)
+    (to-part (λ (l : List ℕ). SmallWires I G net (drop (sourcesAt G) net) l) net (countsAt G) w)
 
 module _ {I G : ℕ} {ps so co ts marks sizes nodes backs : List ℕ} where
   -- a gate with a mark has its row

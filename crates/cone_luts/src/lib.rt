@@ -8,11 +8,13 @@ use limits::BEYOND;
 use limits::PINS;
 use limits::REACH;
 ghost use Prim.Native.Nat.{_+_, _*_, _≤_, _<_};
-ghost use lib.ListN.{length, getD};
+ghost use lib.ListN.{length, getD, drop};
 ghost use Rattle.limits.specs.Limits.{mostPins, mostTable};
 ghost use Rattle.cone_copies.specs.CopyLists.{SmallWires, copiesIn};
 ghost use Rattle.net_model.specs.Copies.{Rising};
 ghost use Rattle.net_model.specs.Arrays.{stride, copiesFrom};
+ghost use Rattle.net_model.specs.PackedNet.{sourcesAt, countsAt, nextsAt};
+ghost use Rattle.cover_records.specs.Rows.{sizesIn, nodesIn, backsIn, rowRoom};
 ghost use Rattle.cone_descent.specs.Descent.{Clear};
 ghost use Rattle.cone_luts.specs.Luts.{Row, LutTried, GateTable, Tabulates, Tabulated};
 
@@ -82,38 +84,39 @@ fn try_lut(
     }
 }
 
-// The leaves in row i of the arrays, from place PINS·i on, as those of gate g.
+// The leaves in row i of n, as those of gate g.
 pub fn try_row(
     inputs: usize,
     gates: usize,
-    pins: &[usize],
-    sources: &[usize],
-    counts: &[usize],
+    net: &[usize],
     tables: &[u64],
-    sizes: &[usize],
-    nodes: &[usize],
-    backs: &[usize],
+    rows: &[usize],
+    n: usize,
     i: usize,
     g: usize,
     work: &mut [u8],
 ) -> Tried
-    requires { ⌜ SmallWires inputs gates (now pins) (now sources) (now counts) × (gates ≤ length (now tables)) × Row (now sizes) (now nodes) (now backs) i × (g < gates) ⌝ }
+    requires { ⌜ SmallWires inputs gates (now net) (drop (sourcesAt gates) (now net)) (drop (countsAt gates) (now net)) × (gates ≤ length (now tables)) × Row (sizesIn n (now rows)) (nodesIn n (now rows)) (backsIn n (now rows)) i × (g < gates) ⌝ }
+    requires { ⌜ (nextsAt gates ≤ length (now net)) × (i < n) × (rowRoom n ≤ length (now rows)) ⌝ }
     requires { ⌜ (mostTable ≤ length (now work)) × Clear (now work) ⌝ }
-    ensures { λ r. ⌜ LutTried inputs gates (now (pins .entry)) (now (sources .entry)) (now (counts .entry)) (now (tables .entry)) (copiesFrom (now (nodes .entry)) (now (backs .entry)) (stride * i) (getD (now (sizes .entry)) i 0)) g r ⌝ }
+    ensures { λ r. ⌜ LutTried inputs gates (now (net .entry)) (drop (sourcesAt gates) (now (net .entry))) (drop (countsAt gates) (now (net .entry))) (now (tables .entry)) (copiesFrom (nodesIn n (now (rows .entry))) (backsIn n (now (rows .entry))) (stride * i) (getD (sizesIn n (now (rows .entry))) i 0)) g r ⌝ }
     ensures { λ _. ⌜ Clear (now (work .exit)) ⌝ }
 {
-    let at = PINS * i;
-    let n = sizes[i];
+    let a = 2 * gates;
+    let b = (2 + PINS) * gates;
+    let c = 2 * n + PINS * i;
+    let d = (2 + PINS) * n + PINS * i;
+    let m = rows[n + i];
     try_lut(
         inputs,
         gates,
-        pins,
-        sources,
-        counts,
+        net,
+        &net[a..],
+        &net[b..],
         tables,
-        &nodes[at..],
-        &backs[at..],
-        n,
+        &rows[c..],
+        &rows[d..],
+        m,
         g,
         work,
     )
@@ -123,39 +126,22 @@ pub fn try_row(
 fn gate_table(
     inputs: usize,
     gates: usize,
-    pins: &[usize],
-    sources: &[usize],
-    counts: &[usize],
+    net: &[usize],
     tables: &[u64],
-    marks: &[usize],
-    sizes: &[usize],
-    nodes: &[usize],
-    backs: &[usize],
+    rows: &[usize],
     g: usize,
     work: &mut [u8],
 ) -> u64
-    requires { ⌜ Tabulates inputs gates (now pins) (now sources) (now counts) (now tables) (now marks) (now sizes) (now nodes) (now backs) × (g < gates) ⌝ }
+    requires { ⌜ Tabulates inputs gates (now net) (drop (sourcesAt gates) (now net)) (drop (countsAt gates) (now net)) (now tables) (now rows) (sizesIn gates (now rows)) (nodesIn gates (now rows)) (backsIn gates (now rows)) × (g < gates) ⌝ }
+    requires { ⌜ (nextsAt gates ≤ length (now net)) × (rowRoom gates ≤ length (now rows)) ⌝ }
     requires { ⌜ (mostTable ≤ length (now work)) × Clear (now work) ⌝ }
-    ensures { λ r. ⌜ GateTable inputs gates (now (pins .entry)) (now (sources .entry)) (now (counts .entry)) (now (tables .entry)) (now (marks .entry)) (now (sizes .entry)) (now (nodes .entry)) (now (backs .entry)) g r ⌝ }
+    ensures { λ r. ⌜ GateTable inputs gates (now (net .entry)) (drop (sourcesAt gates) (now (net .entry))) (drop (countsAt gates) (now (net .entry))) (now (tables .entry)) (now (rows .entry)) (sizesIn gates (now (rows .entry))) (nodesIn gates (now (rows .entry))) (backsIn gates (now (rows .entry))) g r ⌝ }
     ensures { λ _. ⌜ Clear (now (work .exit)) ⌝ }
 {
-    if marks[g] == 0 {
+    if rows[g] == 0 {
         return 0;
     }
-    let t = try_row(
-        inputs,
-        gates,
-        pins,
-        sources,
-        counts,
-        tables,
-        sizes,
-        nodes,
-        backs,
-        g,
-        g,
-        work,
-    );
+    let t = try_row(inputs, gates, net, tables, rows, gates, g, g, work);
     t.table
 }
 
@@ -163,38 +149,21 @@ fn gate_table(
 pub fn tabulate(
     inputs: usize,
     gates: usize,
-    pins: &[usize],
-    sources: &[usize],
-    counts: &[usize],
+    net: &[usize],
     tables: &[u64],
-    marks: &[usize],
-    sizes: &[usize],
-    nodes: &[usize],
-    backs: &[usize],
+    rows: &[usize],
     luts: &mut [u64],
     work: &mut [u8],
 )
-    requires { ⌜ Tabulates inputs gates (now pins) (now sources) (now counts) (now tables) (now marks) (now sizes) (now nodes) (now backs) × (gates ≤ length (now luts)) ⌝ }
+    requires { ⌜ Tabulates inputs gates (now net) (drop (sourcesAt gates) (now net)) (drop (countsAt gates) (now net)) (now tables) (now rows) (sizesIn gates (now rows)) (nodesIn gates (now rows)) (backsIn gates (now rows)) × (gates ≤ length (now luts)) ⌝ }
+    requires { ⌜ (nextsAt gates ≤ length (now net)) × (rowRoom gates ≤ length (now rows)) ⌝ }
     requires { ⌜ (mostTable ≤ length (now work)) × Clear (now work) ⌝ }
-    ensures { λ _. ⌜ Tabulated inputs gates (now (pins .entry)) (now (sources .entry)) (now (counts .entry)) (now (tables .entry)) (now (marks .entry)) (now (sizes .entry)) (now (nodes .entry)) (now (backs .entry)) (now (luts .exit)) gates ⌝ }
+    ensures { λ _. ⌜ Tabulated inputs gates (now (net .entry)) (drop (sourcesAt gates) (now (net .entry))) (drop (countsAt gates) (now (net .entry))) (now (tables .entry)) (now (rows .entry)) (sizesIn gates (now (rows .entry))) (nodesIn gates (now (rows .entry))) (backsIn gates (now (rows .entry))) (now (luts .exit)) gates ⌝ }
     ensures { λ _. ⌜ Clear (now (work .exit)) ⌝ }
 {
     let mut g = 0;
     while g < gates {
-        luts[g] = gate_table(
-            inputs,
-            gates,
-            pins,
-            sources,
-            counts,
-            tables,
-            marks,
-            sizes,
-            nodes,
-            backs,
-            g,
-            work,
-        );
+        luts[g] = gate_table(inputs, gates, net, tables, rows, g, work);
         g += 1;
     }
 }

@@ -4,8 +4,10 @@ use cone_words::low;
 use cone_words::whole;
 use limits::LUTS;
 ghost use Prim.Native.Nat.{ℕ, _+_, _≤_, _<_};
-ghost use lib.ListN.{length, getD};
+ghost use lib.ListN.{length, getD, drop};
 ghost use Rattle.limits.specs.Limits.{mostLuts, mostPins, mostTable};
+ghost use Rattle.net_model.specs.PackedNet.{sourcesAt, countsAt, nextsAt};
+ghost use Rattle.cover_records.specs.Rows.{sizesIn, nodesIn, backsIn, rowRoom};
 ghost use Rattle.cone_descent.specs.Descent.{Clear};
 ghost use Rattle.cover_cuts.specs.Cuts.{Cutting, CutsTried, WrongTold, Compared, CutsTold};
 
@@ -13,41 +15,24 @@ ghost use Rattle.cover_cuts.specs.Cuts.{Cutting, CutsTried, WrongTold, C
 fn no_cuts(
     inputs: usize,
     gates: usize,
-    pins: &[usize],
-    sources: &[usize],
-    counts: &[usize],
+    net: &[usize],
     tables: &[u64],
-    roots: &[usize],
-    sizes: &[usize],
-    nodes: &[usize],
-    backs: &[usize],
+    rows: &[usize],
     k: usize,
     n: usize,
     right: &mut [u64],
     work: &mut [u8],
 ) -> bool
-    requires { ⌜ Cutting inputs gates (now pins) (now sources) (now counts) (now tables) (now roots) (now sizes) (now nodes) (now backs) k n × (n ≤ mostLuts) × (n ≤ length (now right)) ⌝ }
+    requires { ⌜ Cutting inputs gates (now net) (drop (sourcesAt gates) (now net)) (drop (countsAt gates) (now net)) (now tables) (now rows) (sizesIn n (now rows)) (nodesIn n (now rows)) (backsIn n (now rows)) k n × (n ≤ mostLuts) × (n ≤ length (now right)) ⌝ }
+    requires { ⌜ (nextsAt gates ≤ length (now net)) × (rowRoom n ≤ length (now rows)) ⌝ }
     requires { ⌜ (mostTable ≤ length (now work)) × Clear (now work) ⌝ }
-    ensures { λ r. ⌜ CutsTried inputs gates (now (pins .entry)) (now (sources .entry)) (now (counts .entry)) (now (tables .entry)) (now (roots .entry)) (now (sizes .entry)) (now (nodes .entry)) (now (backs .entry)) k n (now (right .exit)) r ⌝ }
+    ensures { λ r. ⌜ CutsTried inputs gates (now (net .entry)) (drop (sourcesAt gates) (now (net .entry))) (drop (countsAt gates) (now (net .entry))) (now (tables .entry)) (now (rows .entry)) (sizesIn n (now (rows .entry))) (nodesIn n (now (rows .entry))) (backsIn n (now (rows .entry))) k n (now (right .exit)) r ⌝ }
     ensures { λ _. ⌜ Clear (now (work .exit)) ⌝ }
 {
     let mut i = 0;
     while i < n {
-        let g = roots[i] - inputs;
-        let t = try_row(
-            inputs,
-            gates,
-            pins,
-            sources,
-            counts,
-            tables,
-            sizes,
-            nodes,
-            backs,
-            i,
-            g,
-            work,
-        );
+        let g = rows[i] - inputs;
+        let t = try_row(inputs, gates, net, tables, rows, n, i, g, work);
         if t.none {
             return true;
         }
@@ -90,42 +75,23 @@ fn some_wrong(tables: &[u64], sizes: &[usize], fulls: &[u64], n: usize) -> bool
 pub fn check_luts(
     inputs: usize,
     gates: usize,
-    pins: &[usize],
-    sources: &[usize],
-    counts: &[usize],
+    net: &[usize],
     tables: &[u64],
-    roots: &[usize],
-    sizes: &[usize],
-    nodes: &[usize],
-    backs: &[usize],
+    rows: &[usize],
     luts: &[u64],
     k: usize,
     n: usize,
     work: &mut [u8],
 ) -> usize
-    requires { ⌜ Cutting inputs gates (now pins) (now sources) (now counts) (now tables) (now roots) (now sizes) (now nodes) (now backs) k n × (n ≤ mostLuts) × (n ≤ length (now luts)) ⌝ }
+    requires { ⌜ Cutting inputs gates (now net) (drop (sourcesAt gates) (now net)) (drop (countsAt gates) (now net)) (now tables) (now rows) (sizesIn n (now rows)) (nodesIn n (now rows)) (backsIn n (now rows)) k n × (n ≤ mostLuts) × (n ≤ length (now luts)) ⌝ }
+    requires { ⌜ (nextsAt gates ≤ length (now net)) × (rowRoom n ≤ length (now rows)) ⌝ }
     requires { ⌜ (mostTable ≤ length (now work)) × Clear (now work) ⌝ }
-    ensures { λ r. ⌜ CutsTold inputs gates (now (pins .entry)) (now (sources .entry)) (now (counts .entry)) (now (tables .entry)) (now (roots .entry)) (now (sizes .entry)) (now (nodes .entry)) (now (backs .entry)) (now (luts .entry)) k n r ⌝ }
+    ensures { λ r. ⌜ CutsTold inputs gates (now (net .entry)) (drop (sourcesAt gates) (now (net .entry))) (drop (countsAt gates) (now (net .entry))) (now (tables .entry)) (now (rows .entry)) (sizesIn n (now (rows .entry))) (nodesIn n (now (rows .entry))) (backsIn n (now (rows .entry))) (now (luts .entry)) k n r ⌝ }
     ensures { λ _. ⌜ Clear (now (work .exit)) ⌝ }
 {
     let mut right = [0u64; LUTS];
-    let uncut = no_cuts(
-        inputs,
-        gates,
-        pins,
-        sources,
-        counts,
-        tables,
-        roots,
-        sizes,
-        nodes,
-        backs,
-        k,
-        n,
-        &mut right,
-        work,
-    );
-    let wrong = some_wrong(luts, sizes, &right, n);
+    let uncut = no_cuts(inputs, gates, net, tables, rows, k, n, &mut right, work);
+    let wrong = some_wrong(luts, &rows[n..], &right, n);
     if uncut {
         return 14;
     }

@@ -2,24 +2,24 @@
 use mathlib.Core.Path.{_≡_}
 use mathlib.Core.Bool.{true, false}
 use mathlib.Core.List.{List, []}
-use Prim.Native.Nat.{ℕ, _+_, _*_, _≤_}
+use Prim.Native.Nat.{ℕ, _+_, _≤_}
 use lib.IntN.{ℤ}
-use lib.ListN.{length, drop}
-use Rattle.limits.specs.Limits.{mostPins}
+use lib.ListN.{length}
 use Rattle.limits.specs.declared.Rules.{Rules}
 use Rattle.net_model.specs.Net.{Net, size}
 use Rattle.net_bytes.specs.Reading.{got, refused}
 use Rattle.cover_records.specs.CoverBytes.{Record, coverReader}
+use Rattle.cover_records.specs.Rows.{sizesIn, nodesIn, backsIn, rowRoom}
 use Rattle.cover_records.specs.Held.{Held, held, lutsIn, WellHeld}
 use Rattle.cover_reader.specs.declared.Candidate.{Candidate}
 
 -- the arrays of n LUTs, parts of one slice
 abbrev pub heldIn : ℕ → List ℕ → List ℤ → List ℕ → Held
-heldIn n rows lags tables = held rows (drop n rows) (drop (2 * n) rows) (drop ((2 + mostPins) * n) rows) lags tables
+heldIn n rows lags tables = held rows (sizesIn n rows) (nodesIn n rows) (backsIn n rows) lags tables
 
 -- room for n LUTs
 pub record Spacious (n : ℕ) (rows : List ℕ) (lags : List ℤ) (tables : List ℕ) : Type 0 where
-  pub atRows : (2 + 2 * mostPins) * n ≤ length rows
+  pub atRows : rowRoom n ≤ length rows
   pub atLags : n ≤ length lags
   pub atTables : n ≤ length tables
 

@@ -13,6 +13,8 @@ pub mod Outcomes
 pub mod Program
 pub mod Accepted
 pub mod Kept
+pub mod Rows
+pub mod RowLaws
 pub mod Held
 pub mod HeldLaws
 pub mod CheckLaws

@@ -1,5 +1,6 @@
-// The register count of a cover kept in arrays: all leaves of its LUTs and all outputs, taken into a tally.
+// The register count of the cover kept: all leaves of its LUTs and all outputs, taken into a tally.
 use cover_tally::Tally;
+use cover_writer::CoverHead;
 use limits::PINS;
 use signed::lag_of;
 use signed::whole;
@@ -11,7 +12,8 @@ ghost use lib.ListN.{length};
 ghost use Rattle.integers.specs.Parts.{up};
 ghost use Rattle.net_model.specs.Arrays.{copiesFrom, pinsIn};
 ghost use Rattle.cover_theory.specs.SharedRegisters.{tap};
-ghost use Rattle.cover_records.specs.Kept.{kept, entriesFrom, entriesIn};
+ghost use Rattle.cover_records.specs.Kept.{entriesFrom, entriesIn};
+ghost use Rattle.cover_records.specs.Rows.{keptIn, rowRoom};
 ghost use Rattle.cover_records.specs.Listing.{lagIn, leafTaps, lutTaps, outputTaps};
 ghost use Rattle.cover_tally.specs.Tallies.{Took};
 ghost use Rattle.cover_writer.specs.Writing.{Below};
@@ -36,47 +38,38 @@ fn counted(z: i64) -> u32
 }
 
 // The lag of a node: 0 for an input.
-fn lag_at(
-    inputs: usize,
-    gates: usize,
-    period: usize,
-    labels: &[i64],
-    marks: &[usize],
-    u: usize,
-) -> i64
-    requires { ⌜ LagsHeld (marking inputs gates period (now labels) (now marks)) ⌝ }
-    ensures { λ r. ⌜ Counted 128 (lagIn (entriesIn (marking inputs gates period (now (labels .entry)) (now (marks .entry)))) u) r ⌝ }
+fn lag_at(s: CoverHead, labels: &[i64], rows: &[usize], u: usize) -> i64
+    requires { ⌜ LagsHeld (marking (s .inputs) (s .gates) (s .period) (now labels) (now rows)) ⌝ }
+    ensures { λ r. ⌜ Counted 128 (lagIn (entriesIn (marking (s .inputs) (s .gates) (s .period) (now (labels .entry)) (now (rows .entry)))) u) r ⌝ }
 {
-    if u < inputs {
+    if u < s.inputs {
         return 0;
     }
-    let g = u - inputs;
-    if gates <= g {
+    let g = u - s.inputs;
+    if s.gates <= g {
         return 0;
     }
-    if marks[g] == 0 {
+    if rows[g] == 0 {
         return 0;
     }
-    lag_of(labels[u], period)
+    lag_of(labels[u], s.period)
 }
 
 // A connection, or an output with `own` 0: node u is read through d registers, before moving.
 fn take_reader(
     tally: Tally,
-    inputs: usize,
-    gates: usize,
-    period: usize,
+    s: CoverHead,
     labels: &[i64],
-    marks: &[usize],
+    rows: &[usize],
     own: i64,
     u: usize,
     d: usize,
 ) -> Tally
-    requires { ⌜ LagsHeld (marking inputs gates period (now labels) (now marks)) ⌝ }
+    requires { ⌜ LagsHeld (marking (s .inputs) (s .gates) (s .period) (now labels) (now rows)) ⌝ }
     requires { ⌜ (d < depthRoom) × Within 128 own ⌝ }
-    ensures { λ r. ⌜ Took (tap u ((pos d +ℤ own) -ℤ lagIn (entriesIn (marking inputs gates period (now (labels .entry)) (now (marks .entry)))) u) ∷ []) (tally .places) (r .places) ⌝ }
+    ensures { λ r. ⌜ Took (tap u ((pos d +ℤ own) -ℤ lagIn (entriesIn (marking (s .inputs) (s .gates) (s .period) (now (labels .entry)) (now (rows .entry)))) u) ∷ []) (tally .places) (r .places) ⌝ }
 {
-    let other = lag_at(inputs, gates, period, labels, marks, u);
+    let other = lag_at(s, labels, rows, u);
     let number = counted(moved(d, own, other));
     tally.take(u, number)
 }
@@ -84,100 +77,67 @@ fn take_reader(
 // n leaves, from place p on, of the LUT with this root.
 fn take_leaves(
     tally: Tally,
-    inputs: usize,
-    gates: usize,
-    period: usize,
+    s: CoverHead,
     labels: &[i64],
-    marks: &[usize],
+    rows: &[usize],
     nodes: &[usize],
     backs: &[usize],
     root: usize,
     p: usize,
     n: usize,
 ) -> Tally
-    requires { ⌜ LagsHeld (marking inputs gates period (now labels) (now marks)) ⌝ }
+    requires { ⌜ LagsHeld (marking (s .inputs) (s .gates) (s .period) (now labels) (now rows)) ⌝ }
     requires { ⌜ (p + n ≤ length (now nodes)) × (p + n ≤ length (now backs)) ⌝ }
     requires { ⌜ Below depthRoom (now backs) p n ⌝ }
-    ensures { λ r. ⌜ Took (leafTaps (entriesIn (marking inputs gates period (now (labels .entry)) (now (marks .entry)))) (lagIn (entriesIn (marking inputs gates period (now (labels .entry)) (now (marks .entry)))) root) (copiesFrom (now (nodes .entry)) (now (backs .entry)) p n)) (tally .places) (r .places) ⌝ }
+    ensures { λ r. ⌜ Took (leafTaps (entriesIn (marking (s .inputs) (s .gates) (s .period) (now (labels .entry)) (now (rows .entry)))) (lagIn (entriesIn (marking (s .inputs) (s .gates) (s .period) (now (labels .entry)) (now (rows .entry)))) root) (copiesFrom (now (nodes .entry)) (now (backs .entry)) p n)) (tally .places) (r .places) ⌝ }
 {
-    let own = lag_at(inputs, gates, period, labels, marks, root);
+    let own = lag_at(s, labels, rows, root);
     let mut t = tally;
     let mut j = 0;
     while j < n {
         let u = nodes[p + j];
         let d = backs[p + j];
-        t = take_reader(t, inputs, gates, period, labels, marks, own, u, d);
+        t = take_reader(t, s, labels, rows, own, u, d);
         j += 1;
     }
     t
 }
 
 // The leaves of the LUT of gate g, where it has one.
-fn take_gate(
-    tally: Tally,
-    inputs: usize,
-    gates: usize,
-    period: usize,
-    labels: &[i64],
-    marks: &[usize],
-    sizes: &[usize],
-    nodes: &[usize],
-    backs: &[usize],
-    g: usize,
-) -> Tally
-    requires { ⌜ LeavesHeld (kept inputs gates period (now labels) (now marks) (now sizes) (now nodes) (now backs) []) ⌝ }
-    requires { ⌜ g < gates ⌝ }
-    ensures { λ r. ⌜ Took (lutTaps (entriesIn (marking inputs gates period (now (labels .entry)) (now (marks .entry)))) (entriesFrom (kept inputs gates period (now (labels .entry)) (now (marks .entry)) (now (sizes .entry)) (now (nodes .entry)) (now (backs .entry)) []) g 1)) (tally .places) (r .places) ⌝ }
+fn take_gate(tally: Tally, s: CoverHead, labels: &[i64], rows: &[usize], g: usize) -> Tally
+    requires { ⌜ LeavesHeld (keptIn (s .inputs) (s .gates) (s .period) (now labels) (now rows) []) ⌝ }
+    requires { ⌜ (g < s .gates) × (rowRoom (s .gates) ≤ length (now rows)) ⌝ }
+    ensures { λ r. ⌜ Took (lutTaps (entriesIn (marking (s .inputs) (s .gates) (s .period) (now (labels .entry)) (now (rows .entry)))) (entriesFrom (keptIn (s .inputs) (s .gates) (s .period) (now (labels .entry)) (now (rows .entry)) []) g 1)) (tally .places) (r .places) ⌝ }
 {
-    if marks[g] == 0 {
+    if rows[g] == 0 {
         return tally;
     }
-    let root = inputs + g;
+    let a = 2 * s.gates;
+    let b = (2 + PINS) * s.gates;
     take_leaves(
         tally,
-        inputs,
-        gates,
-        period,
+        s,
         labels,
-        marks,
-        nodes,
-        backs,
-        root,
+        rows,
+        &rows[a..],
+        &rows[b..],
+        s.inputs + g,
         PINS * g,
-        sizes[g],
+        rows[s.gates + g],
     )
 }
 
 // The leaves of all LUTs.
-fn take_luts(
-    tally: Tally,
-    inputs: usize,
-    gates: usize,
-    period: usize,
-    labels: &[i64],
-    marks: &[usize],
-    sizes: &[usize],
-    nodes: &[usize],
-    backs: &[usize],
-) -> Tally
-    requires { ⌜ LeavesHeld (kept inputs gates period (now labels) (now marks) (now sizes) (now nodes) (now backs) []) ⌝ }
-    ensures { λ r. ⌜ Took (lutTaps (entriesIn (marking inputs gates period (now (labels .entry)) (now (marks .entry)))) (entriesFrom (kept inputs gates period (now (labels .entry)) (now (marks .entry)) (now (sizes .entry)) (now (nodes .entry)) (now (backs .entry)) []) 0 gates)) (tally .places) (r .places) ⌝ }
+fn take_luts(tally: Tally, s: CoverHead, labels: &[i64], rows: &[usize]) -> Tally
+    requires { ⌜ LeavesHeld (keptIn (s .inputs) (s .gates) (s .period) (now labels) (now rows) []) ⌝ }
+    requires { ⌜ rowRoom (s .gates) ≤ length (now rows) ⌝ }
+    ensures { λ r. ⌜ Took (lutTaps (entriesIn (marking (s .inputs) (s .gates) (s .period) (now (labels .entry)) (now (rows .entry)))) (entriesFrom (keptIn (s .inputs) (s .gates) (s .period) (now (labels .entry)) (now (rows .entry)) []) 0 (s .gates))) (tally .places) (r .places) ⌝ }
 {
+    let gates = s.gates;
     let mut t = tally;
     let mut g = 0;
     while g < gates {
-        t = take_gate(
-            t,
-            inputs,
-            gates,
-            period,
-            labels,
-            marks,
-            sizes,
-            nodes,
-            backs,
-            g,
-        );
+        t = take_gate(t, s, labels, rows, g);
         g += 1;
     }
     t
@@ -186,26 +146,24 @@ fn take_luts(
 // n outputs.
 fn take_outputs(
     tally: Tally,
-    inputs: usize,
-    gates: usize,
-    period: usize,
+    s: CoverHead,
     labels: &[i64],
-    marks: &[usize],
+    rows: &[usize],
     outs: &[usize],
     delays: &[usize],
     n: usize,
 ) -> Tally
-    requires { ⌜ LagsHeld (marking inputs gates period (now labels) (now marks)) ⌝ }
+    requires { ⌜ LagsHeld (marking (s .inputs) (s .gates) (s .period) (now labels) (now rows)) ⌝ }
     requires { ⌜ (n ≤ length (now outs)) × (n ≤ length (now delays)) ⌝ }
     requires { ⌜ Below depthRoom (now delays) 0 n ⌝ }
-    ensures { λ r. ⌜ Took (outputTaps (entriesIn (marking inputs gates period (now (labels .entry)) (now (marks .entry)))) (pinsIn (now (outs .entry)) (now (delays .entry)) 0 n)) (tally .places) (r .places) ⌝ }
+    ensures { λ r. ⌜ Took (outputTaps (entriesIn (marking (s .inputs) (s .gates) (s .period) (now (labels .entry)) (now (rows .entry)))) (pinsIn (now (outs .entry)) (now (delays .entry)) 0 n)) (tally .places) (r .places) ⌝ }
 {
     let mut t = tally;
     let mut o = 0;
     while o < n {
         let u = outs[o];
         let d = delays[o];
-        t = take_reader(t, inputs, gates, period, labels, marks, 0, u, d);
+        t = take_reader(t, s, labels, rows, 0, u, d);
         o += 1;
     }
     t
@@ -213,35 +171,21 @@ fn take_outputs(
 
 // The register count.
 pub fn count_registers(
-    inputs: usize,
-    gates: usize,
-    period: usize,
+    s: CoverHead,
     labels: &[i64],
-    marks: &[usize],
-    sizes: &[usize],
-    nodes: &[usize],
-    backs: &[usize],
+    rows: &[usize],
     outs: &[usize],
     delays: &[usize],
     n: usize,
 ) -> usize
-    requires { ⌜ LeavesHeld (kept inputs gates period (now labels) (now marks) (now sizes) (now nodes) (now backs) []) ⌝ }
+    requires { ⌜ LeavesHeld (keptIn (s .inputs) (s .gates) (s .period) (now labels) (now rows) []) ⌝ }
     requires { ⌜ (n ≤ length (now outs)) × (n ≤ length (now delays)) ⌝ }
     requires { ⌜ Below depthRoom (now delays) 0 n ⌝ }
-    ensures { λ r. ⌜ r ≡ registersOf (kept inputs gates period (now (labels .entry)) (now (marks .entry)) (now (sizes .entry)) (now (nodes .entry)) (now (backs .entry)) []) (now (outs .entry)) (now (delays .entry)) n ⌝ }
+    requires { ⌜ rowRoom (s .gates) ≤ length (now rows) ⌝ }
+    ensures { λ r. ⌜ r ≡ registersOf (keptIn (s .inputs) (s .gates) (s .period) (now (labels .entry)) (now (rows .entry)) []) (now (outs .entry)) (now (delays .entry)) n ⌝ }
 {
     let empty = Tally::new();
-    let luts = take_luts(
-        empty,
-        inputs,
-        gates,
-        period,
-        labels,
-        marks,
-        sizes,
-        nodes,
-        backs,
-    );
-    let all = take_outputs(luts, inputs, gates, period, labels, marks, outs, delays, n);
+    let luts = take_luts(empty, s, labels, rows);
+    let all = take_outputs(luts, s, labels, rows, outs, delays, n);
     all.total()
 }

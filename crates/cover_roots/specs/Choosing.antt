@@ -10,6 +10,7 @@ use Rattle.net_model.specs.Arrays.{stride, pinsIn, copiesFrom}
 use Rattle.cone_theory.specs.Ranks.{Ranked}
 use Rattle.cone_theory.specs.Reach.{reachOf}
 use Rattle.cover_theory.specs.Key.{Key, Root}
+use Rattle.cover_records.specs.Rows.{rowRoom}
 use Rattle.signed.specs.Range.{Small, room, labelIn}
 use Rattle.cut_circuit.specs.Circuit.{Circuit, total}
 use Rattle.cut_circuit.specs.Bridge.{Holds}
@@ -27,19 +28,11 @@ pub record Asking (C : Circuit) (ls : List ℤ) (φ k : ℕ) : Type 0 where
   pub ranked : Ranked net
   pub loopless : Loopless net
 
--- For each of G gates a mark, a number of leaves, and places for its leaves.
-pub record Places (G : ℕ) (marks sizes nodes backs : List ℕ) : Type 0 where
-  pub atMarks : G ≤ length marks
-  pub atSizes : G ≤ length sizes
-  pub atNodes : stride * G ≤ length nodes
-  pub atBacks : stride * G ≤ length backs
-
--- What is asked: no gate is marked yet, and n outputs can be read.
-pub record Chooses (C : Circuit) (ls : List ℤ) (os : List ℕ) (n φ k : ℕ) (marks sizes nodes backs : List ℕ) : Type 0 where
+-- What is asked: room for the cover, and no gate is marked yet.
+pub record Chooses (C : Circuit) (ls : List ℤ) (φ k : ℕ) (rows : List ℕ) : Type 0 where
   pub asking : Asking C ls φ k
-  pub places : Places (C .gates) marks sizes nodes backs
-  pub outputs : n ≤ length os
-  pub unmarked : (g : ℕ) → g < C .gates → getD marks g 0 ≡ 0
+  pub places : rowRoom (C .gates) ≤ length rows
+  pub unmarked : (g : ℕ) → g < C .gates → getD rows g 0 ≡ 0
 
 -- A net with this wiring whose cuts the border leaves room for, and a key of it with these labels.
 pub record Keyed (C : Circuit) (ls : List ℤ) (φ k : ℕ) : Type 0 where

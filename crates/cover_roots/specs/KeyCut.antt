@@ -1,16 +1,14 @@
 -- The cut that the engine tells at a gate's own label is the one that every key of the net has there.
 use mathlib.Core.Path.{_≡_, refl, sym, ap, subst, _∙_, fun-ext}
 use mathlib.Core.Logic.{_⊎_, inl, inr}
-use mathlib.Core.List.{List, _∷_, _++_}
-use Prim.Native.Nat.{ℕ, zero, suc, _+_, _-_, _*_, _≤_, _<_}
+use mathlib.Core.List.{List, _∷_}
+use Prim.Native.Nat.{ℕ, zero, suc, _+_, _*_, _≤_, _<_}
 use native.Mathlib.Nat.{add-zero}
 use native.Mathlib.Decide.{decLe}
 use native.Mathlib.Omega.{arith}
 use lib.IntN.{ℤ, pos, _-ℤ_}
-use lib.ListN.{length, getD, take, drop, List·getD-append}
-use lib.Seq.{getD-append-add, getD-take, getD-drop, length-take-le}
+use lib.ListN.{length, getD}
 use lib.Signed.{_≤ℤ_}
-use borrow.Rule.Slice.PartMut.{mid-len}
 use Rattle.integers.specs.Order.{≤ℤ-trans}
 use Rattle.integers.specs.Parts.{ints, +-parts, sub-parts}
 use Rattle.integers.specs.Height.{height-parts}
@@ -101,47 +99,6 @@ module _ (C : Circuit) {ls : List ℤ} {φ k : ℕ} (g : ℕ) (gate : g < C .gat
         let y = subst (λ (z : ℤ). (s : Separated (c .net) v φ (labelIn ls) z (C .border) k r) × (s .parted .leaves ≡ copiesFrom nodes backs 0 r)) e x in
         let z = subst (λ (lab : ℕ → ℤ). (s : Separated (c .net) v φ lab (lab v) (C .border) k r) × (s .parted .leaves ≡ copiesFrom nodes backs 0 r)) (sym label-is) y in
         sym (z .1) ∙ separated-leaves (z .0) (c .ranked) (c .border) (least-falling (c .sound) (c .key .least)) (c .key .chosen v isGate) ∙ sym (c .key .isLeaves v isGate)
-
--- ---- a part of an array
-
--- only the places of one gate, from place `at` on, may differ
-pub record Beside (at : ℕ) (xs ys : List ℕ) : Type 0 where
-  pub before : (i : ℕ) → i < at → getD ys i 0 ≡ getD xs i 0
-  pub behind : (i : ℕ) → at + stride ≤ i → getD ys i 0 ≡ getD xs i 0
-
-pub part-length : (at : ℕ) (xs : List ℕ) → at + stride ≤ length xs → length (take (at + stride - at) (drop at xs)) ≡ stride
-part-length at xs h = mid-len at (at + stride) xs h ∙ omega arith
-
--- xs with p in the place of a gate's places
-abbrev pub put : ℕ → List ℕ → List ℕ → List ℕ
-put at xs p = take at xs ++ (p ++ drop (at + stride - at) (drop at xs))
-
-module _ (at : ℕ) (xs p : List ℕ) (room : at + stride ≤ length xs) (size : length p ≡ stride) where
-  start : length (take at xs) ≡ at
-  start = length-take-le at xs (omega arith)
-
-  pub put-beside : Beside at xs (put at xs p)
-  put-beside = record { before = before; behind = behind }
-    where
-      before : (i : ℕ) → i < at → getD (put at xs p) i 0 ≡ getD xs i 0
-      before i h = List·getD-append (take at xs) (p ++ drop (at + stride - at) (drop at xs)) 0 i (omega (arith, start)) ∙ getD-take at xs i 0 h
-
-      behind : (i : ℕ) → at + stride ≤ i → getD (put at xs p) i 0 ≡ getD xs i 0
-      behind i h =
-          let rest = drop (at + stride - at) (drop at xs) in
-          ap (λ (x : ℕ). getD (put at xs p) x 0) (omega (arith, start, h))
-          ∙ getD-append-add (take at xs) (p ++ rest) (length p + (i - (at + stride))) 0
-          ∙ getD-append-add p rest (i - (at + stride)) 0
-          ∙ getD-drop (at + stride - at) (drop at xs) (i - (at + stride)) 0
-          ∙ getD-drop at xs (at + stride - at + (i - (at + stride))) 0
-          ∙ ap (λ (x : ℕ). getD xs x 0) (omega (arith, h))
-
-  pub put-at : (i : ℕ) → i < stride → getD (put at xs p) (at + i) 0 ≡ getD p i 0
-  put-at i h =
-      let rest = drop (at + stride - at) (drop at xs) in
-      ap (λ (x : ℕ). getD (put at xs p) x 0) (omega (arith, start))
-      ∙ getD-append-add (take at xs) (p ++ rest) i 0
-      ∙ List·getD-append p rest 0 i (omega (arith, size, h))
 
 -- copies at other places that have the same nodes and d's
 pub copies-same : (nodes backs nodes′ backs′ : List ℕ) (at at′ n : ℕ) → ((i : ℕ) → i < n → getD nodes (at + i) 0 ≡ getD nodes′ (at′ + i) 0)

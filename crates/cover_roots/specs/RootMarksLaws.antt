@@ -41,6 +41,15 @@ module _ (I G u : ℕ) (m : List ℕ) (h : I ≤ u) (l : u - I < G) where
 pub marks-stay : {P : ℕ → Type 0} {m m′ : List ℕ} → Marks P m m′ → (g : ℕ) → ¬ (getD m g 0 ≡ 0) → ¬ (getD m′ g 0 ≡ 0)
 marks-stay a g h z = h (sym (a .kept g h) ∙ z)
 
+-- places that are no gates' stay
+pub marks-behind : {P : ℕ → Type 0} {m m′ : List ℕ} {n : ℕ} → Marks P m m′ → ((g : ℕ) → P g → g < n) → (i : ℕ) → n ≤ i → getD m′ i 0 ≡ getD m i 0
+marks-behind {m = m} {m′} a gate i h = go (ℕ-discrete (getD m i 0) 0) (ℕ-discrete (getD m′ i 0) 0)
+  where
+    go : Dec (getD m i 0 ≡ 0) → Dec (getD m′ i 0 ≡ 0) → getD m′ i 0 ≡ getD m i 0
+    go (no z) d = a .kept i z
+    go (yes z) (yes w) = w ∙ sym z
+    go (yes z) (no w) = let p = gate i (a .new i z w .1) in absurd (omega (arith, p, h))
+
 -- the nodes at one more place
 pub among-none : (I G : ℕ) (nodes : List ℕ) (from : ℕ) (m : List ℕ) → Marks (Among I G nodes from from) m m
 among-none I G nodes from m = marks-none m (λ g p. absurd (omega (arith, p .low, p .high)))
@@ -69,20 +78,20 @@ among-at {I} {G} {nodes} {from} {m = m} {m′} e a = subst (λ (x : ℕ). Marks 
 
 -- ---- what is left
 
-left-less : (m m′ : List ℕ) (n : ℕ) → ((g : ℕ) → getD m g 0 ≤ getD m′ g 0) → left m′ n ≤ left m n
+left-less : (m m′ : List ℕ) (n : ℕ) → ((g : ℕ) → g < n → getD m g 0 ≤ getD m′ g 0) → left m′ n ≤ left m n
 unfolding left
 left-less m m′ zero f = omega arith
-left-less m m′ (suc n) f = let a = f n in let b = left-less m m′ n f in omega arith
+left-less m m′ (suc n) f = let a = f n (omega arith) in let b = left-less m m′ n (λ g h. f g (omega (arith, h))) in omega arith
 
-pub left-falls : (m m′ : List ℕ) (n g : ℕ) → g < n → ((u : ℕ) → getD m u 0 ≤ getD m′ u 0) → getD m g 0 < 2 → getD m g 0 < getD m′ g 0 → left m′ n < left m n
+pub left-falls : (m m′ : List ℕ) (n g : ℕ) → g < n → ((u : ℕ) → u < n → getD m u 0 ≤ getD m′ u 0) → getD m g 0 < 2 → getD m g 0 < getD m′ g 0 → left m′ n < left m n
 unfolding left
 left-falls m m′ zero g h f l s = absurd (omega (arith, h))
 left-falls m m′ (suc n) g h f l s = go (left-falls m m′ n g) (ℕ-discrete g n)
   where
-    go : (g < n → ((u : ℕ) → getD m u 0 ≤ getD m′ u 0) → getD m g 0 < 2 → getD m g 0 < getD m′ g 0 → left m′ n < left m n) → Dec (g ≡ n) → left m′ (suc n) < left m (suc n)
+    go : (g < n → ((u : ℕ) → u < n → getD m u 0 ≤ getD m′ u 0) → getD m g 0 < 2 → getD m g 0 < getD m′ g 0 → left m′ n < left m n) → Dec (g ≡ n) → left m′ (suc n) < left m (suc n)
     go rest (yes e) =
-        let a = left-less m m′ n f in
+        let a = left-less m m′ n (λ u l. f u (omega (arith, l))) in
         let b = ap (λ (x : ℕ). getD m x 0) e in
         let c = ap (λ (x : ℕ). getD m′ x 0) e in
         omega arith
-    go rest (no e) = let a = f n in let b = rest (omega arith) f l s in omega arith
+    go rest (no e) = let a = f n (omega arith) in let b = rest (omega arith) (λ u l. f u (omega (arith, l))) l s in omega arith

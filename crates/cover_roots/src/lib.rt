@@ -1,18 +1,22 @@
-// The chosen roots of a cover and the chosen cut of each: from the outputs back, one root after another.
+// The chosen roots of a cover and the chosen cut of each: from the outputs back, one root after another. They are kept in one slice, rows.
 use cut_circuit::Extent;
 use cut_forced::Query;
 use cut_question::chosen;
+use label_visit::Aim;
 use limits::PINS;
-ghost use mathlib.Core.Path.{_≡_};
+use net_marks::store;
 ghost use mathlib.Core.List.{[]};
-ghost use Prim.Native.Nat.{_*_, _≤_, _<_};
+ghost use Prim.Native.Nat.{_≤_, _<_};
 ghost use lib.ListN.{length};
 ghost use Rattle.net_model.specs.Arrays.{stride};
+ghost use Rattle.net_model.specs.PackedNet.{packedRoom};
+ghost use Rattle.cover_records.specs.Rows.{sizesIn, nodesIn, backsIn, rowRoom};
 ghost use Rattle.cut_circuit.specs.Packed.{packedOf};
 ghost use Rattle.cut_question.specs.Separating.{AtRest};
-ghost use Rattle.cover_roots.specs.Choosing.{Asking, Places, Chooses, RootsTold};
+ghost use Rattle.label_sweep.specs.Sweeps.{outsIn};
+ghost use Rattle.cover_roots.specs.Choosing.{Asking, Chooses, RootsTold};
 ghost use Rattle.cover_roots.specs.RootMarks.{IsAt, Among, Marks, Pending};
-ghost use Rattle.cover_roots.specs.RootRounds.{CutWritten, Stored, Taken};
+ghost use Rattle.cover_roots.specs.RootRounds.{RowKept, Stored, Taken};
 
 // Marks node u with 1, where it is a gate without a mark.
 fn mark(inputs: usize, gates: usize, marks: &mut [usize], u: usize)
@@ -66,78 +70,50 @@ fn pending(marks: &[usize], n: usize) -> usize
     n
 }
 
-// The chosen cut of gate g: its leaves are written to the gate's places. Their number.
-fn cut_of(
-    s: Extent,
-    net: &[usize],
-    slots: &mut [u32],
-    table: &mut [u8],
-    list: &mut [u32],
-    stack: &mut [u32],
-    counts: &mut [u32],
-    members: &mut [u32],
-    labels: &[i64],
-    phi: usize,
-    k: usize,
-    nodes: &mut [usize],
-    backs: &mut [usize],
-    g: usize,
-) -> usize
-    requires { ⌜ AtRest (packedOf s (now net) (now slots)) (now table) (now list) (now stack) (now counts) (now members) ⌝ }
-    requires { ⌜ Asking (packedOf s (now net) []) (now labels) phi k × (g < s .gates) × (stride * s .gates ≤ length (now nodes)) × (stride * s .gates ≤ length (now backs)) ⌝ }
-    ensures rest { λ _. ⌜ AtRest (packedOf s (now (net .entry)) (now (slots .exit))) (now (table .exit)) (now (list .exit)) (now (stack .exit)) (now (counts .exit)) (now (members .exit)) ⌝ }
-    ensures cut { λ r. ⌜ CutWritten (packedOf s (now (net .entry)) []) (now (labels .entry)) phi k g (now (nodes .entry)) (now (backs .entry)) (now (nodes .exit)) (now (backs .exit)) r ⌝ }
+// The gates that the outputs read are marked.
+fn mark_outputs(s: Extent, net: &[usize], n: usize, rows: &mut [usize])
+    requires { ⌜ packedRoom (s .inputs) (s .gates) n ≤ length (now net) ⌝ }
+    requires { ⌜ s .gates ≤ length (now rows) ⌝ }
+    ensures { λ _. ⌜ Marks (Among (s .inputs) (s .gates) (outsIn s (now (net .entry))) 0 n) (now (rows .entry)) (now (rows .exit)) ⌝ }
 {
-    let v = s.inputs + g;
-    let h = labels[v];
-    let q = Query {
-        phi: phi,
-        k: k,
-        gate: g,
-        height: h,
-    };
-    let at = PINS * g;
-    let end = at + PINS;
-    chosen(
-        s,
-        net,
-        slots,
-        table,
-        list,
-        stack,
-        counts,
-        members,
-        &mut nodes[at..end],
-        &mut backs[at..end],
-        labels,
-        q,
-    )
+    let y = (2 + 3 * PINS) * s.gates + (s.inputs + s.gates) + s.gates + s.gates;
+    mark_nodes(s.inputs, s.gates, rows, &net[y..], 0, n);
 }
 
-// Gate g is done: the number of its leaves is kept, and those that are gates are marked.
-fn store(
+// Gate g is done, with r leaves, at its places.
+fn keep(gates: usize, rows: &mut [usize], nodes: &[usize], backs: &[usize], g: usize, r: usize)
+    requires { ⌜ (g < gates) × (r ≤ stride) × (rowRoom gates ≤ length (now rows)) × (r ≤ length (now nodes)) × (r ≤ length (now backs)) ⌝ }
+    ensures { λ _. ⌜ RowKept gates g r (now (nodes .entry)) (now (backs .entry)) (now (rows .entry)) (now (rows .exit)) ⌝ }
+{
+    rows[g] = 2;
+    rows[gates + g] = r;
+    store(nodes, r, rows, 2 * gates + PINS * g);
+    store(backs, r, rows, (2 + PINS) * gates + PINS * g);
+}
+
+// Gate g is done: its cut is kept, and the leaves that are gates are marked.
+fn finish(
     inputs: usize,
     gates: usize,
     k: usize,
-    marks: &mut [usize],
-    sizes: &mut [usize],
+    rows: &mut [usize],
     nodes: &[usize],
+    backs: &[usize],
     g: usize,
     r: usize,
 )
-    requires { ⌜ (k ≤ stride) × (g < gates) × (gates ≤ length (now marks)) × (gates ≤ length (now sizes)) × (stride * gates ≤ length (now nodes)) ⌝ }
-    ensures { λ _. ⌜ Stored inputs gates k g r (now (nodes .entry)) (now (marks .entry)) (now (sizes .entry)) (now (marks .exit)) (now (sizes .exit)) ⌝ }
+    requires { ⌜ (k ≤ stride) × (g < gates) × (rowRoom gates ≤ length (now rows)) × (k ≤ length (now nodes)) × (k ≤ length (now backs)) ⌝ }
+    ensures { λ _. ⌜ Stored inputs gates k g r (now (nodes .entry)) (now (backs .entry)) (now (rows .entry)) (now (rows .exit)) ⌝ }
 {
-    marks[g] = 2;
     if k < r {
+        rows[g] = 2;
         return;
     }
-    sizes[g] = r;
-    let at = PINS * g;
-    mark_nodes(inputs, gates, marks, nodes, at, at + r);
+    keep(gates, rows, nodes, backs, g, r);
+    mark_nodes(inputs, gates, rows, nodes, 0, r);
 }
 
-// Takes the cut of the root g.
+// Takes the chosen cut of the root g.
 fn take(
     s: Extent,
     net: &[usize],
@@ -148,20 +124,26 @@ fn take(
     counts: &mut [u32],
     members: &mut [u32],
     labels: &[i64],
-    phi: usize,
-    k: usize,
-    marks: &mut [usize],
-    sizes: &mut [usize],
-    nodes: &mut [usize],
-    backs: &mut [usize],
+    a: Aim,
+    rows: &mut [usize],
     g: usize,
 )
     requires { ⌜ AtRest (packedOf s (now net) (now slots)) (now table) (now list) (now stack) (now counts) (now members) ⌝ }
-    requires { ⌜ Asking (packedOf s (now net) []) (now labels) phi k × (g < s .gates) × Places (s .gates) (now marks) (now sizes) (now nodes) (now backs) ⌝ }
+    requires { ⌜ Asking (packedOf s (now net) []) (now labels) (a .phi) (a .k) × (g < s .gates) × (rowRoom (s .gates) ≤ length (now rows)) ⌝ }
     ensures rest { λ _. ⌜ AtRest (packedOf s (now (net .entry)) (now (slots .exit))) (now (table .exit)) (now (list .exit)) (now (stack .exit)) (now (counts .exit)) (now (members .exit)) ⌝ }
-    ensures taken { λ _. ⌜ Taken (packedOf s (now (net .entry)) []) (now (labels .entry)) phi k g (now (marks .entry)) (now (sizes .entry)) (now (nodes .entry)) (now (backs .entry)) (now (marks .exit)) (now (sizes .exit)) (now (nodes .exit)) (now (backs .exit)) ⌝ }
+    ensures taken { λ _. ⌜ Taken (packedOf s (now (net .entry)) []) (now (labels .entry)) (a .phi) (a .k) g (now (rows .entry)) (now (rows .exit)) ⌝ }
 {
-    let r = cut_of(
+    let v = s.inputs + g;
+    let h = labels[v];
+    let q = Query {
+        phi: a.phi,
+        k: a.k,
+        gate: g,
+        height: h,
+    };
+    let mut nodes = [0usize; PINS];
+    let mut backs = [0usize; PINS];
+    let r = chosen(
         s,
         net,
         slots,
@@ -170,17 +152,15 @@ fn take(
         stack,
         counts,
         members,
+        &mut nodes,
+        &mut backs,
         labels,
-        phi,
-        k,
-        nodes,
-        backs,
-        g,
+        q,
     );
-    store(s.inputs, s.gates, k, marks, sizes, nodes, g, r);
+    finish(s.inputs, s.gates, a.k, rows, &nodes, &backs, g, r);
 }
 
-// The chosen roots of the n outputs are marked, and each has its chosen cut's leaves, rising by node, then by d.
+// The chosen roots of the outputs are marked, and each has its chosen cut's leaves, rising by node, then by d.
 pub fn choose(
     s: Extent,
     net: &[usize],
@@ -191,22 +171,17 @@ pub fn choose(
     counts: &mut [u32],
     members: &mut [u32],
     labels: &[i64],
-    outs: &[usize],
-    n: usize,
-    phi: usize,
-    k: usize,
-    marks: &mut [usize],
-    sizes: &mut [usize],
-    nodes: &mut [usize],
-    backs: &mut [usize],
+    a: Aim,
+    rows: &mut [usize],
 )
     requires { ⌜ AtRest (packedOf s (now net) (now slots)) (now table) (now list) (now stack) (now counts) (now members) ⌝ }
-    requires { ⌜ Chooses (packedOf s (now net) []) (now labels) (now outs) n phi k (now marks) (now sizes) (now nodes) (now backs) ⌝ }
+    requires { ⌜ packedRoom (s .inputs) (s .gates) (a .outputs) ≤ length (now net) ⌝ }
+    requires { ⌜ Chooses (packedOf s (now net) []) (now labels) (a .phi) (a .k) (now rows) ⌝ }
     ensures rest { λ _. ⌜ AtRest (packedOf s (now (net .entry)) (now (slots .exit))) (now (table .exit)) (now (list .exit)) (now (stack .exit)) (now (counts .exit)) (now (members .exit)) ⌝ }
-    ensures chosen { λ _. ⌜ RootsTold (packedOf s (now (net .entry)) []) (now (labels .entry)) (now (outs .entry)) n phi k (now (marks .exit)) (now (sizes .exit)) (now (nodes .exit)) (now (backs .exit)) ⌝ }
+    ensures chosen { λ _. ⌜ RootsTold (packedOf s (now (net .entry)) []) (now (labels .entry)) (outsIn s (now (net .entry))) (a .outputs) (a .phi) (a .k) (now (rows .exit)) (sizesIn (s .gates) (now (rows .exit))) (nodesIn (s .gates) (now (rows .exit))) (backsIn (s .gates) (now (rows .exit))) ⌝ }
 {
-    mark_nodes(s.inputs, s.gates, marks, outs, 0, n);
-    let mut g = pending(marks, s.gates);
+    mark_outputs(s, net, a.outputs, rows);
+    let mut g = pending(rows, s.gates);
     while g < s.gates {
         take(
             s,
@@ -218,14 +193,10 @@ pub fn choose(
             counts,
             members,
             labels,
-            phi,
-            k,
-            marks,
-            sizes,
-            nodes,
-            backs,
+            a,
+            rows,
             g,
         );
-        g = pending(marks, s.gates);
+        g = pending(rows, s.gates);
     }
 }

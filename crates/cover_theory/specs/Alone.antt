@@ -1,4 +1,4 @@
--- "a LUT for each gate alone, all lags 0, meets G": written out as a cover.
+-- "a LUT for each gate alone, all lags 0, meets G": written out as a cover, which meets the greatest level too.
 use mathlib.Core.Path.{_≡_, refl, sym, subst, ap, _∙_}
 use mathlib.Core.List.{List, [], _∷_, map}
 use Prim.Native.Nat.{ℕ, zero, suc, _+_, _*_, _≤_, _<_}
@@ -20,9 +20,9 @@ use Rattle.label_theory.specs.Labels.{LowCut}
 use Rattle.cover_theory.specs.Covers.{IsCover, Meets}
 use Rattle.cover_theory.specs.Key.{Entry, HasLut, asCover}
 use Rattle.cover_theory.specs.Written.{Labelled, labelled-cover, labelled-meets}
-use Rattle.cover_theory.specs.Period.{lineLabel, line-labelling, line-outputs, line-cut, levelsOf}
+use Rattle.cover_theory.specs.Period.{lineLabel, line-labelling, line-outputs, line-cut}
 
-module _ {N : Net} {k : ℕ} (P : Passed N k) (φ : ℕ) (enough : length (N .gates) ≤ φ) (pos-φ : 1 ≤ φ) where
+module _ {N : Net} {k : ℕ} (P : Passed N k) (O : Levels N) (φ : ℕ) (enough : (v : ℕ) → O .level v ≤ φ) (pos-φ : 1 ≤ φ) where
   -- the LUT of gate v alone, with lag 0
   abbrev pub aloneEntry : ℕ → Entry
   aloneEntry v = record { root = v; leaves = leavesOf N (copy v 0 ∷ []) .0; lag = pos 0; table = 0 }
@@ -30,12 +30,11 @@ module _ {N : Net} {k : ℕ} (P : Passed N k) (φ : ℕ) (enough : length (N .ga
   pub aloneEntries : List Entry
   aloneEntries = map aloneEntry (gateNumbers N)
 
-  lag-zero : (v : ℕ) → IsGate N v → pos 0 ≡ lag φ (lineLabel P φ enough v)
+  lag-zero : (v : ℕ) → IsGate N v → pos 0 ≡ lag φ (lineLabel P O φ enough v)
   unfolding lineLabel
   lag-zero v g =
-      let O = levelsOf P in
       let a = O .gate v g in
-      let b = O .bound v in
+      let b = enough v in
       let z = mul-zero φ in
       lag-unique φ (record {
         over = omega (arith, ints, *-parts φ (pos 0));
@@ -46,24 +45,24 @@ module _ {N : Net} {k : ℕ} (P : Passed N k) (φ : ℕ) (enough : length (N .ga
   unfolding aloneEntries
   has v g = (aloneEntry v, in-map aloneEntry (in-gateNumbers g), refl)
 
-  labelled : Labelled N k φ (lineLabel P φ enough) aloneEntries
+  labelled : Labelled N k φ (lineLabel P O φ enough) aloneEntries
   unfolding aloneEntries
   labelled = record {
     gate = λ e m. let t = map-in aloneEntry (gateNumbers N) m in subst (λ (x : Entry). IsGate N (x .root)) (sym (t .2)) (gateNumbers-in (t .1));
     cut = λ e m.
         let t = map-in aloneEntry (gateNumbers N) m in
-        subst (λ (x : Entry). (J : LowCut N k φ (lineLabel P φ enough) (x .root) (lineLabel P φ enough (x .root))) × (x .leaves ≡ J .leaves)) (sym (t .2))
-        (line-cut P φ enough (t .0) (gateNumbers-in (t .1)));
+        subst (λ (x : Entry). (J : LowCut N k φ (lineLabel P O φ enough) (x .root) (lineLabel P O φ enough (x .root))) × (x .leaves ≡ J .leaves)) (sym (t .2))
+        (line-cut P O φ enough (t .0) (gateNumbers-in (t .1)));
     lags = λ e m.
         let t = map-in aloneEntry (gateNumbers N) m in
-        subst (λ (x : Entry). x .lag ≡ lag φ (lineLabel P φ enough (x .root))) (sym (t .2)) (lag-zero (t .0) (gateNumbers-in (t .1)));
+        subst (λ (x : Entry). x .lag ≡ lag φ (lineLabel P O φ enough (x .root))) (sym (t .2)) (lag-zero (t .0) (gateNumbers-in (t .1)));
     closed = λ e m y i g. has (y .node) g;
     sources = λ o i g. has (o .src) g;
   }
 
-  -- **A LUT for each gate alone, all lags 0, is a cover that meets every period from G up.**
+  -- **A LUT for each gate alone, all lags 0, is a cover that meets every period from the greatest level up**, so from G up.
   pub alone-cover : IsCover N k (asCover N aloneEntries)
-  alone-cover = labelled-cover (P .sound) pos-φ (line-labelling P φ enough .inputs) labelled (line-outputs P φ enough)
+  alone-cover = labelled-cover (P .sound) pos-φ (line-labelling P O φ enough .inputs) labelled (line-outputs P O φ enough)
 
   pub alone-meets : Meets N (asCover N aloneEntries) φ
-  alone-meets = labelled-meets (P .sound) pos-φ (line-labelling P φ enough .inputs) labelled
+  alone-meets = labelled-meets (P .sound) pos-φ (line-labelling P O φ enough .inputs) labelled

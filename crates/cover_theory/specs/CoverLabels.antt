@@ -4,13 +4,13 @@ use mathlib.Core.List.{List, [], _∷_, _++_, map}
 use mathlib.Core.Logic.{_⊎_, inl, inr}
 use Prim.Native.Nat.{ℕ, zero, suc, _+_, _*_, _≤_, _<_}
 use native.Mathlib.Decide.{ℕ-discrete, decLt}
-use native.Mathlib.Nat.{zero-add, add-zero}
+use native.Mathlib.Nat.{zero-add, add-zero, mul-add, mul-le-mul-left}
 use native.Mathlib.Omega.{arith}
 use borrow.Author.Tests.{le-ltb, lt-ltb}
 use lib.IntN.{ℤ, pos, _+ℤ_, _-ℤ_, _*ℤ_}
 use lib.ListN.{length, getD}
 use lib.Signed.{_≤ℤ_, ≤ℤ-refl}
-use Rattle.integers.specs.Parts.{ints, +-parts, sub-parts}
+use Rattle.integers.specs.Parts.{up, dn, ints, +-parts, sub-parts, *-parts}
 use Rattle.integers.specs.Order.{≤ℤ-trans, ≤ℤ-total}
 use Rattle.integers.specs.Height.{height, height-mono, height-shift}
 use Rattle.integers.specs.Cover.{depth-leaf, depth-input, depth-output}
@@ -19,12 +19,14 @@ use Rattle.sequences.specs.Decide.{upTo, in-upTo, upTo-in}
 use Rattle.sequences.specs.Keep.{keep, keep-in, in-keep}
 use Rattle.net_model.specs.Net.{Net, Pin, IsGate, IsInput, IsNode, pins}
 use Rattle.net_model.specs.Checks.{Sound, Leading, Passed}
-use Rattle.net_model.specs.Copies.{Copy, copy, IsCone, Leaf, IsLeaves, IsCut, Cut, Any, Feeds}
+use Rattle.net_model.specs.Copies.{Copy, copy, IsCone, Leaf, IsLeaves, IsCut, Cut, Feeds}
 use Rattle.cone_theory.specs.Basics.{isGate?, member?}
 use Rattle.cone_theory.specs.Part.{partCut, lift}
-use Rattle.label_theory.specs.Labels.{Low, LowCut, Labelling, OutputsMet}
-use Rattle.label_theory.specs.Lower.{recut, input-or-gate, leaf-node}
+use Rattle.label_theory.specs.Labels.{Mode, plain, forward, Inside, LowCutIn, LabellingIn, OutputsMet}
+use Rattle.label_theory.specs.Lower.{recut, remember, input-or-gate, leaf-node}
+use Rattle.label_theory.specs.Modes.{inside-shift}
 use Rattle.cover_theory.specs.Covers.{Cover, lut, lagOf, registers, outputRegisters, output, RootedAt, IsCover, Meets}
+use Rattle.cover_theory.specs.Forward.{Suited}
 use Rattle.cover_theory.specs.Depths.{depth, depth-low, depth-high, depth-rises}
 
 -- ---- the least of finitely many
@@ -253,30 +255,42 @@ module _ {N : Net} {k : ℕ} (P : Passed N k) {K : Cover} (c : IsCover N k K) (�
           (subst (λ (q : ℤ). pos 0 ≤ℤ q) z regs) (depth-high N K φ pos-φ meets j) (depth-low N K φ pos-φ meets i)
           (λ e. depth-rises N K φ pos-φ meets i h y m g (z ∙ e)))
 
-  -- the cut of LUT i
-  cutOf : (i : ℕ) → i < length (K .luts) → Cut N k ((lut K i) .root) (λ y. height φ (label (y .node)) (y .back) ≤ℤ arrival i) Any
-  cutOf i h = record {
-    cone = coneOf c i;
-    leaves = (lut K i) .leaves;
-    isCone = coneOf-is c i h .0;
-    isLeaves = coneOf-is c i h .1;
-    few = coneOf-is c i h .2;
-    allowed = leaf-low i h;
-    inside = λ x m. tt;
-  }
+  -- the members of LUT i's cone, as its arrival asks in a mode that the cover suits
+  arrival-inside : (M : Mode) → Suited M N K → (i : ℕ) → i < length (K .luts) → (x : Copy) → x ∈ coneOf c i → Inside M φ (arrival i) x
+  unfolding arrival
+  arrival-inside plain suited i h x m = tt
+  arrival-inside forward suited i h x m =
+      let r = (lut K i) .lag in
+      let l = suited i h (coneOf c i) (coneOf-is c i h .0) (coneOf-is c i h .1) x m in
+      let late : up r + x .back ≤ dn r = omega (arith, ints, +-parts r (pos (x .back))) in
+      omega (arith, ints, +-parts (arrival i) (pos (φ * x .back)), +-parts (pos φ *ℤ r) (pos (depth N K φ pos-φ meets i)), *-parts φ r, depth-high N K φ pos-φ meets i, mul-le-mul-left φ late, mul-add φ (up r) (x .back))
 
-  -- **A cover that meets φ yields a labelling.**
-  pub cover-labelling : Labelling N k φ label
-  cover-labelling = record { inputs = label-input; gates = gates }
-    where
-      gates : (v : ℕ) → IsGate N v → LowCut N k φ label v (label v)
-      gates v g = go (label-is v g)
-        where
-          go : (p : Place) × Has c v p × (label v ≡ at-place p) × ((q : Place) → Has c v q → label v ≤ℤ at-place q) → LowCut N k φ label v (label v)
-          go (p, h, e, least) =
-              recut (partCut (cutOf (p .lut) (h .listed)) v (p .back) (unfold cutOf in (h .inside)))
-              (λ y m a. subst (λ (b : ℤ). height φ (label (y .node)) (y .back) ≤ℤ b) (sym e)
-              (unfold at-place in (height-shift φ (y .back) (p .back) (label (y .node)) (arrival (p .lut)) a)))
+  module _ (M : Mode) (suited : Suited M N K) where
+    -- the cut of LUT i
+    cutOf : (i : ℕ) → i < length (K .luts) → Cut N k ((lut K i) .root) (λ y. height φ (label (y .node)) (y .back) ≤ℤ arrival i) (Inside M φ (arrival i))
+    cutOf i h = record {
+      cone = coneOf c i;
+      leaves = (lut K i) .leaves;
+      isCone = coneOf-is c i h .0;
+      isLeaves = coneOf-is c i h .1;
+      few = coneOf-is c i h .2;
+      allowed = leaf-low i h;
+      inside = arrival-inside M suited i h;
+    }
+
+    -- **A cover that meets φ yields a labelling, in each mode that it suits.**
+    pub cover-labelling : LabellingIn M N k φ label
+    cover-labelling = record { inputs = label-input; gates = gates }
+      where
+        gates : (v : ℕ) → IsGate N v → LowCutIn M N k φ label v (label v)
+        gates v g = go (label-is v g)
+          where
+            go : (p : Place) × Has c v p × (label v ≡ at-place p) × ((q : Place) → Has c v q → label v ≤ℤ at-place q) → LowCutIn M N k φ label v (label v)
+            go (p, h, e, least) =
+                remember (recut (partCut (cutOf (p .lut) (h .listed)) v (p .back) (unfold cutOf in (h .inside)))
+                (λ y m a. subst (λ (b : ℤ). height φ (label (y .node)) (y .back) ≤ℤ b) (sym e)
+                (unfold at-place in (height-shift φ (y .back) (p .back) (label (y .node)) (arrival (p .lut)) a))))
+                (λ x m a. subst (λ (b : ℤ). Inside M φ b x) (sym e) (unfold at-place in (inside-shift M φ (arrival (p .lut)) (p .back) x a)))
 
   -- **It satisfies the outputs.**
   pub cover-outputs : OutputsMet N φ label

@@ -8,9 +8,9 @@ use lib.IntN.{ℤ}
 use Rattle.integers.specs.Lag.{lag}
 use Rattle.sequences.specs.Member.{_∈_}
 use Rattle.net_model.specs.Net.{Net, Pin, IsGate}
-use Rattle.net_model.specs.Copies.{Copy, Chosen, Any}
+use Rattle.net_model.specs.Copies.{Copy, Chosen}
 use Rattle.net_model.specs.Tables.{tableOf}
-use Rattle.label_theory.specs.Labels.{Least, OutputsMet, Low, LowCut}
+use Rattle.label_theory.specs.Labels.{Mode, plain, Inside, LeastIn, OutputsMet, Low, LowCutIn}
 use Rattle.cover_theory.specs.Covers.{Lut, Cover, output}
 
 -- "Chosen roots are the gate sources of outputs and then the gate leaves of chosen roots", where gate v takes the leaves `leaves v`.
@@ -23,13 +23,13 @@ RisingNumbers [] = Unit {0}
 RisingNumbers (a ∷ l) = ((b : ℕ) → b ∈ l → a < b) × RisingNumbers l
 
 -- All that the written cover for a reachable target consists of: the least labelling, the chosen roots, rising, and for each gate the cut that
--- "Each takes, of the k-cuts with height at most its label".
-pub record Key (N : Net) (k φ : ℕ) : Type 0 where
+-- "Each takes, of the k-cuts with height at most its label". In forward mode (document 02, E6) "Labels, ties and lags follow 01, over cuts that also satisfy" what the mode asks.
+pub record KeyIn (M : Mode) (N : Net) (k φ : ℕ) : Type 0 where
   pub label : ℕ → ℤ
-  pub least : Least N k φ label
+  pub least : LeastIn M N k φ label
   pub outputs : OutputsMet N φ label
-  pub cut : (v : ℕ) → IsGate N v → LowCut N k φ label v (label v)
-  pub chosen : (v : ℕ) (g : IsGate N v) → Chosen N k v (Low φ label (label v)) Any (cut v g)
+  pub cut : (v : ℕ) → IsGate N v → LowCutIn M N k φ label v (label v)
+  pub chosen : (v : ℕ) (g : IsGate N v) → Chosen N k v (Low φ label (label v)) (Inside M φ (label v)) (cut v g)
   pub leaves : ℕ → List Copy
   pub cone : ℕ → List Copy
   pub isLeaves : (v : ℕ) (g : IsGate N v) → leaves v ≡ (cut v g) .leaves
@@ -39,6 +39,9 @@ pub record Key (N : Net) (k φ : ℕ) : Type 0 where
   pub isRoot : (v : ℕ) → v ∈ roots → Root N leaves v
   pub allRoots : (v : ℕ) → Root N leaves v → v ∈ roots
 
+abbrev pub Key : Net → ℕ → ℕ → Type 0
+Key = KeyIn plain
+
 -- one LUT as a record holds it
 pub record Entry : Type 0 where
   pub root : ℕ
@@ -47,8 +50,8 @@ pub record Entry : Type 0 where
   pub table : ℕ
 
 -- "LUTs by rising root, one per root", with "Its lag is ⌈label/φ⌉ − 1"
-unfoldable pub entries : {N : Net} {k φ : ℕ} → Key N k φ → List Entry
-entries {N} {k} {φ} K =
+unfoldable pub entries : {M : Mode} {N : Net} {k φ : ℕ} → KeyIn M N k φ → List Entry
+entries {M} {N} {k} {φ} K =
     map (λ (v : ℕ). record { root = v; leaves = K .leaves v; lag = lag φ (K .label v); table = tableOf N v (K .cone v) (K .leaves v) }) (K .roots)
 
 -- one of the LUTs has the root u

@@ -18,18 +18,19 @@ use Rattle.sequences.specs.Rising.{Rising, rising-nil, rising-cons, rising-keep
 use Rattle.sequences.specs.Grow.{Reach, reach?}
 use Rattle.net_model.specs.Net.{Net, Pin, IsGate, IsInput, IsNode, size}
 use Rattle.net_model.specs.Checks.{Sound, Passed}
-use Rattle.net_model.specs.Copies.{Copy, copy, Cut, Chosen, Any}
+use Rattle.net_model.specs.Copies.{Copy, copy, Cut, Chosen}
 use Rattle.net_model.specs.Tables.{tableOf}
 use Rattle.cone_theory.specs.Basics.{isGate?}
 use Rattle.cone_theory.specs.FewCopies.{gateNumbers, in-gateNumbers, gateNumbers-in}
 use Rattle.cone_theory.specs.Ranks.{Ranked, ranked}
 use Rattle.cut_theory.specs.Choice.{Choice}
 use Rattle.cut_theory.specs.CutDecision.{chosenCut}
-use Rattle.label_theory.specs.Labels.{Low, LowCut, Labelling, Least, OutputsMet, Reachable}
+use Rattle.label_theory.specs.Labels.{Mode, Inside, Low, LowCutIn, OutputsMet, ReachableIn}
 use Rattle.label_theory.specs.Lower.{input-or-gate, leaf-node}
+use Rattle.label_theory.specs.Modes.{inside?}
 use Rattle.label_theory.specs.LabelDecision.{reachable?}
-use Rattle.cover_theory.specs.Key.{Key, Root, source, leaf, RisingNumbers, Entry, entries, HasLut}
-use Rattle.cover_theory.specs.Written.{Labelled}
+use Rattle.cover_theory.specs.Key.{KeyIn, Root, source, leaf, RisingNumbers, Entry, entries, HasLut}
+use Rattle.cover_theory.specs.Written.{LabelledIn}
 
 pub gate-prop : {N : Net} {v : ℕ} (g h : IsGate N v) → g ≡ h
 gate-prop g h = λ i. record { low = le-prop (g .low) (h .low) i; high = le-prop (g .high) (h .high) i }
@@ -145,9 +146,10 @@ rising-gates N = rising-count-from (N .inputs) (length (N .gates))
 
 -- ---- the key
 
-module _ {N : Net} {k : ℕ} (P : Passed N k) {φ : ℕ} (r : Reachable N k φ) where
-  unfoldable pub choice : (v : ℕ) → IsGate N v → Choice N k v (Low φ (r .label) (r .label v)) Any
-  choice v g = chosenCut (ranked (P .reached)) (λ y. ≤ℤ? (height φ (r .label (y .node)) (y .back)) (r .label v)) (λ x. yes tt) (r .least .labelling .gates v g)
+module _ {M : Mode} {N : Net} {k : ℕ} (P : Passed N k) {φ : ℕ} (r : ReachableIn M N k φ) where
+  unfoldable pub choice : (v : ℕ) → IsGate N v → Choice N k v (Low φ (r .label) (r .label v)) (Inside M φ (r .label v))
+  unfolding inside?
+  choice v g = chosenCut (ranked (P .reached)) (λ y. ≤ℤ? (height φ (r .label (y .node)) (y .back)) (r .label v)) (inside? M φ (r .label v)) (r .least .labelling .gates v g)
 
   unfoldable pub leavesAt : (v : ℕ) → Dec (IsGate N v) → List Copy
   unfolding choice
@@ -174,7 +176,7 @@ module _ {N : Net} {k : ℕ} (P : Passed N k) {φ : ℕ} (r : Reachable N k φ) 
   coneAt-is v g (no n) = absurd (n g)
 
   -- **The key of a reachable target.**
-  unfoldable pub keyOf : Key N k φ
+  unfoldable pub keyOf : KeyIn M N k φ
   unfolding chosenLeaves coneAt choice rootList
   keyOf = record {
     label = r .label;
@@ -194,7 +196,7 @@ module _ {N : Net} {k : ℕ} (P : Passed N k) {φ : ℕ} (r : Reachable N k φ) 
 
 -- ---- the entries of a key
 
-module _ {N : Net} {k φ : ℕ} (K : Key N k φ) where
+module _ {M : Mode} {N : Net} {k φ : ℕ} (K : KeyIn M N k φ) where
   abbrev pub entryOf : ℕ → Entry
   entryOf v = record { root = v; leaves = K .leaves v; lag = lag φ (K .label v); table = tableOf N v (K .cone v) (K .leaves v) }
 
@@ -213,13 +215,13 @@ module _ {N : Net} {k φ : ℕ} (K : Key N k φ) where
   has-lut v r = (entryOf v, in-entries (K .allRoots v r), refl)
 
   -- **A key's entries are labelled**, so they form a cover that meets φ.
-  pub key-labelled : Labelled N k φ (K .label) (entries K)
+  pub key-labelled : LabelledIn M N k φ (K .label) (entries K)
   key-labelled = record {
     gate = λ e m. let t = entries-in m in subst (λ (x : Entry). IsGate N (x .root)) (sym (t .2)) (roots-gate (t .0) (t .1));
     cut = λ e m.
         let t = entries-in m in
         let g = roots-gate (t .0) (t .1) in
-        subst (λ (x : Entry). (J : LowCut N k φ (K .label) (x .root) (K .label (x .root))) × (x .leaves ≡ J .leaves)) (sym (t .2)) (K .cut (t .0) g, K .isLeaves (t .0) g);
+        subst (λ (x : Entry). (J : LowCutIn M N k φ (K .label) (x .root) (K .label (x .root))) × (x .leaves ≡ J .leaves)) (sym (t .2)) (K .cut (t .0) g, K .isLeaves (t .0) g);
     lags = λ e m. let t = entries-in m in subst (λ (x : Entry). x .lag ≡ lag φ (K .label (x .root))) (sym (t .2)) refl;
     closed = λ e m y i g.
         let t = entries-in m in

@@ -1,4 +1,5 @@
 pub mod Covers
+pub mod Forward
 pub mod Board
 pub mod Key
 pub mod Depths

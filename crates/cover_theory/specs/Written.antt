@@ -5,24 +5,26 @@ use mathlib.Core.List.{List, [], _∷_, map}
 use mathlib.Core.Logic.{_⊎_, inl, inr}
 use Prim.Native.Nat.{ℕ, zero, suc, _+_, _*_, _≤_, _<_, suc-le-suc, zero-le}
 use native.Mathlib.Decide.{ℕ-discrete}
-use native.Mathlib.Nat.{le-trans}
+use native.Mathlib.Nat.{le-trans, mul-add}
 use native.Mathlib.Omega.{arith}
 use borrow.Author.Tests.{eqb-true, eqb-false}
 use lib.Dec.{eqb}
 use lib.IntN.{ℤ, pos, _+ℤ_, _-ℤ_, negℤ}
 use lib.ListN.{length, getD, length-map, List·getD-map}
 use lib.Signed.{_≤ℤ_}
-use Rattle.integers.specs.Parts.{ints, +-parts, sub-parts, neg-parts}
-use Rattle.integers.specs.Lag.{lag, place, place-pos, place-le}
+use Rattle.integers.specs.Parts.{up, dn, ints, +-parts, sub-parts, neg-parts, scale}
+use Rattle.integers.specs.Lag.{lag, lag-parts, lag-step, place, place-pos, place-le}
 use Rattle.integers.specs.Cover.{lag-leaf, place-leaf, lag-input, lag-output}
 use Rattle.integers.specs.Height.{height}
 use Rattle.sequences.specs.Member.{_∈_, here, there, not-in-nil, in-getD}
 use Rattle.net_model.specs.Net.{Net, Pin, IsGate, IsInput, IsNode}
 use Rattle.net_model.specs.Checks.{Sound}
-use Rattle.net_model.specs.Copies.{Copy, copy, IsCut, Cut, Any}
-use Rattle.label_theory.specs.Labels.{Low, LowCut, OutputsMet}
+use Rattle.net_model.specs.Copies.{Copy, copy, IsCone, IsLeaves, IsCut, Cut}
+use Rattle.cone_theory.specs.Part.{cone-determined}
+use Rattle.label_theory.specs.Labels.{Mode, plain, forward, Inside, Low, LowCutIn, OutputsMet}
 use Rattle.label_theory.specs.Lower.{input-or-gate, leaf-node}
 use Rattle.cover_theory.specs.Covers.{Lut, Cover, lut, lagOf, registers, outputRegisters, output, RootedAt, IsCover, Chain, one, more, Meets}
+use Rattle.cover_theory.specs.Forward.{LagInside, Suited}
 use Rattle.cover_theory.specs.Key.{Entry, HasLut, placeOf, asLut, asCover}
 use Rattle.cover_theory.specs.CoverLabels.{lag-gate, lag-input as lagOf-input}
 
@@ -51,15 +53,38 @@ placeOf-is (x ∷ es) u h = go (eqb (x .root) u) refl (placeOf-is es u) h
     go true e ih h = (suc-le-suc zero-le, eqb-true (x .root) u e)
     go false e ih h = let r = ih (rest h (eqb-false (x .root) u e)) in (suc-le-suc (r .0), r .1)
 
+-- label + φ·d ≤ φ says that lag + d ≤ 0
+pub near-lag : (M : Mode) (φ : ℕ) → 1 ≤ φ → (z : ℤ) (x : Copy) → Inside M φ z x → LagInside M (lag φ z) x
+near-lag plain φ pos-φ z x i = tt
+near-lag forward φ pos-φ z x i =
+    let p = lag-parts φ pos-φ z in
+    let a = lag-step φ (lag φ z +ℤ pos (x .back)) (pos 0)
+    (omega (
+      arith,
+      ints,
+      p .0,
+      p .1,
+      +-parts z (pos (φ * x .back)),
+      scale φ (+-parts (lag φ z) (pos (x .back))),
+      mul-add φ (up (lag φ z +ℤ pos (x .back))) (dn (lag φ z) + 0),
+      mul-add φ (dn (lag φ z +ℤ pos (x .back))) (up (lag φ z) + x .back),
+      mul-add φ (up (lag φ z)) (x .back),
+      mul-add φ (dn (lag φ z)) 0,
+    )) in
+    a
+
 -- What makes entries a cover for given labels: each is a gate with a cut no higher than its label and its label's lag; gate leaves and gate sources have entries.
-pub record Labelled (N : Net) (k φ : ℕ) (lab : ℕ → ℤ) (es : List Entry) : Type 0 where
+pub record LabelledIn (M : Mode) (N : Net) (k φ : ℕ) (lab : ℕ → ℤ) (es : List Entry) : Type 0 where
   pub gate : (e : Entry) → e ∈ es → IsGate N (e .root)
-  pub cut : (e : Entry) → e ∈ es → (K : LowCut N k φ lab (e .root) (lab (e .root))) × (e .leaves ≡ K .leaves)
+  pub cut : (e : Entry) → e ∈ es → (K : LowCutIn M N k φ lab (e .root) (lab (e .root))) × (e .leaves ≡ K .leaves)
   pub lags : (e : Entry) → e ∈ es → e .lag ≡ lag φ (lab (e .root))
   pub closed : (e : Entry) → e ∈ es → (y : Copy) → y ∈ e .leaves → IsGate N (y .node) → HasLut es (y .node)
   pub sources : (o : Pin) → o ∈ N .outputs → IsGate N (o .src) → HasLut es (o .src)
 
-module _ {N : Net} {k φ : ℕ} (sound : Sound N) (pos-φ : 1 ≤ φ) {lab : ℕ → ℤ} (zeros : (v : ℕ) → IsInput N v → lab v ≡ pos 0) {es : List Entry} (w : Labelled N k φ lab es) where
+abbrev pub Labelled : Net → ℕ → ℕ → (ℕ → ℤ) → List Entry → Type 0
+Labelled = LabelledIn plain
+
+module _ {M : Mode} {N : Net} {k φ : ℕ} (sound : Sound N) (pos-φ : 1 ≤ φ) {lab : ℕ → ℤ} (zeros : (v : ℕ) → IsInput N v → lab v ≡ pos 0) {es : List Entry} (w : LabelledIn M N k φ lab es) where
   entry : ℕ → Entry
   entry i = getD es i noEntry
 
@@ -195,3 +220,15 @@ module _ {N : Net} {k φ : ℕ} (sound : Sound N) (pos-φ : 1 ≤ φ) {lab : ℕ
   -- **It meets φ.**
   pub labelled-meets : Meets N (asCover N es) φ
   labelled-meets i n h c = le-trans (chain-place h c) (place-le φ pos-φ (lab ((entry i) .root)))
+
+  -- **It suits the mode.**
+  pub labelled-suited : Suited M N (asCover N es)
+  unfolding entry
+  labelled-suited i h C ic il x m =
+      let e = entry i in
+      let J = w .cut e (in-es h) .0 in
+      let same = lut-asCover N es i in
+      let cone : IsCone N (e .root) C = subst (λ (z : Lut). IsCone N (z .root) C) same ic in
+      let leaves : IsLeaves N C (J .leaves) = subst (IsLeaves N C) (w .cut e (in-es h) .1) (subst (λ (z : Lut). IsLeaves N C (z .leaves)) same il) in
+      subst (λ (z : Lut). LagInside M (z .lag) x) (sym same)
+      (subst (λ (r : ℤ). LagInside M r x) (sym (w .lags e (in-es h))) (near-lag M φ pos-φ (lab (e .root)) x (J .inside x (cone-determined cone (J .isCone) leaves (J .isLeaves) x m))))

@@ -1,4 +1,4 @@
-// A cover kept in arrays, written as a cover record: each LUT into the part of the area that starts behind the last one.
+// The cover kept, written as a cover record: each LUT into the part of the area that starts behind the last one.
 use cone_words::low;
 use limits::PINS;
 use net_fields::table_bytes;
@@ -14,17 +14,18 @@ ghost use Rattle.net_model.specs.Copies.{Copy, copy};
 ghost use Rattle.net_model.specs.Tables.{asNumber};
 ghost use Rattle.net_bytes.specs.Walk.{tableBytes};
 ghost use Rattle.cover_records.specs.CoverBytes.{toBytes, notZero, leafMap, depths, isZero, signedNumber, lagBytes, lutBytes, allLutBytes, coverBytes};
-ghost use Rattle.cover_records.specs.Kept.{kept, entriesIn};
+ghost use Rattle.cover_records.specs.Kept.{entriesIn};
+ghost use Rattle.cover_records.specs.Rows.{keptIn, rowRoom};
 ghost use Rattle.cover_records.specs.Outcomes.{written};
 ghost use Rattle.cover_records.specs.RoundTrip.{SmallLag};
 ghost use Rattle.cover_writer.specs.Writing.{Writable, Below, Wrote, leafBytes, valueBytes, LeavesAsked, LutAsked, lutOf, GateAsked, LutsAsked, bytesAt, marked};
 use signed::lag_of;
 
 // The number of inputs and of gates, and the period.
-struct CoverHead {
-    inputs: usize,
-    gates: usize,
-    period: usize,
+pub struct CoverHead {
+    pub inputs: usize,
+    pub gates: usize,
+    pub period: usize,
 }
 
 // 1 where a number is not 0.
@@ -196,56 +197,44 @@ fn write_lut(
 fn write_gate(
     s: CoverHead,
     labels: &[i64],
-    marks: &[usize],
-    sizes: &[usize],
-    nodes: &[usize],
-    backs: &[usize],
+    rows: &[usize],
     tables: &[u64],
     g: usize,
     area: &mut [u8],
 ) -> usize
-    requires { ⌜ GateAsked (kept (s .inputs) (s .gates) (s .period) (now labels) (now marks) (now sizes) (now nodes) (now backs) (now tables)) g (now area) ⌝ }
-    ensures { λ r. ⌜ Wrote (bytesAt (kept (s .inputs) (s .gates) (s .period) (now (labels .entry)) (now (marks .entry)) (now (sizes .entry)) (now (nodes .entry)) (now (backs .entry)) (now (tables .entry))) g) (now (area .entry)) (now (area .exit)) r ⌝ }
+    requires { ⌜ GateAsked (keptIn (s .inputs) (s .gates) (s .period) (now labels) (now rows) (now tables)) g (now area) ⌝ }
+    requires { ⌜ rowRoom (s .gates) ≤ length (now rows) ⌝ }
+    ensures { λ r. ⌜ Wrote (bytesAt (keptIn (s .inputs) (s .gates) (s .period) (now (labels .entry)) (now (rows .entry)) (now (tables .entry))) g) (now (area .entry)) (now (area .exit)) r ⌝ }
 {
-    if marks[g] == 0 {
+    if rows[g] == 0 {
         return 0;
     }
     let root = s.inputs + g;
     let lag = lag_of(labels[root], s.period);
-    let n = sizes[g];
+    let n = rows[s.gates + g];
     let table = low(tables[g], n);
-    write_lut(root, nodes, backs, PINS * g, n, lag, table, area)
+    let a = 2 * s.gates;
+    let b = (2 + PINS) * s.gates;
+    write_lut(root, &rows[a..], &rows[b..], PINS * g, n, lag, table, area)
 }
 
 // The LUTs, each behind the last.
 fn write_luts(
     s: CoverHead,
     labels: &[i64],
-    marks: &[usize],
-    sizes: &[usize],
-    nodes: &[usize],
-    backs: &[usize],
+    rows: &[usize],
     tables: &[u64],
     area: &mut [u8],
 ) -> usize
-    requires { ⌜ LutsAsked (kept (s .inputs) (s .gates) (s .period) (now labels) (now marks) (now sizes) (now nodes) (now backs) (now tables)) (now area) ⌝ }
-    ensures { λ r. ⌜ Wrote (allLutBytes false (entriesIn (kept (s .inputs) (s .gates) (s .period) (now (labels .entry)) (now (marks .entry)) (now (sizes .entry)) (now (nodes .entry)) (now (backs .entry)) (now (tables .entry))))) (now (area .entry)) (now (area .exit)) r ⌝ }
+    requires { ⌜ LutsAsked (keptIn (s .inputs) (s .gates) (s .period) (now labels) (now rows) (now tables)) (now area) ⌝ }
+    requires { ⌜ rowRoom (s .gates) ≤ length (now rows) ⌝ }
+    ensures { λ r. ⌜ Wrote (allLutBytes false (entriesIn (keptIn (s .inputs) (s .gates) (s .period) (now (labels .entry)) (now (rows .entry)) (now (tables .entry))))) (now (area .entry)) (now (area .exit)) r ⌝ }
 {
     let gates = s.gates;
     let mut at = 0;
     let mut g = 0;
     while g < gates {
-        at += write_gate(
-            s,
-            labels,
-            marks,
-            sizes,
-            nodes,
-            backs,
-            tables,
-            g,
-            &mut area[at..],
-        );
+        at += write_gate(s, labels, rows, tables, g, &mut area[at..]);
         g += 1;
     }
     at
@@ -276,39 +265,20 @@ fn write_front(period: usize, count: usize, area: &mut [u8]) -> usize
     2
 }
 
-// The record of the cover that the arrays keep, in front of the area; the bytes behind it are kept.
+// The record of the cover kept, in front of the area; the bytes behind it are kept.
 pub fn write_cover(
-    inputs: usize,
-    gates: usize,
-    period: usize,
+    s: CoverHead,
     labels: &[i64],
-    marks: &[usize],
-    sizes: &[usize],
-    nodes: &[usize],
-    backs: &[usize],
+    rows: &[usize],
     tables: &[u64],
     area: &mut [u8],
 ) -> usize
-    requires { ⌜ Writable (kept inputs gates period (now labels) (now marks) (now sizes) (now nodes) (now backs) (now tables)) (now area) ⌝ }
-    ensures length { λ r. ⌜ r ≡ length (coverBytes long period (entriesIn (kept inputs gates period (now (labels .entry)) (now (marks .entry)) (now (sizes .entry)) (now (nodes .entry)) (now (backs .entry)) (now (tables .entry))))) ⌝ }
-    ensures bytes { λ _. ⌜ now (area .exit) ≡ written (coverBytes long period (entriesIn (kept inputs gates period (now (labels .entry)) (now (marks .entry)) (now (sizes .entry)) (now (nodes .entry)) (now (backs .entry)) (now (tables .entry))))) (now (area .entry)) ⌝ }
+    requires { ⌜ Writable (keptIn (s .inputs) (s .gates) (s .period) (now labels) (now rows) (now tables)) (now area) ⌝ }
+    requires { ⌜ rowRoom (s .gates) ≤ length (now rows) ⌝ }
+    ensures length { λ r. ⌜ r ≡ length (coverBytes long (s .period) (entriesIn (keptIn (s .inputs) (s .gates) (s .period) (now (labels .entry)) (now (rows .entry)) (now (tables .entry))))) ⌝ }
+    ensures bytes { λ _. ⌜ now (area .exit) ≡ written (coverBytes long (s .period) (entriesIn (keptIn (s .inputs) (s .gates) (s .period) (now (labels .entry)) (now (rows .entry)) (now (tables .entry))))) (now (area .entry)) ⌝ }
 {
-    let s = CoverHead {
-        inputs: inputs,
-        gates: gates,
-        period: period,
-    };
-    let count = count_luts(marks, gates);
-    let at = write_front(period, count, area);
-    at
-        + write_luts(
-            s,
-            labels,
-            marks,
-            sizes,
-            nodes,
-            backs,
-            tables,
-            &mut area[at..],
-        )
+    let count = count_luts(rows, s.gates);
+    let at = write_front(s.period, count, area);
+    at + write_luts(s, labels, rows, tables, &mut area[at..])
 }

@@ -39,6 +39,12 @@ pub record Runs (N : Net) : Type 0 where
   pub reached : AllReached N
   pub leading : AllLeading N
 
+-- the first of 9, 10 and 11 that it fails
+pub data Stops (N : Net) : ℕ → Type 0 where
+  loop : ¬ Loopless N → Stops N 9
+  unreached : Loopless N → ¬ AllReached N → Stops N 10
+  unled : Loopless N → AllReached N → ¬ AllLeading N → Stops N 11
+
 pub record BenchRun : Type 0 where
   -- map and mark read the net of the record, and look at no section
   pub net : (k : ℕ) (bytes : List ℕ) (d : Drawn) → IsDrawn k bytes d → IsNet k bytes (d .net)
@@ -64,11 +70,11 @@ pub record BenchRun : Type 0 where
   -- "It prints a line of 0s and 1s per step, outputs in order, for 65,535 steps at most": of a net that passes and has a section
   pub text : (k : ℕ) → between leastK mostK k ≡ true → (bytes : List ℕ) (d : Drawn) → IsDrawn k bytes d → Runs (d .net) → 0 < length (d .section)
       → (pairs : List ℕ) → benchOf k bytes pairs ≡ benchText (d .net) (d .section) pairs
-  -- "or `refused N`": k first, then the walk's numbers, then 9 to 11
+  -- "or `refused N`": k first, then the walk's numbers, then the first of 9 to 11 that fails
   pub unknown : (k : ℕ) → between leastK mostK k ≡ false → (bytes pairs : List ℕ) → benchOf k bytes pairs ≡ refusalText 1
   pub walk : (k : ℕ) → between leastK mostK k ≡ true → (bytes : List ℕ) (n : ℕ) → netReader long k bytes ≡ refused n → (pairs : List ℕ) → benchOf k bytes pairs ≡ refusalText n
   pub graph : (k : ℕ) → between leastK mostK k ≡ true → (bytes : List ℕ) (d : Drawn) → IsDrawn k bytes d → ¬ Runs (d .net)
-      → (n : ℕ) × ((9 ≤ n) × (n ≤ 11)) × ((pairs : List ℕ) → benchOf k bytes pairs ≡ refusalText n)
+      → (n : ℕ) × Stops (d .net) n × ((pairs : List ℕ) → benchOf k bytes pairs ≡ refusalText n)
   -- "Answers: 21, a run is wanted of a net without the section, told after 11."
   pub none : (k : ℕ) → between leastK mostK k ≡ true → (bytes : List ℕ) (d : Drawn) → IsDrawn k bytes d → Runs (d .net) → length (d .section) ≡ 0
       → (pairs : List ℕ) → benchOf k bytes pairs ≡ refusalText 21

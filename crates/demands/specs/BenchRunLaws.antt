@@ -23,12 +23,12 @@ use Rattle.cover_records.specs.Listing.{refusalText}
 use Rattle.cover_records.specs.CheckLaws.{check-same}
 use Rattle.cover_records.specs.LoaderOutcome.{LoaderOutcome, loaderSized, loaderFit, loaderOutcome, tooShort}
 use Rattle.cover_records.specs.Outcomes.{Checked, checkNet, cleared, MapOutcome, MarkOutcome, mapSizes, mapChecked, mapSized, mapOutcome, markSizes, markChecked, markSized, markOutcome}
-use Rattle.text_bench.specs.BenchText.{benchText}
 use Rattle.job_bench.specs.BenchProgram.{benchSection, benchGraph, benchDrawn, benchOf, benchProgram}
+use Rattle.job_bench.specs.BenchJobLaws.{section-none, section-some}
 use Rattle.job_bench.specs.BenchInputs.{of-unknown, of-refused, of-drawn}
 use Rattle.job_bench.specs.LongBench.{bench-cut}
 use Rattle.demands.specs.TurnedBack.{IsNet}
-use Rattle.demands.specs.BenchRun.{IsDrawn, TakenOff, Runs, BenchRun}
+use Rattle.demands.specs.BenchRun.{IsDrawn, TakenOff, Runs, Stops, loop, unreached, unled, BenchRun}
 
 -- ---- outcomes look at the net's record through the checks alone
 
@@ -104,24 +104,16 @@ module _ (k : ℕ) (known : between leastK mostK k ≡ true) (bytes : List ℕ) 
         go (yes a) (no b) c = absurd (b (r .reached))
         go (yes a) (yes b) (no c) = absurd (c (r .leading))
 
-    stopped : ¬ Runs (d .net) → (n : ℕ) × ((9 ≤ n) × (n ≤ 11)) × ((pairs : List ℕ) → benchOf k bytes pairs ≡ refusalText n)
+    stopped : ¬ Runs (d .net) → (n : ℕ) × Stops (d .net) n × ((pairs : List ℕ) → benchOf k bytes pairs ≡ refusalText n)
     unfolding benchDrawn
     stopped r = go (loopless? (d .net)) (reached? (d .net)) (leading? (d .net)) (λ pairs. of-drawn k bytes pairs (ap not known) d read-all)
       where
         go : (a : Dec (Loopless (d .net))) (b : Dec (AllReached (d .net))) (c : Dec (AllLeading (d .net))) → ((pairs : List ℕ) → benchOf k bytes pairs ≡ benchGraph d pairs a b c)
-            → (n : ℕ) × ((9 ≤ n) × (n ≤ 11)) × ((pairs : List ℕ) → benchOf k bytes pairs ≡ refusalText n)
+            → (n : ℕ) × Stops (d .net) n × ((pairs : List ℕ) → benchOf k bytes pairs ≡ refusalText n)
         go (yes a) (yes b) (yes c) e = absurd (r (record { loopless = a; reached = b; leading = c }))
-        go (no a) b c e = (9, (omega arith, omega arith), λ pairs. e pairs ∙ (unfold benchGraph in refl))
-        go (yes a) (no b) c e = (10, (omega arith, omega arith), λ pairs. e pairs ∙ (unfold benchGraph in refl))
-        go (yes a) (yes b) (no c) e = (11, (omega arith, omega arith), λ pairs. e pairs ∙ (unfold benchGraph in refl))
-
-section-some : (N : Net) (section pairs : List ℕ) → 0 < length section → benchSection N section pairs ≡ benchText N section pairs
-section-some N [] pairs h = absurd (omega arith)
-section-some N (b ∷ bytes) pairs h = refl
-
-section-none : (N : Net) (section pairs : List ℕ) → length section ≡ 0 → benchSection N section pairs ≡ refusalText 21
-section-none N [] pairs h = refl
-section-none N (b ∷ bytes) pairs h = absurd (omega arith)
+        go (no a) b c e = (9, loop a, λ pairs. e pairs ∙ (unfold benchGraph in refl))
+        go (yes a) (no b) c e = (10, unreached a b, λ pairs. e pairs ∙ (unfold benchGraph in refl))
+        go (yes a) (yes b) (no c) e = (11, unled a b c, λ pairs. e pairs ∙ (unfold benchGraph in refl))
 
 pub bench-run : BenchRun
 bench-run = record {
@@ -134,10 +126,10 @@ bench-run = record {
   run = λ s l. law.bench s l;
   only = λ s l section inputs b. law.bench-unique s l section inputs b;
   demand-2 = law.bench-run;
-  text = λ k known bytes d x r h pairs. passed k known bytes d x r pairs ∙ section-some (d .net) (d .section) pairs h;
+  text = λ k known bytes d x r h pairs. passed k known bytes d x r pairs ∙ sym (section-some (d .net) (d .section) pairs (λ e. omega (arith, h, e)));
   unknown = λ k h bytes pairs. of-unknown k bytes pairs (ap not h);
   walk = walk-told;
   graph = stopped;
-  none = λ k known bytes d x r h pairs. passed k known bytes d x r pairs ∙ section-none (d .net) (d .section) pairs h;
+  none = λ k known bytes d x r h pairs. passed k known bytes d x r pairs ∙ sym (section-none (d .net) (d .section) pairs h);
   unread = bench-cut;
 }

@@ -65,7 +65,7 @@ copied l before after n e f =
     ∙ take-append-le (length l) l (drop (length l) before) (omega arith) ∙ take-all (length l) l (omega arith)
 
 module _ (k : ℕ) (bytes : List ℕ) (r : DrawnRead) (net ts : List ℕ) (e : drawnReader long k bytes ≡ drawnOf r net ts bytes) (v : r .verdict ≡ Read)
-  (packed : length net ≡ mostPacked) (tabled : length ts ≡ mostGates) (section : List ℕ) (rest : section ≡ drop (r .at) bytes) where
+    (packed : length net ≡ mostPacked) (tabled : length ts ≡ mostGates) (section : List ℕ) (rest : section ≡ drop (r .at) bytes) where
   pub drawn-got : drawnReader long k bytes ≡ got (drawn (netIn (arraysOf (r .sizes) net ts)) section) []
   drawn-got = went (drawn (netIn (arraysOf (r .sizes) net ts)) (drop (r .at) bytes)) [] e v ∙ ap (λ (l : List ℕ). got (drawn (netIn (arraysOf (r .sizes) net ts)) l) []) (sym rest)
 

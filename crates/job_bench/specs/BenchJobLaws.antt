@@ -50,11 +50,11 @@ says-passed section pairs (yes x) (no y) c (passed e l m n g) = absurd (y m)
 says-passed section pairs (yes x) (yes y) (no w) (passed e l m n g) = absurd (w n)
 says-passed section pairs (yes x) (yes y) (yes w) (passed e l m n g) = refl
 
-section-none : (N : Net) (section pairs : List ℕ) → length section ≡ 0 → refusalText 21 ≡ benchSection N section pairs
+pub section-none : (N : Net) (section pairs : List ℕ) → length section ≡ 0 → refusalText 21 ≡ benchSection N section pairs
 section-none N [] pairs h = refl
 section-none N (b ∷ bytes) pairs h = absurd (omega arith)
 
-section-some : (N : Net) (section pairs : List ℕ) → (length section ≡ 0 → ⊥) → benchText N section pairs ≡ benchSection N section pairs
+pub section-some : (N : Net) (section pairs : List ℕ) → (length section ≡ 0 → ⊥) → benchText N section pairs ≡ benchSection N section pairs
 section-some N [] pairs h = absurd (h refl)
 section-some N (b ∷ bytes) pairs h = refl
 

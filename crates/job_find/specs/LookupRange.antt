@@ -21,7 +21,7 @@ use Rattle.cover_records.specs.CoverBytes.{coverByte, coverNumber, notZero, lea
 use Rattle.cover_records.specs.CoverStages.{front-got, front-parts, front-ranges, got-rest}
 use Rattle.cover_records.specs.Roomy.{lutRoom, recordBytes}
 use Rattle.job_find.specs.RootLookup.{Lookup, found, absent, turnedBack, anyNode, lookLuts, lookReader, told, lookUp, findRoot}
-use Rattle.job_find.specs.Frames.{framed-body}
+use Rattle.job_find.specs.Frames.{framed-lut}
 use Rattle.job_find.specs.Unread.{fromRoot, look-more, root-below, root-not-below}
 use Rattle.job_find.specs.LookupLaws.{number-length, found-not-absent, found-same, found-not-back, absent-not-back}
 
@@ -117,7 +117,7 @@ luts-place w g (suc n) least c s o r e =
         let y = then-got (lutBody w anyNode mostK root behind) (λ e after. lookLuts w (c + length s) g n (suc root) after) (found o) r
         (sym (root-below w (c + length s) g n s root behind t) ∙ h) in
         let after = y .1 in
-        let p = framed-body w anyNode mostK root behind (y .0) after (y .2) in
+        let p = framed-lut w anyNode mostK root behind (y .0) after (y .2) in
         let a = ap length (p .is) in
         let b = length-append (p .used) after in
         let k = taken-body w anyNode root .most behind (y .0) after (y .2) in

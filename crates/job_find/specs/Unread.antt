@@ -16,7 +16,8 @@ use Rattle.cover_records.specs.CoverBytes.{rootReader, lutBody}
 use Rattle.cover_records.specs.CoverStages.{frontReader, front-got, front-goes, got-rest}
 use Rattle.job_find.specs.RootLookup.{Lookup, found, absent, anyNode, lookLuts, lookReader, told, lookUp}
 use Rattle.job_find.specs.LookupTold.{Unread}
-use Rattle.job_find.specs.Frames.{Frame, framed-number, framed-body, framed-front}
+use Rattle.net_bytes.specs.Frames.{Frame, framed-number}
+use Rattle.job_find.specs.Frames.{framed-lut, framed-front}
 
 -- LUTs that stand c bytes behind the record's start
 record LutsFrame (w : Bool) (g n least c : ℕ) (s : List ℕ) (a : Lookup) (r : List ℕ) : Type 0 where
@@ -100,7 +101,7 @@ luts-frame w g (suc n) least c s a r e =
     go root behind p h again true t =
         let y = then-got (lutBody w anyNode mostK root behind) (λ e after. lookLuts w (c + length s) g n (suc root) after) a r (sym (root-below w (c + length s) g n s root behind t) ∙ h) in
         let after = y .1 in
-        let q = framed-body w anyNode mostK root behind (y .0) after (y .2) in
+        let q = framed-lut w anyNode mostK root behind (y .0) after (y .2) in
         let d = c + (length (p .used) + length (q .used)) in
         let total : c + length s ≡ d + length after =
         omega (arith, ap length (p .is), ap length (q .is), length-append (p .used) behind, length-append (q .used) after) in

@@ -1,17 +1,16 @@
--- Laws of the parts of the two slices, the net's and the record's, that are lent to checks 14 to 18.
+-- Laws of the parts of the two slices, the net's and the record's, that are lent to checks 16 to 18.
 use mathlib.Core.Path.{_≡_}
 use mathlib.Core.List.{List}
 use Prim.Native.Nat.{ℕ, _+_, _*_}
 use lib.IntN.{ℤ}
 use lib.ListN.{drop}
 use Rattle.limits.specs.Limits.{mostPins}
-use Rattle.net_model.specs.PackedNet.{sourcesAt, countsAt, outsAt, delaysAt}
+use Rattle.net_model.specs.PackedNet.{outsAt, delaysAt}
 use Rattle.net_model.specs.PackedNetLaws.{to-part, from-part}
 use Rattle.net_reader.specs.declared.NetSizes.{NetSizes}
 use Rattle.net_checks.specs.Parts.{part, two-parts, two-wholes}
-use Rattle.cover_cuts.specs.Cuts.{Cutting, CutsTold}
 use Rattle.cover_links.specs.Links.{Linking, LinksTold}
-use Rattle.job_judge.specs.JudgeMarking.{CutsAsked, CutsToldOf, LinksAsked, LinksToldOf}
+use Rattle.job_judge.specs.JudgeMarking.{LinksAsked, LinksToldOf}
 
 -- the three parts of the rows of n LUTs
 module _ (P : List ℕ → List ℕ → List ℕ → Type 0) (rows : List ℕ) (n : ℕ) where
@@ -24,25 +23,6 @@ module _ (P : List ℕ → List ℕ → List ℕ → Type 0) (rows : List ℕ) (
   row-wholes p =
       two-wholes (λ (x y : List ℕ). P (drop n rows) x y) rows (2 * n) ((2 + mostPins) * n)
       (from-part (λ (x : List ℕ). P x (part rows (2 * n)) (part rows ((2 + mostPins) * n))) rows n p)
-
-module _ (k : ℕ) (z : NetSizes) (net ts : List ℕ) (n : ℕ) (rows luts : List ℕ) where
-  abbrev so : ℕ
-  so = sourcesAt (z .gates)
-
-  abbrev co : ℕ
-  co = countsAt (z .gates)
-
-  pub cutting-lent : CutsAsked k z net ts n rows luts
-      → Cutting (z .inputs) (z .gates) net (part net so) (part net co) ts rows (part rows n) (part rows (2 * n)) (part rows ((2 + mostPins) * n)) k n
-  cutting-lent h =
-      two-parts (λ (s t : List ℕ). Cutting (z .inputs) (z .gates) net s t ts rows (part rows n) (part rows (2 * n)) (part rows ((2 + mostPins) * n)) k n) net so co
-      (row-parts (λ (a b d : List ℕ). Cutting (z .inputs) (z .gates) net (drop so net) (drop co net) ts rows a b d k n) rows n (h .cutting))
-
-  pub cuts-whole : {r : ℕ} → CutsTold (z .inputs) (z .gates) net (part net so) (part net co) ts rows (part rows n) (part rows (2 * n)) (part rows ((2 + mostPins) * n)) luts k n r
-      → CutsToldOf z net ts k n rows luts r
-  cuts-whole {r} t =
-      row-wholes (λ (a b d : List ℕ). CutsTold (z .inputs) (z .gates) net (drop so net) (drop co net) ts rows a b d luts k n r) rows n
-      (two-wholes (λ (s t : List ℕ). CutsTold (z .inputs) (z .gates) net s t ts rows (part rows n) (part rows (2 * n)) (part rows ((2 + mostPins) * n)) luts k n r) net so co t)
 
 module _ (z : NetSizes) (net : List ℕ) (n : ℕ) (rows : List ℕ) (lags : List ℤ) (period : ℕ) {o y : ℕ}
     (eo : o ≡ outsAt (z .inputs) (z .gates)) (ey : y ≡ delaysAt (z .inputs) (z .gates) (z .outputs)) where

@@ -1,20 +1,21 @@
 -- Definitions: what mark asks of its parts, and what they tell: the answer that the definition has.
 use mathlib.Core.Path.{_≡_}
 use mathlib.Core.List.{List, []}
-use Prim.Native.Nat.{ℕ, _+_, _*_, _≤_}
+use Prim.Native.Nat.{ℕ, _≤_}
 use lib.IntN.{ℤ}
 use lib.ListN.{length, drop}
 use Rattle.net_model.specs.Net.{Net}
 use Rattle.net_model.specs.Arrays.{netIn}
 use Rattle.net_model.specs.Checks.{Passed}
 use Rattle.net_model.specs.PackedNet.{sourcesAt, countsAt, outsAt, delaysAt, packedRoom}
-use Rattle.limits.specs.Limits.{mostGates, mostPeriod, mostPins, mostLuts, scratchArea}
+use Rattle.limits.specs.Limits.{mostGates, mostPeriod, mostLuts, scratchArea}
 use Rattle.limits.specs.declared.Rules.{Rules}
 use Rattle.net_bytes.specs.Reading.{got}
 use Rattle.net_bytes.specs.Walk.{netReader}
 use Rattle.cover_theory.specs.Covers.{LeastPeriod}
 use Rattle.cover_records.specs.CoverBytes.{coverReader}
 use Rattle.cover_records.specs.Held.{Held, WellHeld}
+use Rattle.cover_records.specs.Rows.{sizesIn, nodesIn, backsIn, rowRoom}
 use Rattle.cover_records.specs.Outcomes.{Answer, checkNet, markChecked}
 use Rattle.net_reader.specs.ReadAnswer.{arraysOf}
 use Rattle.net_reader.specs.Rooms.{NetRoom}
@@ -48,30 +49,29 @@ pub record HeldFor (k : ℕ) (z : NetSizes) (net ts : List ℕ) (c : Candidate) 
 
 -- what 14 and 15 ask of n LUTs, and what they tell
 pub record CutsAsked (k : ℕ) (z : NetSizes) (net ts : List ℕ) (n : ℕ) (rows luts : List ℕ) : Type 0 where
-  pub cutting : Cutting (z .inputs) (z .gates) net (drop (sourcesAt (z .gates)) net) (drop (countsAt (z .gates)) net) ts rows (drop n rows) (drop (2 * n) rows) (drop ((2 + mostPins) * n) rows) k n
+  pub cutting : Cutting (z .inputs) (z .gates) net (drop (sourcesAt (z .gates)) net) (drop (countsAt (z .gates)) net) ts rows (sizesIn n rows) (nodesIn n rows) (backsIn n rows) k n
   pub room : NetRoom z net ts
-  pub gates : z .gates ≤ mostGates
-  pub atRows : (2 + 2 * mostPins) * n ≤ length rows
+  pub atRows : rowRoom n ≤ length rows
   pub tables : n ≤ length luts
   pub few : n ≤ mostLuts
 
 abbrev pub CutsToldOf : NetSizes → List ℕ → List ℕ → ℕ → ℕ → List ℕ → List ℕ → ℕ → Type 0
 CutsToldOf z net ts k n rows luts r =
-    CutsTold (z .inputs) (z .gates) net (drop (sourcesAt (z .gates)) net) (drop (countsAt (z .gates)) net) ts rows (drop n rows) (drop (2 * n) rows) (drop ((2 + mostPins) * n) rows) luts k n r
+    CutsTold (z .inputs) (z .gates) net (drop (sourcesAt (z .gates)) net) (drop (countsAt (z .gates)) net) ts rows (sizesIn n rows) (nodesIn n rows) (backsIn n rows) luts k n r
 
 -- what 16 to 18 ask of n LUTs and a period, and what they tell
 pub record LinksAsked (z : NetSizes) (net : List ℕ) (n : ℕ) (rows : List ℕ) (lags : List ℤ) (period : ℕ) : Type 0 where
   pub linking : Linking (z .inputs) (z .gates) (drop (outsAt (z .inputs) (z .gates)) net) (drop (delaysAt (z .inputs) (z .gates) (z .outputs)) net) (z .outputs)
-      rows (drop n rows) (drop (2 * n) rows) (drop ((2 + mostPins) * n) rows) lags n period
+      rows (sizesIn n rows) (nodesIn n rows) (backsIn n rows) lags n period
   pub packed : packedRoom (z .inputs) (z .gates) (z .outputs) ≤ length net
   pub gates : z .gates ≤ mostGates
-  pub atRows : (2 + 2 * mostPins) * n ≤ length rows
+  pub atRows : rowRoom n ≤ length rows
   pub few : n ≤ mostLuts
 
 abbrev pub LinksToldOf : NetSizes → List ℕ → ℕ → List ℕ → List ℤ → ℕ → ℕ → Type 0
 LinksToldOf z net n rows lags period r =
     LinksTold (z .inputs) (z .gates) (drop (outsAt (z .inputs) (z .gates)) net) (drop (delaysAt (z .inputs) (z .gates) (z .outputs)) net) (z .outputs)
-    rows (drop n rows) (drop (2 * n) rows) (drop ((2 + mostPins) * n) rows) lags n period r
+    rows (sizesIn n rows) (nodesIn n rows) (backsIn n rows) lags n period r
 
 -- the answer of mark under rules R after checks 1 and 3
 pub record MarksTo (R : Rules) (k : ℕ) (net bytes : List ℕ) (answer : Answer) : Type 0 where

@@ -157,7 +157,6 @@ module _ {k : ℕ} {sizes : NetSizes} {net ts : List ℕ} {c : Candidate} {rows 
       rising = h .well .rising;
     };
     room = h .settling .room;
-    gates = h .settling .facts .gates-high;
     atRows = h .space .atRows;
     tables = h .space .atTables;
     few = h .few;

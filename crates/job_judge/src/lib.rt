@@ -20,50 +20,12 @@ ghost use Rattle.net_reader.specs.ReadAnswer.{arraysOf};
 ghost use Rattle.cone_descent.specs.Descent.{Clear};
 ghost use Rattle.cover_reader.specs.Reads.{heldIn};
 ghost use Rattle.job_judge.specs.MarkAnswers.{answerOf};
-ghost use Rattle.job_judge.specs.JudgeMarking.{HeldFor, Judging, CutsAsked, CutsToldOf, LinksAsked, LinksToldOf, MarksNet, MarksRead};
+ghost use Rattle.job_judge.specs.JudgeMarking.{HeldFor, Judging, LinksAsked, LinksToldOf, MarksNet, MarksRead};
 
 // The excess, or the number of the refusal.
 pub enum Grade {
     Excess(usize),
     Refused(u8),
-}
-
-// Checks 14 and 15: 0, or the number of the first that fails. n LUTs stand in rows as the reader left them, with their tables.
-fn judge_luts(
-    z: NetSizes,
-    net: &[usize],
-    tables: &[u64],
-    n: usize,
-    rows: &[usize],
-    luts: &[u64],
-    k: usize,
-    work: &mut [u8],
-) -> usize
-    requires { ⌜ CutsAsked k z (now net) (now tables) n (now rows) (now luts) ⌝ }
-    requires { ⌜ (mostTable ≤ length (now work)) × Clear (now work) ⌝ }
-    ensures { λ r. ⌜ CutsToldOf z (now (net .entry)) (now (tables .entry)) k n (now (rows .entry)) (now (luts .entry)) r ⌝ }
-    ensures { λ _. ⌜ Clear (now (work .exit)) ⌝ }
-{
-    let a = 2 * z.gates;
-    let b = (2 + PINS) * z.gates;
-    let d = 2 * n;
-    let e = (2 + PINS) * n;
-    check_luts(
-        z.inputs,
-        z.gates,
-        net,
-        &net[a..],
-        &net[b..],
-        tables,
-        rows,
-        &rows[n..],
-        &rows[d..],
-        &rows[e..],
-        luts,
-        k,
-        n,
-        work,
-    )
 }
 
 // Checks 16, 17 and 18: 0, or the number of the first that fails. n LUTs stand in rows, with their lags.
@@ -116,7 +78,7 @@ fn judge_read(
     ensures { λ r. ⌜ MarksRead k (netIn (arraysOf z (now (net .entry)) (now (tables .entry)))) c (heldIn (c .luts) (now (rows .entry)) (now (lags .entry)) (now (luts .entry))) (answerOf r) ⌝ }
     ensures { λ _. ⌜ Clear (now (work .exit)) ⌝ }
 {
-    let l = judge_luts(z, net, tables, c.luts, rows, luts, k, work);
+    let l = check_luts(z.inputs, z.gates, net, tables, rows, luts, k, c.luts, work);
     if l > 0 {
         return Grade::Refused(narrow(l));
     }

@@ -9,8 +9,9 @@ use Rattle.net_model.specs.Arrays.{pinsIn}
 use Rattle.net_model.specs.Checks.{Passed}
 use Rattle.cover_theory.specs.Covers.{LeastPeriod}
 use Rattle.cut_circuit.specs.declared.Extent.{Extent}
-use Rattle.label_visit.specs.LabelVisits.{Suits, wiring}
-use Rattle.job_plan.specs.Planned.{Engine, topsOf, outsOf, delaysOf}
+use Rattle.label_visit.specs.LabelVisits.{Suits, wiring, topsIn}
+use Rattle.label_sweep.specs.Sweeps.{outsIn, delaysIn}
+use Rattle.job_plan.specs.Planned.{Engine}
 
 -- the engine's table and a net's slice, with labels of 0 at first
 pub record LeastAsked (s : Extent) (n : ℕ) (net : List ℕ) (k : ℕ) (t : List ℕ) : Type 0 where
@@ -19,4 +20,4 @@ pub record LeastAsked (s : Extent) (n : ℕ) (net : List ℕ) (k : ℕ) (t : Lis
 
 -- r is the least period of every net that suits
 pub record LeastTold (s : Extent) (n : ℕ) (net : List ℕ) (k r : ℕ) : Type 0 where
-  pub least : (N : Net) → Suits (wiring s net) k (topsOf s net) N → Passed N k → N .outputs ≡ pinsIn (outsOf s net) (delaysOf s n net) 0 n → LeastPeriod N k r
+  pub least : (N : Net) → Suits (wiring s net) k (topsIn s net 0) N → Passed N k → N .outputs ≡ pinsIn (outsIn s net) (delaysIn s net n) 0 n → LeastPeriod N k r

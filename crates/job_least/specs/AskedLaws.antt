@@ -12,10 +12,11 @@ use Rattle.net_reader.specs.declared.NetSizes.{NetSizes}
 use Rattle.cover_theory.specs.Covers.{LeastPeriod}
 use Rattle.cut_circuit.specs.PinLinks.{LinkedIn}
 use Rattle.cut_circuit.specs.declared.Extent.{Extent}
-use Rattle.label_visit.specs.LabelVisits.{wiring}
+use Rattle.label_visit.specs.LabelVisits.{wiring, topsIn}
 use Rattle.job_plan.specs.Counts.{ExtentOf}
 use Rattle.job_plan.specs.Found.{PeriodAsked, PeriodFound}
-use Rattle.job_plan.specs.Planned.{Planning, topsOf, outsOf, delaysOf}
+use Rattle.label_sweep.specs.Sweeps.{outsIn, delaysIn}
+use Rattle.job_plan.specs.Planned.{Planning}
 use Rattle.job_plan.specs.Ready.{planned-engine, planned-suits, planned-outputs}
 use Rattle.job_least.specs.Asked.{LeastAsked, LeastTold}
 
@@ -55,5 +56,5 @@ asked-labels ls′ e p = let z = p .sized in record {
 
 -- the least period found is told
 pub period-told : {s : Extent} {n : ℕ} {net : List ℕ} {k : ℕ} {ls : List ℤ} {r : ℕ} → 1 ≤ r
-    → PeriodFound (wiring s net) k 0 (topsOf s net) (outsOf s net) (delaysOf s n net) n ls r → LeastTold s n net k r
+    → PeriodFound (wiring s net) k 0 (topsIn s net 0) (outsIn s net) (delaysIn s net n) n ls r → LeastTold s n net k r
 period-told h q = record { least = q .least h refl }

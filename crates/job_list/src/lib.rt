@@ -1,4 +1,5 @@
 // The listing: from the bytes read (k, the target, the net) to the text printed.
+use cover_writer::CoverHead;
 use inputs::byte_at;
 use inputs::wide;
 use inputs::word;
@@ -8,7 +9,7 @@ use limits::AREA;
 use limits::GATES;
 use limits::NODES;
 use limits::PACKED;
-use limits::PLACES;
+use limits::ROWS;
 use limits::SCRATCH;
 use limits::TABLE;
 use limits::TEXT;
@@ -50,10 +51,7 @@ fn list_read(
     let mut seen = [0usize; GATES];
     let mut noted = [0usize; GATES];
     let mut labels = [0i64; NODES];
-    let mut marks = [0usize; GATES];
-    let mut sizes = [0usize; GATES];
-    let mut nodes = [0usize; PLACES];
-    let mut backs = [0usize; PLACES];
+    let mut rows = [0usize; ROWS];
     let mut luts = [0u64; GATES];
     let s = settle(
         z,
@@ -65,10 +63,7 @@ fn list_read(
         target,
         &mut work,
         &mut labels,
-        &mut marks,
-        &mut sizes,
-        &mut nodes,
-        &mut backs,
+        &mut rows,
         &mut luts,
     );
     let refusal = s.refusal;
@@ -78,15 +73,15 @@ fn list_read(
     let held = &net[..];
     let o = outs_at(z, held);
     let d = delays_at(z, held);
+    let head = CoverHead {
+        inputs: z.inputs,
+        gates: z.gates,
+        period: s.period,
+    };
     write_text(
-        z.inputs,
-        z.gates,
-        s.period,
+        head,
         &labels,
-        &marks,
-        &sizes,
-        &nodes,
-        &backs,
+        &rows,
         &luts,
         &held[o..],
         &held[d..],

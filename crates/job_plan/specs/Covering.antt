@@ -27,12 +27,13 @@ use Rattle.cut_circuit.specs.Bridge.{Holds}
 use Rattle.signed.specs.Range.{labelIn}
 use Rattle.cut_circuit.specs.Packed.{sourcesAt, countsAt}
 use Rattle.cut_circuit.specs.declared.Extent.{Extent}
-use Rattle.label_visit.specs.LabelVisits.{Suits, wiring}
+use Rattle.label_visit.specs.LabelVisits.{Suits, wiring, topsIn}
+use Rattle.label_sweep.specs.Sweeps.{outsIn, delaysIn}
 use Rattle.cover_roots.specs.Choosing.{Keyed, RootsTold}
 use Rattle.cone_luts.specs.Luts.{Tabulated}
 use Rattle.job_plan.specs.Found.{PeriodFound}
 use Rattle.job_plan.specs.Entries.{rootsFrom, entries-roots, roots-in, in-roots, roots-rising}
-use Rattle.job_plan.specs.Planned.{Covered, Planned, topsOf, outsOf, delaysOf, CoverTold}
+use Rattle.job_plan.specs.Planned.{Covered, Planned, CoverTold}
 
 -- the labels of a key are those that it was made of
 key-label : {N : Net} {k φ : ℕ} (P : Passed N k) (r : Reachable N k φ) (u : ℕ) → keyOf P r .label u ≡ r .label u
@@ -41,7 +42,7 @@ key-label P r u = refl
 
 module _ {s : Extent} {n : ℕ} {net ts : List ℕ} {k target : ℕ} {ls : List ℤ} {marks sizes nodes backs luts : List ℕ} where
   -- the target is not reachable
-  pub told-none : {r : ℕ} → PeriodFound (wiring s net) k target (topsOf s net) (outsOf s net) (delaysOf s n net) n ls r → r ≡ 0
+  pub told-none : {r : ℕ} → PeriodFound (wiring s net) k target (topsIn s net 0) (outsIn s net) (delaysIn s net n) n ls r → r ≡ 0
       → CoverTold s n net ts k target (kept (s .inputs) (s .gates) 0 ls marks sizes nodes backs luts)
   told-none f e = record {
     cover = λ N S P T o. record {
@@ -170,7 +171,7 @@ module _ {s : Extent} {net os oc : List ℕ} {n : ℕ} {tops : List ℕ} {k targ
 
 -- **the cover**
 pub told-cover : {s : Extent} {n : ℕ} {net ts : List ℕ} {k target : ℕ} {ls : List ℤ} {marks sizes nodes backs luts : List ℕ} {r : ℕ} → k ≤ stride
-    → PeriodFound (wiring s net) k target (topsOf s net) (outsOf s net) (delaysOf s n net) n ls r → ¬ (r ≡ 0) → RootsTold (wiring s net) ls (outsOf s net) n r k marks sizes nodes backs
+    → PeriodFound (wiring s net) k target (topsIn s net 0) (outsIn s net) (delaysIn s net n) n ls r → ¬ (r ≡ 0) → RootsTold (wiring s net) ls (outsIn s net) n r k marks sizes nodes backs
     → Tabulated (s .inputs) (s .gates) net (drop (sourcesAt (s .gates)) net) (drop (countsAt (s .gates)) net) ts marks sizes nodes backs luts (s .gates)
     → CoverTold s n net ts k target (kept (s .inputs) (s .gates) r ls marks sizes nodes backs luts)
 told-cover {luts = luts} six f z told tab = record {

@@ -8,17 +8,19 @@ use lib.IntN.{ℤ}
 use lib.ListN.{length, take, drop, replicate, length-replicate, length-append, length-drop}
 use lib.Seq.{length-take-le, take-at, getD-drop}
 use Rattle.sequences.specs.Zeros.{zeros}
-use Rattle.limits.specs.Limits.{mostCopies, mostNodes, mostTable, mostList, mostStack, mostHeld}
+use Rattle.limits.specs.Limits.{mostPins, mostCopies, mostNodes, mostTable, mostList, mostStack, mostHeld}
+use Rattle.cover_records.specs.Rows.{sizesIn, nodesIn, backsIn}
 use Rattle.cone_descent.specs.Descent.{Clear}
 use Rattle.cut_circuit.specs.Circuit.{Circuit, total}
 use Rattle.cut_circuit.specs.Packed.{packedOf, sourcesAt, countsAt}
 use Rattle.cut_circuit.specs.declared.Extent.{Extent}
 use Rattle.cut_question.specs.Separating.{AtRest}
-use Rattle.label_visit.specs.LabelVisits.{wiring}
+use Rattle.label_visit.specs.LabelVisits.{wiring, topsIn}
+use Rattle.label_sweep.specs.Sweeps.{outsIn, delaysIn}
 use Rattle.cover_roots.specs.Choosing.{Chooses, RootsTold}
 use Rattle.cone_luts.specs.Luts.{Tabulates}
 use Rattle.job_plan.specs.Found.{PeriodFound}
-use Rattle.job_plan.specs.Planned.{Engine, Roomy, topsOf, outsOf, delaysOf}
+use Rattle.job_plan.specs.Planned.{Engine, Roomy}
 use Rattle.job_plan.specs.Covering.{few-leaves, rising-leaves}
 
 -- ---- the first bytes of a table
@@ -65,8 +67,8 @@ module _ {s : Extent} {n : ℕ} {net ts : List ℕ} {k target : ℕ} {t : List �
     cleared = record { zero = clear-take ((s .inputs + s .gates) * s .width) t (e .clear); empty = zeros mostList 0 };
   }
 
-  pub engine-chooses : {marks sizes nodes backs luts : List ℕ} {ls′ : List ℤ} {r : ℕ} → Roomy (s .gates) marks sizes nodes backs luts → PeriodFound (wiring s net) k target (topsOf s net) (outsOf s net) (delaysOf s n net) n ls′ r
-      → Chooses (wiring s net) ls′ (outsOf s net) n r k marks sizes nodes backs
+  pub engine-chooses : {rows luts : List ℕ} {ls′ : List ℤ} {r : ℕ} → Roomy (s .gates) rows luts → PeriodFound (wiring s net) k target (topsIn s net 0) (outsIn s net) (delaysIn s net n) n ls′ r
+      → Chooses (wiring s net) ls′ r k rows
   engine-chooses {r = r} room f = record {
     asking = record {
       labels = f .fine .size;
@@ -80,22 +82,23 @@ module _ {s : Extent} {n : ℕ} {net ts : List ℕ} {k target : ℕ} {t : List �
       ranked = e .suits .ranked;
       loopless = e .suits .loopless;
     };
-    places = record { atMarks = room .atMarks; atSizes = room .atSizes; atNodes = room .atNodes; atBacks = room .atBacks };
-    outputs = e .period .sized .sources;
+    places = room .atRows;
     unmarked = room .unmarked;
   }
 
-  pub engine-tabulates : {marks₀ sizes₀ nodes₀ backs₀ luts₀ marks sizes nodes backs : List ℕ} {ls′ : List ℤ} {r : ℕ} → Roomy (s .gates) marks₀ sizes₀ nodes₀ backs₀ luts₀
-      → length marks ≡ length marks₀ → length sizes ≡ length sizes₀ → length nodes ≡ length nodes₀ → length backs ≡ length backs₀
-      → PeriodFound (wiring s net) k target (topsOf s net) (outsOf s net) (delaysOf s n net) n ls′ r → ¬ (r ≡ 0) → RootsTold (wiring s net) ls′ (outsOf s net) n r k marks sizes nodes backs
-      → Tabulates (s .inputs) (s .gates) net (drop (sourcesAt (s .gates)) net) (drop (countsAt (s .gates)) net) ts marks sizes nodes backs
-  engine-tabulates room a b c d f z told = record {
-    wires = e .wires;
-    atTables = e .tables;
-    atMarks = let m = room .atMarks in omega arith;
-    atSizes = let m = room .atSizes in omega arith;
-    atNodes = let m = room .atNodes in omega arith;
-    atBacks = let m = room .atBacks in omega arith;
-    few = few-leaves (e .few) f (omega arith) told (e .model) (e .suits) (e .passed) (e .ended);
-    rising = rising-leaves (e .few) f (omega arith) told (e .model) (e .suits) (e .passed) (e .ended);
-  }
+  pub engine-tabulates : {rows₀ luts rows : List ℕ} {ls′ : List ℤ} {r : ℕ} → Roomy (s .gates) rows₀ luts → length rows ≡ length rows₀
+      → PeriodFound (wiring s net) k target (topsIn s net 0) (outsIn s net) (delaysIn s net n) n ls′ r → ¬ (r ≡ 0)
+      → RootsTold (wiring s net) ls′ (outsIn s net) n r k rows (sizesIn (s .gates) rows) (nodesIn (s .gates) rows) (backsIn (s .gates) rows)
+      → Tabulates (s .inputs) (s .gates) net (drop (sourcesAt (s .gates)) net) (drop (countsAt (s .gates)) net) ts rows (sizesIn (s .gates) rows) (nodesIn (s .gates) rows) (backsIn (s .gates) rows)
+  engine-tabulates {rows = rows} room a f z told =
+      let m = room .atRows in
+      record {
+        wires = e .wires;
+        atTables = e .tables;
+        atMarks = omega (arith, m, a);
+        atSizes = omega (arith, m, a, length-drop (s .gates) rows);
+        atNodes = omega (arith, m, a, length-drop (2 * s .gates) rows);
+        atBacks = omega (arith, m, a, length-drop ((2 + mostPins) * s .gates) rows);
+        few = few-leaves (e .few) f (omega arith) told (e .model) (e .suits) (e .passed) (e .ended);
+        rising = rising-leaves (e .few) f (omega arith) told (e .model) (e .suits) (e .passed) (e .ended);
+      }

@@ -6,6 +6,5 @@ pub mod Planned
 pub mod Entries
 pub mod Covering
 pub mod Engines
-pub mod Lent
 pub mod Ready
 pub mod Mapped

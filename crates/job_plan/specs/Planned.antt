@@ -7,12 +7,13 @@ use lib.ListN.{length, getD, drop, replicate}
 use Rattle.net_model.specs.Net.{Net, IsGate}
 use Rattle.net_model.specs.Arrays.{stride, pinsIn, netIn}
 use Rattle.net_model.specs.Checks.{Passed}
-use Rattle.net_model.specs.PackedNet.{orderAt, topsAt, outsAt, delaysAt, packedRoom}
+use Rattle.net_model.specs.PackedNet.{packedRoom}
 use Rattle.limits.specs.Limits.{leastK, mostK, mostPeriod, mostTable, mostHeld}
 use Rattle.label_theory.specs.Labels.{Reachable}
 use Rattle.cover_theory.specs.Covers.{LeastPeriod}
 use Rattle.cover_theory.specs.Key.{Key, entries}
-use Rattle.cover_records.specs.Kept.{Kept, kept, entriesIn, Whole}
+use Rattle.cover_records.specs.Kept.{Kept, entriesIn, Whole}
+use Rattle.cover_records.specs.Rows.{rowRoom}
 use Rattle.signed.specs.Range.{Small}
 use Rattle.net_reader.specs.ReadAnswer.{arraysOf}
 use Rattle.net_reader.specs.WalkFacts.{WalkFacts}
@@ -25,7 +26,8 @@ use Rattle.cut_circuit.specs.Circuit.{Layout}
 use Rattle.cut_circuit.specs.Chains.{Chains}
 use Rattle.cut_circuit.specs.Packed.{packedOf, sourcesAt, countsAt}
 use Rattle.cut_circuit.specs.declared.Extent.{Extent}
-use Rattle.label_visit.specs.LabelVisits.{Suits, wiring}
+use Rattle.label_visit.specs.LabelVisits.{Suits, wiring, topsIn}
+use Rattle.label_sweep.specs.Sweeps.{orderIn, outsIn, delaysIn}
 use Rattle.job_plan.specs.Found.{PeriodAsked}
 
 -- The cover kept in a is the one written for N, k and the period kept.
@@ -56,39 +58,23 @@ pub record Planning (k target : ℕ) (z : NetSizes) (net ts : List ℕ) : Type 0
   pub graph : Graph z net (netIn (arraysOf z net ts))
 
 -- room for the cover of a net with G gates, and no gate marked
-pub record Roomy (G : ℕ) (marks sizes nodes backs luts : List ℕ) : Type 0 where
-  pub atMarks : G ≤ length marks
-  pub unmarked : (g : ℕ) → g < G → getD marks g 0 ≡ 0
-  pub atSizes : G ≤ length sizes
-  pub atNodes : stride * G ≤ length nodes
-  pub atBacks : stride * G ≤ length backs
+pub record Roomy (G : ℕ) (rows luts : List ℕ) : Type 0 where
+  pub atRows : rowRoom G ≤ length rows
+  pub unmarked : (g : ℕ) → g < G → getD rows g 0 ≡ 0
   pub atLuts : G ≤ length luts
-
--- the parts of the slice that the labels ask for
-abbrev pub topsOf : Extent → List ℕ → List ℕ
-topsOf s net = drop (topsAt (s .inputs) (s .gates)) net
-
-abbrev pub orderOf : Extent → List ℕ → List ℕ
-orderOf s net = drop (orderAt (s .inputs) (s .gates)) net
-
-abbrev pub outsOf : Extent → List ℕ → List ℕ
-outsOf s net = drop (outsAt (s .inputs) (s .gates)) net
-
-abbrev pub delaysOf : Extent → ℕ → List ℕ → List ℕ
-delaysOf s n net = drop (delaysAt (s .inputs) (s .gates) n) net
 
 -- The engine's arrays for a net with n outputs, with nothing forced.
 pub record Engine (s : Extent) (n : ℕ) (net ts : List ℕ) (k target : ℕ) (t : List ℕ) (ls : List ℤ) : Type 0 where
   pub model : Net
-  pub suits : Suits (wiring s net) k (topsOf s net) model
+  pub suits : Suits (wiring s net) k (topsIn s net 0) model
   pub passed : Passed model k
-  pub ended : model .outputs ≡ pinsIn (outsOf s net) (delaysOf s n net) 0 n
+  pub ended : model .outputs ≡ pinsIn (outsIn s net) (delaysIn s net n) 0 n
   pub layout : Layout (packedOf s net (replicate mostHeld 0))
   pub chains : Chains (packedOf s net (replicate mostHeld 0))
   pub size : length t ≡ mostTable
   pub fits : (s .inputs + s .gates) * s .width ≤ mostTable
   pub clear : (c : ℕ) → getD t c 0 ≡ 0
-  pub period : PeriodAsked s net ls (topsOf s net) (orderOf s net) (outsOf s net) (delaysOf s n net) n target k
+  pub period : PeriodAsked s net ls (topsIn s net 0) (orderIn s net) (outsIn s net) (delaysIn s net n) n target k
   pub wires : SmallWires (s .inputs) (s .gates) net (drop (sourcesAt (s .gates)) net) (drop (countsAt (s .gates)) net)
   pub parts : packedRoom (s .inputs) (s .gates) n ≤ length net
   pub tables : s .gates ≤ length ts
@@ -96,4 +82,4 @@ pub record Engine (s : Extent) (n : ℕ) (net ts : List ℕ) (k target : ℕ) (t
 
 -- the cover, for every net that suits
 pub record CoverTold (s : Extent) (n : ℕ) (net ts : List ℕ) (k target : ℕ) (a : Kept) : Type 0 where
-  pub cover : (N : Net) → Suits (wiring s net) k (topsOf s net) N → Passed N k → Tabled N (s .inputs) (s .gates) ts → N .outputs ≡ pinsIn (outsOf s net) (delaysOf s n net) 0 n → Planned N k target a
+  pub cover : (N : Net) → Suits (wiring s net) k (topsIn s net 0) N → Passed N k → Tabled N (s .inputs) (s .gates) ts → N .outputs ≡ pinsIn (outsIn s net) (delaysIn s net n) 0 n → Planned N k target a

@@ -17,10 +17,11 @@ use Rattle.net_model.specs.Checks.{Passed}
 use Rattle.net_model.specs.PackedNet.{firstAt, sourcesAt, countsAt, orderAt, topsAt, outsAt, delaysAt, packedRoom, NetKept}
 use Rattle.net_model.specs.PackedNetLaws.{length-part, kept-between, kept-net}
 use Rattle.label_theory.specs.Pins.{OutPath}
-use Rattle.limits.specs.Limits.{mostBeyond, mostCount, mostGates, mostNodes, mostPeriod, mostPins, mostPlaces, mostReach, mostTable, mostHeld}
+use Rattle.limits.specs.Limits.{mostBeyond, mostCount, mostGates, mostNodes, mostPeriod, mostPins, mostReach, mostRows, mostTable, mostHeld}
 use Rattle.cone_theory.specs.Ranks.{ranked}
 use Rattle.cone_theory.specs.Reach.{reachOf}
-use Rattle.cover_records.specs.Kept.{Kept, kept, entriesIn}
+use Rattle.cover_records.specs.Kept.{Kept, entriesIn}
+use Rattle.cover_records.specs.Rows.{keptIn}
 use Rattle.cover_records.specs.Outcomes.{cleared}
 use Rattle.signed.specs.Range.{room, Small}
 use Rattle.net_reader.specs.ReadAnswer.{arraysOf}
@@ -36,8 +37,9 @@ use Rattle.cut_circuit.specs.Packed.{packedOf}
 use Rattle.cut_circuit.specs.declared.Extent.{Extent}
 use Rattle.cut_circuit.specs.PinLinks.{LinkAsked, LinkedIn, Links}
 use Rattle.cut_circuit.specs.PinLinksLaws.{chains}
-use Rattle.label_sweep.specs.Sweeps.{Sized, Ordered}
-use Rattle.label_visit.specs.LabelVisits.{Suits, wiring, Ceilings}
+use Rattle.label_sweep.specs.Sweeps.{Sized, Ordered, orderIn, outsIn, delaysIn}
+use Rattle.label_visit.specs.LabelVisits.{Suits, wiring, Ceilings, topsIn}
+use Rattle.label_visit.specs.TopLaws.{tops-own}
 use Rattle.job_plan.specs.Counts.{Counted, SumCounts, Extending, extentBy, ExtentOf}
 use Rattle.job_plan.specs.CountLaws.{sum-reach}
 use Rattle.job_plan.specs.Found.{PeriodAsked}
@@ -192,8 +194,8 @@ module _ {k target : ℕ} {z : NetSizes} {net ts : List ℕ} (p : Planning k tar
       count = λ g j h i. let a = p .facts .count g j h i in omega arith;
     }
 
-    suits : Suits (wiring extent net) k tops N
-    suits = record {
+    suits : Suits (wiring extent net) k (topsIn extent net 0) N
+    suits = subst (λ (l : List ℕ). Suits (wiring extent net) k l N) (sym (tops-own extent net)) (record {
       holds = record { inputs = wired .inputs; gates = wired .gates; lists = wired .wiring };
       ranked = ranked (p .passed .reached);
       loopless = p .passed .loopless;
@@ -201,7 +203,7 @@ module _ {k target : ℕ} {z : NetSizes} {net ts : List ℕ} (p : Planning k tar
       fits = p .passed .fits;
       border = border-enough;
       path = λ g h. rw (top-at g) (p .graph .topped .low g h, p .graph .paths g h);
-    }
+    })
 
     -- what 32 times a small number is
     far : (x : ℕ) → x ≤ 100000 → mostPeriod * x ≤ room
@@ -211,7 +213,7 @@ module _ {k target : ℕ} {z : NetSizes} {net ts : List ℕ} (p : Planning k tar
     order-at i = getD-drop (orderAt I G) net i 0
 
     period : (ls : List ℤ) → length ls ≡ I + G
-        → PeriodAsked extent net ls tops (drop (orderAt I G) net) (drop (outsAt I G) net) (drop (delaysAt I G (z .outputs)) net) (z .outputs) target k
+        → PeriodAsked extent net ls (topsIn extent net 0) (orderIn extent net) (outsIn extent net) (delaysIn extent net (z .outputs)) (z .outputs) target k
     period ls e = record {
       sized = record {
         size = e;
@@ -230,13 +232,13 @@ module _ {k target : ℕ} {z : NetSizes} {net ts : List ℕ} (p : Planning k tar
         gate = λ i h. omega (arith, order-at i, p .graph .ordered .inOrder i h);
         all = λ g h. let t = p .graph .ordered .ordered g h in (t .0, t .1, order-at (t .0) ∙ t .2);
       };
-      ceilings = record {
+      ceilings = subst (Ceilings (wiring extent net) mostPeriod) (sym (tops-own extent net)) (record {
         size = long (topsAt I G) G (omega arith);
         top = λ g h.
             let a = far (getD tops g 0) (omega (arith, top-at g, p .graph .topped .high g h, p .facts .gates-high)) in
             let b = mul-le-mul-left mostPeriod (small-top g h) in
             omega arith;
-      };
+      });
       some = p .facts .gates-low;
       few = p .facts .gates-high;
       near = p .near;
@@ -273,15 +275,15 @@ module _ {k target : ℕ} {z : NetSizes} {net ts : List ℕ} (p : Planning k tar
     }
 
     -- **the cover, with its labels in front of a longer array**
-    plan-planned : {ls : List ℤ} {marks sizes nodes backs luts : List ℕ} {r : ℕ} (rest : List ℤ) → length ls ≡ I + G
-        → CoverTold extent (z .outputs) net ts k target (kept I G r ls marks sizes nodes backs luts)
-        → Planned N k target (kept I G r (ls ++ rest) marks sizes nodes backs luts)
-    plan-planned {ls} {marks} {sizes} {nodes} {backs} {luts} {r} rest e told = relabel (told .cover N suits (p .passed) tabled outputs-are)
+    plan-planned : {ls : List ℤ} {rows luts : List ℕ} {r : ℕ} (rest : List ℤ) → length ls ≡ I + G
+        → CoverTold extent (z .outputs) net ts k target (keptIn I G r ls rows luts)
+        → Planned N k target (keptIn I G r (ls ++ rest) rows luts)
+    plan-planned {ls} {rows} {luts} {r} rest e told = relabel (told .cover N suits (p .passed) tabled outputs-are)
       where
         same : (u : ℕ) → u < I + G → getD ls u (pos 0) ≡ getD (ls ++ rest) u (pos 0)
         same u h = sym (List·getD-append ls rest (pos 0) u (omega (arith, e, h)))
 
-        relabel : Planned N k target (kept I G r ls marks sizes nodes backs luts) → Planned N k target (kept I G r (ls ++ rest) marks sizes nodes backs luts)
+        relabel : Planned N k target (keptIn I G r ls rows luts) → Planned N k target (keptIn I G r (ls ++ rest) rows luts)
         relabel q = record { none = q .none; some = λ h. covered-with same (q .some h) (wired .inputs) (wired .gates) }
 
 -- ---- the same for the extent that the program makes
@@ -291,30 +293,23 @@ module _ {k target : ℕ} {z : NetSizes} {net ts : List ℕ} (p : Planning k tar
   planned-engine linked t e ls f = subst (λ (y : Extent). Engine y (z .outputs) net ts k target t ls) (sym (x .is)) (plan-engine p (x .sum) linked t e ls f)
 
   -- the net read suits, and its outputs are those of the slice
-  pub planned-suits : Suits (wiring s net) k (drop (topsAt (s .inputs) (s .gates)) net) (netIn (arraysOf z net ts))
-  planned-suits = subst (λ (y : Extent). Suits (wiring y net) k (drop (topsAt (y .inputs) (y .gates)) net) (netIn (arraysOf z net ts))) (sym (x .is)) (suits p (x .sum))
+  pub planned-suits : Suits (wiring s net) k (topsIn s net 0) (netIn (arraysOf z net ts))
+  planned-suits = subst (λ (y : Extent). Suits (wiring y net) k (topsIn y net 0) (netIn (arraysOf z net ts))) (sym (x .is)) (suits p (x .sum))
 
-  pub planned-outputs : netIn (arraysOf z net ts) .outputs ≡ pinsIn (drop (outsAt (s .inputs) (s .gates)) net) (drop (delaysAt (s .inputs) (s .gates) (z .outputs)) net) 0 (z .outputs)
-  planned-outputs = subst (λ (y : Extent). netIn (arraysOf z net ts) .outputs ≡ pinsIn (drop (outsAt (y .inputs) (y .gates)) net) (drop (delaysAt (y .inputs) (y .gates) (z .outputs)) net) 0 (z .outputs)) (sym (x .is)) (outputs-are p (x .sum))
+  pub planned-outputs : netIn (arraysOf z net ts) .outputs ≡ pinsIn (outsIn s net) (delaysIn s net (z .outputs)) 0 (z .outputs)
+  planned-outputs = subst (λ (y : Extent). netIn (arraysOf z net ts) .outputs ≡ pinsIn (outsIn y net) (delaysIn y net (z .outputs)) 0 (z .outputs)) (sym (x .is)) (outputs-are p (x .sum))
 
-  pub planned-room : {marks sizes nodes backs luts : List ℕ} → Roomy (z .gates) marks sizes nodes backs luts → Roomy (s .gates) marks sizes nodes backs luts
-  planned-room {marks} {sizes} {nodes} {backs} {luts} r = subst (λ (y : Extent). Roomy (y .gates) marks sizes nodes backs luts) (sym (x .is)) r
+  pub planned-room : {rows luts : List ℕ} → Roomy (z .gates) rows luts → Roomy (s .gates) rows luts
+  planned-room {rows} {luts} r = subst (λ (y : Extent). Roomy (y .gates) rows luts) (sym (x .is)) r
 
-  pub planned-cover : {N : Net} → netIn (arraysOf z net ts) ≡ N → {ls : List ℤ} {marks sizes nodes backs luts : List ℕ} {r : ℕ} (rest : List ℤ) → length ls ≡ z .inputs + z .gates
-      → CoverTold s (z .outputs) net ts k target (kept (s .inputs) (s .gates) r ls marks sizes nodes backs luts)
-      → Planned N k target (kept (z .inputs) (z .gates) r (ls ++ rest) marks sizes nodes backs luts)
-  planned-cover same {ls} {marks} {sizes} {nodes} {backs} {luts} {r} rest e told =
-      subst (λ (N : Net). Planned N k target (kept (z .inputs) (z .gates) r (ls ++ rest) marks sizes nodes backs luts)) same
+  pub planned-cover : {N : Net} → netIn (arraysOf z net ts) ≡ N → {ls : List ℤ} {rows luts : List ℕ} {r : ℕ} (rest : List ℤ) → length ls ≡ z .inputs + z .gates
+      → CoverTold s (z .outputs) net ts k target (keptIn (s .inputs) (s .gates) r ls rows luts)
+      → Planned N k target (keptIn (z .inputs) (z .gates) r (ls ++ rest) rows luts)
+  planned-cover same {ls} {rows} {luts} {r} rest e told =
+      subst (λ (N : Net). Planned N k target (keptIn (z .inputs) (z .gates) r (ls ++ rest) rows luts)) same
       (plan-planned p (x .sum) rest e
-      (subst (λ (y : Extent). CoverTold y (z .outputs) net ts k target (kept (y .inputs) (y .gates) r ls marks sizes nodes backs luts)) (x .is) told))
+      (subst (λ (y : Extent). CoverTold y (z .outputs) net ts k target (keptIn (y .inputs) (y .gates) r ls rows luts)) (x .is) told))
 
--- arrays of zeros have room for a cover
-pub zero-room : (G : ℕ) → G ≤ mostGates → Roomy G (replicate mostGates 0) (replicate mostGates 0) (replicate mostPlaces 0) (replicate mostPlaces 0) (replicate mostGates 0)
-zero-room G h = record {
-  atMarks = h;
-  unmarked = λ g l. zeros mostGates g;
-  atSizes = h;
-  atNodes = omega arith;
-  atBacks = omega arith;
-  atLuts = h;
-}
+-- slices of zeros have room for a cover
+pub zero-room : (G : ℕ) → G ≤ mostGates → Roomy G (replicate mostRows 0) (replicate mostGates 0)
+zero-room G h = record { atRows = omega (arith, h); unmarked = λ g l. zeros mostRows g; atLuts = h }

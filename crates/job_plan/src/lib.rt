@@ -1,9 +1,10 @@
-// The cover of a net that passed the checks: period, labels, chosen roots, their cuts and tables, in arrays.
+// The cover of a net that passed the checks: period, labels, chosen roots, their cuts and tables, kept in slices.
 use cone_luts::tabulate;
 use cover_roots::choose;
 use cut_circuit::Extent;
 use cut_circuit::link;
 use job_scratch::clear_first;
+use label_lines::greater;
 use label_period::least_period;
 use label_sweep::reach;
 use label_visit::Aim;
@@ -16,27 +17,21 @@ use limits::PINS;
 use limits::STACK;
 use limits::TABLE;
 use net_reader::NetSizes;
-use net_reader::outs_at;
 ghost use mathlib.Core.Path.{_≡_};
-ghost use Prim.Native.Nat.{max, _+_, _-_, _*_, _≤_, _<_};
-ghost use lib.ListN.{length, drop};
+ghost use Prim.Native.Nat.{_+_, _-_, _*_, _≤_, _<_};
+ghost use lib.ListN.{length};
 ghost use Rattle.net_model.specs.Arrays.{netIn};
 ghost use Rattle.limits.specs.Limits.{mostTable};
-ghost use Rattle.net_model.specs.PackedNet.{outsAt, delaysAt, topsAt, orderAt, packedRoom, NetKept};
+ghost use Rattle.net_model.specs.PackedNet.{packedRoom, NetKept};
 ghost use Rattle.net_reader.specs.ReadAnswer.{arraysOf};
 ghost use Rattle.cut_circuit.specs.Packed.{packedOf};
 ghost use Rattle.cut_question.specs.Separating.{AtRest};
 ghost use Rattle.label_visit.specs.LabelVisits.{wiring, topsIn};
+ghost use Rattle.label_sweep.specs.Sweeps.{orderIn, outsIn, delaysIn};
 ghost use Rattle.job_plan.specs.Counts.{MostCount, Counted, SumCounts, Extending, ExtentOf};
-ghost use Rattle.cover_records.specs.Kept.{kept};
+ghost use Rattle.cover_records.specs.Rows.{keptIn};
 ghost use Rattle.job_plan.specs.Found.{PeriodAsked, PeriodFound};
-ghost use Rattle.job_plan.specs.Planned.{orderOf, outsOf, delaysOf, Planned, Planning, Roomy, Engine, CoverTold};
-
-fn larger(a: usize, b: usize) -> usize
-    ensures { λ r. ⌜ r ≡ max a b ⌝ }
-{
-    if a < b { b } else { a }
-}
+ghost use Rattle.job_plan.specs.Planned.{Planned, Planning, Roomy, Engine, CoverTold};
 
 // The largest of n counts from a place on.
 fn most_count(counts: &[usize], at: usize, n: usize) -> usize
@@ -46,7 +41,7 @@ fn most_count(counts: &[usize], at: usize, n: usize) -> usize
     let mut most = 0;
     let mut j = 0;
     while j < n {
-        most = larger(most, counts[at + j]);
+        most = greater(most, counts[at + j]);
         j += 1;
     }
     most
@@ -84,7 +79,7 @@ pub fn extent(z: NetSizes, net: &[usize], k: usize) -> Extent
     }
 }
 
-// The target where it is reachable, or the least period for target 0, with the least labelling left in labels. 0: the target is not reachable.
+// The target a.phi where it is reachable, or the least period for target 0, with the least labelling left in labels. 0: the target is not reachable.
 fn find_period(
     s: Extent,
     net: &[usize],
@@ -95,17 +90,15 @@ fn find_period(
     counts: &mut [u32],
     members: &mut [u32],
     labels: &mut [i64],
-    n: usize,
-    target: usize,
-    k: usize,
+    a: Aim,
 ) -> usize
     requires { ⌜ AtRest (packedOf s (now net) (now slots)) (now table) (now list) (now stack) (now counts) (now members) ⌝ }
-    requires { ⌜ packedRoom (s .inputs) (s .gates) n ≤ length (now net) ⌝ }
-    requires { ⌜ PeriodAsked s (now net) (now labels) (topsIn s (now net) 0) (orderOf s (now net)) (outsOf s (now net)) (delaysOf s n (now net)) n target k ⌝ }
+    requires { ⌜ packedRoom (s .inputs) (s .gates) (a .outputs) ≤ length (now net) ⌝ }
+    requires { ⌜ PeriodAsked s (now net) (now labels) (topsIn s (now net) 0) (orderIn s (now net)) (outsIn s (now net)) (delaysIn s (now net) (a .outputs)) (a .outputs) (a .phi) (a .k) ⌝ }
     ensures { λ _. ⌜ AtRest (packedOf s (now (net .entry)) (now (slots .exit))) (now (table .exit)) (now (list .exit)) (now (stack .exit)) (now (counts .exit)) (now (members .exit)) ⌝ }
-    ensures { λ r. ⌜ PeriodFound (wiring s (now (net .entry))) k target (topsIn s (now (net .entry)) 0) (outsOf s (now (net .entry))) (delaysOf s n (now (net .entry))) n (now (labels .exit)) r ⌝ }
+    ensures { λ r. ⌜ PeriodFound (wiring s (now (net .entry))) (a .k) (a .phi) (topsIn s (now (net .entry)) 0) (outsIn s (now (net .entry))) (delaysIn s (now (net .entry)) (a .outputs)) (a .outputs) (now (labels .exit)) r ⌝ }
 {
-    if target == 0 {
+    if a.phi == 0 {
         return least_period(
             s,
             net,
@@ -116,14 +109,14 @@ fn find_period(
             counts,
             members,
             labels,
-            n,
-            k,
+            a.outputs,
+            a.k,
         );
     }
-    let a = Aim {
-        phi: target,
-        k: k,
-        outputs: n,
+    let b = Aim {
+        phi: a.phi,
+        k: a.k,
+        outputs: a.outputs,
         cap: 0,
     };
     if reach(
@@ -136,9 +129,9 @@ fn find_period(
         counts,
         members,
         labels,
-        a,
+        b,
     ) {
-        return target;
+        return a.phi;
     }
     0
 }
@@ -153,28 +146,25 @@ fn cover(
     target: usize,
     table: &mut [u8],
     labels: &mut [i64],
-    marks: &mut [usize],
-    sizes: &mut [usize],
-    nodes: &mut [usize],
-    backs: &mut [usize],
+    rows: &mut [usize],
     luts: &mut [u64],
 ) -> usize
     requires { ⌜ Engine s n (now net) (now tables) k target (now table) (now labels) ⌝ }
-    requires { ⌜ Roomy (s .gates) (now marks) (now sizes) (now nodes) (now backs) (now luts) ⌝ }
-    ensures { λ r. ⌜ CoverTold s n (now (net .entry)) (now (tables .entry)) k target (kept (s .inputs) (s .gates) r (now (labels .exit)) (now (marks .exit)) (now (sizes .exit)) (now (nodes .exit)) (now (backs .exit)) (now (luts .exit))) ⌝ }
+    requires { ⌜ Roomy (s .gates) (now rows) (now luts) ⌝ }
+    ensures { λ r. ⌜ CoverTold s n (now (net .entry)) (now (tables .entry)) k target (keptIn (s .inputs) (s .gates) r (now (labels .exit)) (now (rows .exit)) (now (luts .exit))) ⌝ }
 {
-    let z = NetSizes {
-        inputs: s.inputs,
-        gates: s.gates,
-        outputs: n,
-    };
-    let y = outs_at(z, net);
     let end = (s.inputs + s.gates) * s.width;
     let mut slots = [0u32; HELD];
     let mut list = [0u32; LIST];
     let mut stack = [0u32; STACK];
     let mut counts = [0u32; NODES];
     let mut members = [0u32; COPIES];
+    let asked = Aim {
+        phi: target,
+        k: k,
+        outputs: n,
+        cap: 0,
+    };
     let phi = find_period(
         s,
         net,
@@ -185,13 +175,17 @@ fn cover(
         &mut counts,
         &mut members,
         labels,
-        n,
-        target,
-        k,
+        asked,
     );
     if phi == 0 {
         return 0;
     }
+    let found = Aim {
+        phi: phi,
+        k: k,
+        outputs: n,
+        cap: 0,
+    };
     choose(
         s,
         net,
@@ -202,31 +196,10 @@ fn cover(
         &mut counts,
         &mut members,
         labels,
-        &net[y..],
-        n,
-        phi,
-        k,
-        marks,
-        sizes,
-        nodes,
-        backs,
+        found,
+        rows,
     );
-    let a = 2 * s.gates;
-    let b = (2 + PINS) * s.gates;
-    tabulate(
-        s.inputs,
-        s.gates,
-        net,
-        &net[a..],
-        &net[b..],
-        tables,
-        marks,
-        sizes,
-        nodes,
-        backs,
-        luts,
-        table,
-    );
+    tabulate(s.inputs, s.gates, net, tables, rows, luts, table);
     phi
 }
 
@@ -239,15 +212,12 @@ pub fn plan(
     target: usize,
     work: &mut [u8],
     labels: &mut [i64],
-    marks: &mut [usize],
-    sizes: &mut [usize],
-    nodes: &mut [usize],
-    backs: &mut [usize],
+    rows: &mut [usize],
     luts: &mut [u64],
 ) -> usize
     requires { ⌜ Planning k target z (now net) (now tables) ⌝ }
-    requires { ⌜ (mostTable ≤ length (now work)) × (z .inputs + z .gates ≤ length (now labels)) × Roomy (z .gates) (now marks) (now sizes) (now nodes) (now backs) (now luts) ⌝ }
-    ensures { λ r. ⌜ Planned (netIn (arraysOf z (now (net .entry)) (now (tables .entry)))) k target (kept (z .inputs) (z .gates) r (now (labels .exit)) (now (marks .exit)) (now (sizes .exit)) (now (nodes .exit)) (now (backs .exit)) (now (luts .exit))) ⌝ }
+    requires { ⌜ (mostTable ≤ length (now work)) × (z .inputs + z .gates ≤ length (now labels)) × Roomy (z .gates) (now rows) (now luts) ⌝ }
+    ensures { λ r. ⌜ Planned (netIn (arraysOf z (now (net .entry)) (now (tables .entry)))) k target (keptIn (z .inputs) (z .gates) r (now (labels .exit)) (now (rows .exit)) (now (luts .exit))) ⌝ }
     ensures { λ _. ⌜ NetKept (z .inputs) (z .gates) (now (net .entry)) (now (net .exit)) ⌝ }
 {
     let all = z.inputs + z.gates;
@@ -264,10 +234,7 @@ pub fn plan(
         target,
         &mut work[..end],
         &mut labels[..all],
-        marks,
-        sizes,
-        nodes,
-        backs,
+        rows,
         luts,
     )
 }

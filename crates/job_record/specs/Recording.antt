@@ -8,7 +8,7 @@ use native.Mathlib.Omega.{arith}
 use borrow.Author.Tests.{eqb-true, eqb-false}
 use lib.Dec.{eqb}
 use lib.IntN.{ℤ, pos}
-use lib.ListN.{length, getD, drop}
+use lib.ListN.{length, getD, drop, length-drop}
 use Rattle.integers.specs.Lag.{lag}
 use Rattle.sequences.specs.Member.{_∈_, here, there, not-in-nil}
 use Rattle.net_model.specs.Net.{Net, Pin, IsGate, pins, size}
@@ -18,12 +18,13 @@ use Rattle.net_model.specs.Wired.{Wired}
 use Rattle.net_model.specs.WiredLaws.{netIn-wired, wired-gate, gate-wired, pin-wired}
 use Rattle.net_model.specs.Checks.{Passed}
 use Rattle.net_model.specs.PackedNet.{sourcesAt, countsAt}
-use Rattle.limits.specs.Limits.{mostNodes, mostGates, mostPlaces, mostPeriod, coverArea}
+use Rattle.limits.specs.Limits.{mostNodes, mostGates, mostPins, mostRows, mostPeriod, coverArea}
 use Rattle.limits.specs.Courses.{long, is-long}
 use Rattle.cover_theory.specs.Key.{Entry, entries}
 use Rattle.cover_theory.specs.Period.{leastPeriod, leastPeriod-is, leastPeriod-unique, leastPeriod-bound}
 use Rattle.cover_records.specs.CoverBytes.{coverBytes}
 use Rattle.cover_records.specs.Kept.{Kept, entryAt, entriesFrom, entriesIn}
+use Rattle.cover_records.specs.Rows.{keptIn}
 use Rattle.cover_records.specs.RoundTrip.{SmallLag, AllWritable, none, next}
 use Rattle.cover_records.specs.RoundTrip as trip
 use Rattle.cover_records.specs.KeyRecord.{WithinLimits, roomy, key-lag, key-writable, key-length}
@@ -55,14 +56,24 @@ writable-at none m = absurd (not-in-nil m)
 writable-at {wide} {nodes} {k} {least} (next w ws) (here e) = (least, subst (trip.Writable wide nodes k least) (sym e) w)
 writable-at (next w ws) (there m) = writable-at ws m
 
--- the lengths of the arrays
+-- the arrays are long enough
 pub record Long (a : Kept) : Type 0 where
   pub atLabels : length (a .labels) ≡ mostNodes
-  pub atMarks : length (a .marks) ≡ mostGates
-  pub atSizes : length (a .sizes) ≡ mostGates
-  pub atNodes : length (a .nodes) ≡ mostPlaces
-  pub atBacks : length (a .backs) ≡ mostPlaces
+  pub atMarks : a .gates ≤ length (a .marks)
+  pub atSizes : a .gates ≤ length (a .sizes)
+  pub atNodes : stride * a .gates ≤ length (a .nodes)
+  pub atBacks : stride * a .gates ≤ length (a .backs)
   pub atTables : length (a .tables) ≡ mostGates
+
+pub rows-long : {I G φ : ℕ} {labels : List ℤ} {rows tables : List ℕ} → G ≤ mostGates → length labels ≡ mostNodes → length rows ≡ mostRows → length tables ≡ mostGates → Long (keptIn I G φ labels rows tables)
+rows-long {G = G} {rows = rows} h e f t = record {
+  atLabels = e;
+  atMarks = omega (arith, h, f);
+  atSizes = omega (arith, h, f, length-drop G rows);
+  atNodes = omega (arith, h, f, length-drop (2 * G) rows);
+  atBacks = omega (arith, h, f, length-drop ((2 + mostPins) * G) rows);
+  atTables = t;
+}
 
 module _ {k target : ℕ} {z : NetSizes} {net ts : List ℕ} (s : Settling k target z net ts) {a : Kept} (i : a .inputs ≡ z .inputs) (g : a .gates ≡ z .gates) (l : Long a)
     (P : Passed (netIn (arraysOf z net ts)) k) (c : Covered (netIn (arraysOf z net ts)) k target a) where
@@ -97,11 +108,11 @@ module _ {k target : ℕ} {z : NetSizes} {net ts : List ℕ} (s : Settling k tar
 
   arrays : ArraysHeld a
   arrays = record {
-    marks = let h = s .facts .gates-high in let e = l .atMarks in omega arith;
-    sizes = let h = s .facts .gates-high in let e = l .atSizes in omega arith;
+    marks = l .atMarks;
+    sizes = l .atSizes;
     tables = let h = s .facts .gates-high in let e = l .atTables in omega arith;
-    nodes = let h = s .facts .gates-high in let e = l .atNodes in omega arith;
-    backs = let h = s .facts .gates-high in let e = l .atBacks in omega arith;
+    nodes = l .atNodes;
+    backs = l .atBacks;
     labels = let h = s .facts .gates-high in let d = s .facts .inputs-high in let e = l .atLabels in omega arith;
     least = c .positive;
     period = let h = period-small in omega arith;

@@ -1,11 +1,12 @@
 // Checks 9 to 12 of a net read, its cover as a record in the cover area, and the image in the loader area if one is lent.
 use cover_image::write_image;
+use cover_writer::CoverHead;
 use cover_writer::write_cover;
 use inputs::narrow;
 use job_settle::settle;
 use limits::GATES;
 use limits::NODES;
-use limits::PLACES;
+use limits::ROWS;
 use net_reader::NetSizes;
 ghost use Rattle.net_model.specs.Arrays.{netIn};
 ghost use Rattle.net_reader.specs.ReadAnswer.{arraysOf};
@@ -35,10 +36,7 @@ pub fn map_read(
     let mut seen = [0usize; GATES];
     let mut noted = [0usize; GATES];
     let mut labels = [0i64; NODES];
-    let mut marks = [0usize; GATES];
-    let mut sizes = [0usize; GATES];
-    let mut nodes = [0usize; PLACES];
-    let mut backs = [0usize; PLACES];
+    let mut rows = [0usize; ROWS];
     let mut luts = [0u64; GATES];
     let s = settle(
         z,
@@ -50,28 +48,19 @@ pub fn map_read(
         target,
         work,
         &mut labels,
-        &mut marks,
-        &mut sizes,
-        &mut nodes,
-        &mut backs,
+        &mut rows,
         &mut luts,
     );
     let refusal = s.refusal;
     if refusal > 0 {
         return Answer::Refused(narrow(refusal));
     }
-    let n = write_cover(
-        z.inputs,
-        z.gates,
-        s.period,
-        &labels,
-        &marks,
-        &sizes,
-        &nodes,
-        &backs,
-        &luts,
-        area,
-    );
-    write_image(&marks, &luts, z.gates, loader);
+    let head = CoverHead {
+        inputs: z.inputs,
+        gates: z.gates,
+        period: s.period,
+    };
+    let n = write_cover(head, &labels, &rows, &luts, area);
+    write_image(&rows, &luts, z.gates, loader);
     Answer::Length(n)
 }

@@ -1,4 +1,4 @@
-// The net read, checked and covered: 9 to 12, and the cover in arrays.
+// The net read, checked and covered: 9 to 12, and the cover kept in slices.
 use job_plan::plan;
 use net_checks::check_graph;
 use net_reader::NetSizes;
@@ -8,7 +8,7 @@ ghost use Rattle.limits.specs.Limits.{mostTable};
 ghost use Rattle.net_model.specs.Arrays.{netIn};
 ghost use Rattle.net_model.specs.PackedNet.{NetKept};
 ghost use Rattle.net_reader.specs.ReadAnswer.{arraysOf};
-ghost use Rattle.cover_records.specs.Kept.{kept};
+ghost use Rattle.cover_records.specs.Rows.{keptIn};
 ghost use Rattle.job_plan.specs.Planned.{Roomy};
 ghost use Rattle.job_settle.specs.Settling.{Settling, SettledAs};
 
@@ -29,16 +29,13 @@ pub fn settle(
     target: usize,
     work: &mut [u8],
     labels: &mut [i64],
-    marks: &mut [usize],
-    sizes: &mut [usize],
-    nodes: &mut [usize],
-    backs: &mut [usize],
+    rows: &mut [usize],
     luts: &mut [u64],
 ) -> Settled
     requires { ⌜ Settling k target z (now net) (now tables) ⌝ }
     requires { ⌜ (z .gates ≤ length (now seen)) × (z .gates ≤ length (now noted)) ⌝ }
-    requires { ⌜ (mostTable ≤ length (now work)) × (z .inputs + z .gates ≤ length (now labels)) × Roomy (z .gates) (now marks) (now sizes) (now nodes) (now backs) (now luts) ⌝ }
-    ensures { λ r. ⌜ SettledAs k target (netIn (arraysOf z (now (net .entry)) (now (tables .entry)))) (kept (z .inputs) (z .gates) (r .period) (now (labels .exit)) (now (marks .exit)) (now (sizes .exit)) (now (nodes .exit)) (now (backs .exit)) (now (luts .exit))) (r .refusal) ⌝ }
+    requires { ⌜ (mostTable ≤ length (now work)) × (z .inputs + z .gates ≤ length (now labels)) × Roomy (z .gates) (now rows) (now luts) ⌝ }
+    ensures { λ r. ⌜ SettledAs k target (netIn (arraysOf z (now (net .entry)) (now (tables .entry)))) (keptIn (z .inputs) (z .gates) (r .period) (now (labels .exit)) (now (rows .exit)) (now (luts .exit))) (r .refusal) ⌝ }
     ensures { λ _. ⌜ NetKept (z .inputs) (z .gates) (now (net .entry)) (now (net .exit)) ⌝ }
 {
     let gates = z.gates;
@@ -49,20 +46,7 @@ pub fn settle(
             period: 0,
         };
     }
-    let phi = plan(
-        z,
-        net,
-        tables,
-        k,
-        target,
-        work,
-        labels,
-        marks,
-        sizes,
-        nodes,
-        backs,
-        luts,
-    );
+    let phi = plan(z, net, tables, k, target, work, labels, rows, luts);
     if phi == 0 {
         return Settled {
             refusal: 12,

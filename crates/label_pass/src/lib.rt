@@ -12,7 +12,7 @@ ghost use Rattle.label_visit.specs.LabelVisits.{wiring, topsIn, Ready, Ceilings
 ghost use Rattle.label_pass.specs.Passes.{orderIn, Ordered, IfRose, GoesOn, QuietFrom, SweepTold, Progress};
 
 // The gate at place i of the order.
-fn nth(s: Extent, net: &[usize], i: usize) -> usize
+pub fn nth(s: Extent, net: &[usize], i: usize) -> usize
     requires { ⌜ (i < s .gates) × (s .gates ≤ length (orderIn s (now net))) ⌝ }
     ensures { λ r. ⌜ r ≡ getD (orderIn s (now (net .entry))) i 0 ⌝ }
 {

@@ -1,4 +1,4 @@
--- The least period by search: periods 1, 2, ... until one is reachable, or what is left by halves; the number of gates is reachable.
+-- The least period by search: periods 1, 2, ... until one is reachable, or what is left by halves; the longest line of gates without registers is reachable.
 use mathlib.Core.Path.{_≡_, refl, subst}
 use mathlib.Core.List.{List}
 use mathlib.Core.Bool.{Bool, true, false}
@@ -13,11 +13,12 @@ use Rattle.net_model.specs.Checks.{Passed}
 use Rattle.label_theory.specs.Labels.{Reachable}
 use Rattle.cover_theory.specs.Covers.{LeastPeriod}
 use Rattle.cover_theory.specs.Joined.{reachable-met, met-reachable, met-more}
-use Rattle.cover_theory.specs.Period.{gates-reach}
+use Rattle.cover_theory.specs.Period.{lines-reach}
 use Rattle.cut_circuit.specs.Circuit.{Circuit}
 use Rattle.cut_circuit.specs.declared.Extent.{Extent}
 use Rattle.signed.specs.Range.{labelIn}
 use Rattle.label_visit.specs.LabelVisits.{Suits, Ceilings}
+use Rattle.label_lines.specs.Lines.{LongestTold}
 use Rattle.label_sweep.specs.Sweeps.{Sized, Labelled}
 use Rattle.label_period.specs.PeriodSearch.{Either, NoneBelow, Halved, Period}
 
@@ -74,14 +75,14 @@ module _ {C : Circuit} {k : ℕ} {tops os oc : List ℕ} {n : ℕ} where
 
   -- ---- by halves
 
-  -- the number of gates is reachable
-  pub halved-first : {φ γ : ℕ} → γ ≡ C .gates → 1 ≤ φ → φ ≤ γ → NoneBelow C k tops os oc n φ → Halved C k tops os oc n φ γ
-  halved-first e one le f = record {
+  -- the longest line of gates without registers is reachable
+  pub halved-first : {φ γ : ℕ} → 1 ≤ φ → NoneBelow C k tops os oc n φ → LongestTold C φ γ → Halved C k tops os oc n φ γ
+  halved-first one f l = record {
     positive = one;
-    order = le;
-    most = omega arith;
+    order = l .least;
+    most = l .most;
     none = f;
-    reached = λ N S P o. gates-reach P _ (let h = S .holds .gates in omega arith);
+    reached = λ N S P o. let t = l .levels N (S .holds) (S .loopless) in lines-reach P (t .0) _ (t .1);
   }
 
   pub halved-next : {low high φ low′ high′ : ℕ} {ls : List ℤ} {b : Bool} → Halved C k tops os oc n low high → low ≤ φ → φ < high → Labelled C k φ tops os oc n ls b

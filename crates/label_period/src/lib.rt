@@ -1,5 +1,6 @@
-// The least period: small ones are asked from 1 up, larger ones by halves.
+// The least period: small ones are asked from 1 up, larger ones by halves, up to the longest line of gates without registers.
 use cut_circuit::Extent;
+use label_lines::longest_line;
 use label_sweep::reach;
 use label_visit::Aim;
 ghost use Prim.Native.Nat.{_≤_, _<_};
@@ -51,7 +52,7 @@ fn halve(
     ensures { λ r. ⌜ Halved (wiring s (now (net .entry))) k (topsIn s (now (net .entry)) 0) (outsIn s (now (net .entry))) (delaysIn s (now (net .entry)) n) n r r ⌝ }
 {
     let mut low = from;
-    let mut high = s.gates;
+    let mut high = longest_line(s, net, from);
     while low < high {
         let phi = low + (high - low) / 2;
         let a = Aim {

@@ -1,4 +1,3 @@
 pub mod Sweeps
 pub mod Sweeping
-pub mod Starting
-pub mod StartingLaws
+pub mod EndLaws

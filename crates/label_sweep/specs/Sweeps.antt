@@ -3,8 +3,9 @@ use mathlib.Core.Path.{_≡_}
 use mathlib.Core.List.{List}
 use mathlib.Core.Bool.{Bool, true, false}
 use Prim.Native.Nat.{ℕ, _+_, _*_, _^_, _≤_, _<_}
-use lib.IntN.{ℤ}
+use lib.IntN.{ℤ, pos}
 use lib.ListN.{length, getD, drop}
+use lib.Signed.{_≤ℤ_}
 use Rattle.net_model.specs.Net.{Net}
 use Rattle.net_model.specs.Arrays.{pinsIn}
 use Rattle.net_model.specs.PackedNet.{outsAt, delaysAt}
@@ -15,7 +16,7 @@ use Rattle.cut_circuit.specs.declared.Extent.{Extent}
 use Rattle.limits.specs.Limits.{mostK}
 use Rattle.label_visit.specs.LabelVisits.{Suits, Quiet, Bounds, Refuted, Fine}
 pub use Rattle.label_pass.specs.Passes.{orderIn, Ordered}
-use Rattle.label_pins.specs.PinHeights.{PinFits}
+use Rattle.label_pins.specs.PinHeights.{heightAt, PinFits}
 
 -- What a sweep's result r says. 0: nothing can change. 1: a label rose. 2: it would pass its ceiling.
 pub record Outcome (gates r o : ℕ) : Type 0 where
@@ -23,13 +24,6 @@ pub record Outcome (gates r o : ℕ) : Type 0 where
   pub none : o ≡ 0 → r ≡ 0
   pub rose : o ≡ 1 → (1 ≤ r) × (r ≤ gates)
   pub past : o ≡ 2 → gates < r
-
--- z from one place up to another, all else kept
-pub record Filled (ls ls′ : List ℤ) (from to : ℕ) (z : ℤ) : Type 0 where
-  pub size : length ls′ ≡ length ls
-  pub between : (u : ℕ) → from ≤ u → u < to → labelIn ls′ u ≡ z
-  pub before : (u : ℕ) → u < from → labelIn ls′ u ≡ labelIn ls u
-  pub behind : (u : ℕ) → to ≤ u → labelIn ls′ u ≡ labelIn ls u
 
 -- the outputs' sources and registers in a net's slice
 abbrev pub outsIn : Extent → List ℕ → List ℕ
@@ -44,6 +38,10 @@ pub record OutFits (os oc : List ℕ) (ls : List ℤ) (φ n : ℕ) : Type 0 wher
   pub sources : n ≤ length os
   pub counts : n ≤ length oc
   pub pin : (i : ℕ) → i < n → PinFits os oc ls φ i
+
+-- outputs met, as places of the arrays
+abbrev pub OutsMet : List ℕ → List ℕ → List ℤ → ℕ → ℕ → Type 0
+OutsMet os oc ls φ n = (i : ℕ) → i < n → heightAt os oc ls φ i ≤ℤ pos φ
 
 -- what the search for labels needs, whatever the labels hold
 pub record Sized (s : Extent) (ls : List ℤ) (os oc : List ℕ) (φ k n : ℕ) : Type 0 where

@@ -3,24 +3,23 @@ use cut_circuit::Extent;
 use label_climb::next_width;
 use label_climb::round;
 use label_pins::pin_height;
+use label_start::floors;
 use label_visit::Aim;
 use limits::PINS;
-use signed::minus;
 use signed::whole;
 ghost use mathlib.Core.Path.{_≡_};
 ghost use mathlib.Core.Bool.{true, false};
-ghost use Prim.Native.Nat.{_+_, _*_, _≤_, _<_};
-ghost use lib.IntN.{pos, _-ℤ_};
+ghost use Prim.Native.Nat.{_≤_};
+ghost use lib.IntN.{pos};
 ghost use lib.ListN.{length};
 ghost use lib.Signed.{_≤ℤ_, _<ℤ_};
 ghost use Rattle.net_model.specs.PackedNet.{packedRoom};
-ghost use Rattle.signed.specs.Range.{Small, room};
+ghost use Rattle.signed.specs.Range.{room};
 ghost use Rattle.cut_circuit.specs.Packed.{packedOf};
 ghost use Rattle.cut_question.specs.Separating.{AtRest};
 ghost use Rattle.label_visit.specs.LabelVisits.{wiring, topsIn, Ready, Ceilings};
 ghost use Rattle.label_pins.specs.PinHeights.{heightAt, PinFits};
-ghost use Rattle.label_sweep.specs.Sweeps.{orderIn, outsIn, delaysIn, Ordered, Outcome, SettleTold, Filled, OutFits, Sized, Labelled};
-ghost use Rattle.label_sweep.specs.Starting.{Started, OutsMet};
+ghost use Rattle.label_sweep.specs.Sweeps.{orderIn, outsIn, delaysIn, Ordered, Outcome, SettleTold, OutsMet, OutFits, Sized, Labelled};
 
 // What a sweep's result says: 0 where nothing can change, 1 where a label rose, 2 where one would pass its ceiling.
 fn outcome(gates: usize, r: usize) -> usize
@@ -75,35 +74,6 @@ fn sweep_all(
         w = next_width(w);
     }
     r
-}
-
-// Writes z from one place up to another.
-fn fill(labels: &mut [i64], from: usize, to: usize, z: i64)
-    requires { ⌜ (from ≤ to) × (to ≤ length (now labels)) ⌝ }
-    ensures { λ _. ⌜ Filled (now (labels .entry)) (now (labels .exit)) from to z ⌝ }
-{
-    let mut i = from;
-    while i < to {
-        labels[i] = z;
-        i += 1;
-    }
-}
-
-// 0 at the inputs, low at the gates.
-fn begin(labels: &mut [i64], inputs: usize, gates: usize, low: i64)
-    requires { ⌜ (length (now labels) ≡ inputs + gates) × Small low ⌝ }
-    ensures { λ _. ⌜ Started inputs gates (now (labels .exit)) low ⌝ }
-{
-    fill(labels, 0, inputs, 0);
-    fill(labels, inputs, inputs + gates, low);
-}
-
-// The floor of all labels: 1 − φ·m.
-fn floor(phi: usize, m: usize) -> i64
-    requires { ⌜ phi * m ≤ room ⌝ }
-    ensures { λ r. ⌜ r ≡ (pos 1 -ℤ pos (phi * m)) ⌝ }
-{
-    minus(1, phi * m)
 }
 
 // Whether the label at output i, less its registers, is above φ.
@@ -164,9 +134,7 @@ pub fn reach(
     ensures { λ _. ⌜ AtRest (packedOf s (now (net .entry)) (now (slots .exit))) (now (table .exit)) (now (list .exit)) (now (stack .exit)) (now (counts .exit)) (now (members .exit)) ⌝ }
     ensures { λ r. ⌜ Labelled (wiring s (now (net .entry))) (a .k) (a .phi) (topsIn s (now (net .entry)) (a .cap)) (outsIn s (now (net .entry))) (delaysIn s (now (net .entry)) (a .outputs)) (a .outputs) (now (labels .exit)) r ⌝ }
 {
-    let m = s.border / a.k;
-    let low = floor(a.phi, m);
-    begin(labels, s.inputs, s.gates, low);
+    floors(s, net, labels, a);
     let r = sweep_all(
         s,
         net,

@@ -1,4 +1,4 @@
--- The floor: a labelling gives gate v at least 1 − φ times the registers on v's input path, so at least 1 − φ·M.
+-- The floor: a labelling gives gate v at least 1 − φ times the registers on v's input path, so at least 1 − φ·M. Floors a gate, pin by pin.
 use mathlib.Core.Path.{_≡_, refl, sym, subst, ap}
 use mathlib.Core.Logic.{_⊎_, inl, inr}
 use Prim.Native.Nat.{ℕ, suc, _+_, _*_, _≤_, _<_}
@@ -9,14 +9,15 @@ use lib.Signed.{_≤ℤ_}
 use Rattle.integers.specs.Parts.{ints, +-parts, sub-parts, scale}
 use Rattle.integers.specs.Height.{height, height-parts}
 use Rattle.sequences.specs.Member.{_∈_}
-use Rattle.net_model.specs.Net.{Net, Pin, IsGate, IsInput, IsNode}
+use Rattle.net_model.specs.Net.{Net, Pin, IsGate, IsInput, IsNode, pins}
 use Rattle.net_model.specs.Checks.{Sound}
 use Rattle.net_model.specs.Copies.{Copy, copy}
 use Rattle.cone_theory.specs.Basics.{member?}
 use Rattle.cone_theory.specs.Ranks.{Ranked, OnPath, starts, follows, behind, behind-feeds, path-end}
 use Rattle.cone_theory.specs.Reach.{reachOf, onPath-count}
-use Rattle.label_theory.specs.Labels.{Low, Mode, LowCutIn, LabellingIn}
-use Rattle.label_theory.specs.Lower.{input-or-gate}
+use Rattle.label_theory.specs.Labels.{Low, Mode, plain, LowCutIn, LabellingIn}
+use Rattle.label_theory.specs.Lower.{Under, input-or-gate}
+use Rattle.label_theory.specs.Pins.{pin-lemma, pin-input}
 
 -- an input is no gate
 not-both : {N : Net} {u : ℕ} → IsInput N u → IsGate N u → ⊥
@@ -70,3 +71,27 @@ module _ {M : Mode} {N : Net} (k φ : ℕ) (sound : Sound N) (R : Ranked N) (lab
       let a : height φ (pos 0) (0 + t .1) ≤ℤ lab v = path-floor (t .3) (t .2) v g 0 ((l .gates v g) .isCone .root) in
       let b = mul-le-mul-left φ (onPath-count R (t .3)) in
       omega (arith, ints, height-parts φ (pos 0) (0 + t .1), height-parts φ (pos 0) (reachOf N))
+
+-- ---- floors a gate: numbers no higher than any labelling's at gates, 1 at inputs
+pub record FloorsIn (M : Mode) (N : Net) (k φ : ℕ) (m : ℕ → ℤ) : Type 0 where
+  pub inputs : (v : ℕ) → IsInput N v → m v ≡ pos 1
+  pub below : (lab : ℕ → ℤ) → LabellingIn M N k φ lab → Under N m lab
+
+abbrev pub Floors : Net → ℕ → ℕ → (ℕ → ℤ) → Type 0
+Floors = FloorsIn plain
+
+-- **A floor less φ for each register of a pin is a floor of the gate that reads it**; an input's is 1.
+pub floor-pin : {M : Mode} {N : Net} {k φ : ℕ} (sound : Sound N) {m : ℕ → ℤ} → FloorsIn M N k φ m → (v : ℕ) (q : Pin) → IsGate N v → q ∈ pins N v → (lab : ℕ → ℤ) → LabellingIn M N k φ lab
+    → (m (q .src) -ℤ pos (φ * q .count)) ≤ℤ lab v
+floor-pin {M} {N} {k} {φ} sound {m} F v q g i lab l = go (input-or-gate N (q .src) (sound .pin v g q i))
+  where
+    go : IsInput N (q .src) ⊎ IsGate N (q .src) → (m (q .src) -ℤ pos (φ * q .count)) ≤ℤ lab v
+    go (inl h) =
+        let a = pin-input N k φ sound lab v q l g i h in
+        let b = F .inputs (q .src) h in
+        omega (arith, ints, height-parts φ (pos 0) (q .count), sub-parts (m (q .src)) (pos (φ * q .count)))
+    go (inr h) =
+        let B = pin-lemma N k φ sound lab v q l g i h in
+        let a = B .at in
+        let b = F .below (B .label) (B .labelling) (q .src) h in
+        omega (arith, ints, +-parts (lab v) (pos (φ * q .count)), sub-parts (m (q .src)) (pos (φ * q .count)))

@@ -36,7 +36,7 @@ place-of {C} h v i = let a = h .inputs in let b = h .gates in let l = i .low in 
 pin-of : {C : Circuit} {N : Net} → Holds C N → (g : ℕ) → g < C .gates → (p : Pin) → p ∈ pins N (C .inputs + g) → (j : ℕ) × (j < getD (C .pins) g 0) × (p ≡ pinAt (C .sources) (C .counts) (stride * g + j))
 pin-of {C} h g l p m = pinsIn-in (C .sources) (C .counts) (stride * g) (getD (C .pins) g 0) p (subst (λ (q : List Pin). p ∈ q) (h .lists g l) m)
 
-is-pin : {C : Circuit} {N : Net} → Holds C N → (g j : ℕ) → g < C .gates → j < getD (C .pins) g 0 → pinAt (C .sources) (C .counts) (stride * g + j) ∈ pins N (C .inputs + g)
+pub is-pin : {C : Circuit} {N : Net} → Holds C N → (g j : ℕ) → g < C .gates → j < getD (C .pins) g 0 → pinAt (C .sources) (C .counts) (stride * g + j) ∈ pins N (C .inputs + g)
 is-pin {C} h g j l k′ = rw (h .lists g l) (in-pinsIn (C .sources) (C .counts) (stride * g) (getD (C .pins) g 0) j k′)
 
 -- the pins reach p

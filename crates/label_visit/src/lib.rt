@@ -28,7 +28,7 @@ pub struct Aim {
 }
 
 // Raises a label to p: 1 if it was lower.
-fn raise(labels: &mut [i64], v: usize, p: i64) -> usize
+pub fn raise(labels: &mut [i64], v: usize, p: i64) -> usize
     requires { ⌜ (v < length (now labels)) × Small (labelIn (now labels) v) × (labelIn (now labels) v ≤ℤ p) ⌝ }
     ensures { λ r. ⌜ Raised (now (labels .entry)) (now (labels .exit)) v p r ⌝ }
 {
@@ -126,7 +126,7 @@ fn try_label(
 }
 
 // The largest of gate g's pins.
-fn highest(s: Extent, net: &[usize], labels: &[i64], phi: usize, g: usize) -> i64
+pub fn highest(s: Extent, net: &[usize], labels: &[i64], phi: usize, g: usize) -> i64
     requires { ⌜ PinsFit s (now net) (now labels) phi g ⌝ }
     ensures { λ r. ⌜ PinMax (wiring s (now (net .entry))) (now (labels .entry)) phi g r ⌝ }
 {
@@ -178,7 +178,7 @@ pub fn visit(
 }
 
 // Whether a label is higher than p.
-fn higher(labels: &[i64], v: usize, p: i64) -> bool
+pub fn higher(labels: &[i64], v: usize, p: i64) -> bool
     requires { ⌜ (v < length (now labels)) × Small (labelIn (now labels) v) ⌝ }
     ensures yes { λ r. ⌜ (r ≡ true → p <ℤ labelIn (now (labels .entry)) v) ⌝ }
     ensures no { λ r. ⌜ (r ≡ false → labelIn (now (labels .entry)) v ≤ℤ p) ⌝ }

@@ -22,7 +22,7 @@ use Rattle.run_theory.specs.Rules.{Causal, solves, solved-once}
 use Rattle.run_theory.specs.LevelOf.{levelOf, level-rises, level-bound}
 
 -- gates whose pins have the same values have the same value
-pins-same : (N : Net) (section section′ value value′ : ℕ → ℕ → Bool) (v t t′ : ℕ) → ((p : Pin) → p ∈ pins N v → pinFrom section value t p ≡ pinFrom section′ value′ t′ p)
+pub pins-same : (N : Net) (section section′ value value′ : ℕ → ℕ → Bool) (v t t′ : ℕ) → ((p : Pin) → p ∈ pins N v → pinFrom section value t p ≡ pinFrom section′ value′ t′ p)
     → gateFrom N section value v t ≡ gateFrom N section′ value′ v t′
 pins-same N section section′ value value′ v t t′ h =
     ap (apply ((gate N v) .table)) (map-same (pinFrom section value t) (pinFrom section′ value′ t′) (pins N v) h)
@@ -76,14 +76,14 @@ module _ {N : Net} (sound : Sound N) where
 
   module _ (loopless : Loopless N) where
     -- step, then registerless depth
-    abbrev measure : ℕ → ℕ → ℕ
+    abbrev pub measure : ℕ → ℕ → ℕ
     measure v t = t * suc (length (N .gates)) + levelOf N v
 
     measure-high : (v t : ℕ) → measure v t < suc t * suc (length (N .gates))
     measure-high v t = omega (arith, suc-mul t (suc (length (N .gates))), level-bound N v)
 
     -- what a pin reads has a smaller measure
-    earlier : (v s t : ℕ) → IsGate N v → (p : Pin) → p ∈ pins N v → s + p .count ≡ t → measure (p .src) s < measure v t
+    pub earlier : (v s t : ℕ) → IsGate N v → (p : Pin) → p ∈ pins N v → s + p .count ≡ t → measure (p .src) s < measure v t
     earlier v s t g p m e = go (p .count) refl
       where
         go : (c : ℕ) → p .count ≡ c → measure (p .src) s < measure v t

@@ -1,6 +1,7 @@
-// The listing's text of a cover kept in arrays.
+// The listing's text of the cover kept.
 use cone_words::low;
 use cover_registers::count_registers;
+use cover_writer::CoverHead;
 use cover_writer::count_luts;
 use limits::PINS;
 use signed::lag_of;
@@ -12,7 +13,7 @@ use text_digits::put_word;
 ghost use Prim.Native.Nat.{_+_, _*_, _-_, _≤_};
 ghost use lib.ListN.{length};
 ghost use Rattle.net_model.specs.Arrays.{copiesFrom};
-ghost use Rattle.cover_records.specs.Kept.{kept};
+ghost use Rattle.cover_records.specs.Rows.{keptIn, rowRoom};
 ghost use Rattle.cover_records.specs.Listing.{leafText};
 ghost use Rattle.signed.specs.Range.{Small};
 ghost use Rattle.limits.specs.Limits.{mostPins};
@@ -76,82 +77,50 @@ fn put_back(
 
 // The line of gate g, where it has a LUT, with the short form of its table.
 fn put_gate(
-    inputs: usize,
-    gates: usize,
-    period: usize,
+    s: CoverHead,
     labels: &[i64],
-    marks: &[usize],
-    sizes: &[usize],
-    nodes: &[usize],
-    backs: &[usize],
+    rows: &[usize],
     tables: &[u64],
     g: usize,
     at: usize,
     out: &mut [u8],
 ) -> usize
-    requires { ⌜ GateAsked (kept inputs gates period (now labels) (now marks) (now sizes) (now nodes) (now backs) (now tables)) g at (now out) ⌝ }
-    ensures { λ r. ⌜ Put 361 at (lineAt (kept inputs gates period (now (labels .entry)) (now (marks .entry)) (now (sizes .entry)) (now (nodes .entry)) (now (backs .entry)) (now (tables .entry))) g) (now (out .entry)) (now (out .exit)) r ⌝ }
+    requires { ⌜ GateAsked (keptIn (s .inputs) (s .gates) (s .period) (now labels) (now rows) (now tables)) g at (now out) ⌝ }
+    requires { ⌜ rowRoom (s .gates) ≤ length (now rows) ⌝ }
+    ensures { λ r. ⌜ Put 361 at (lineAt (keptIn (s .inputs) (s .gates) (s .period) (now (labels .entry)) (now (rows .entry)) (now (tables .entry))) g) (now (out .entry)) (now (out .exit)) r ⌝ }
 {
-    if marks[g] == 0 {
+    if rows[g] == 0 {
         return at;
     }
-    let root = inputs + g;
-    let lag = lag_of(labels[root], period);
-    let a = put_front(root, labels[root], lag, at, out);
-    let n = sizes[g];
+    let root = s.inputs + g;
+    let lag = lag_of(labels[root], s.period);
+    let c = put_front(root, labels[root], lag, at, out);
+    let n = rows[s.gates + g];
     let table = low(tables[g], n);
-    put_back(n, table, nodes, backs, PINS * g, a, out)
+    let a = 2 * s.gates;
+    let b = (2 + PINS) * s.gates;
+    put_back(n, table, &rows[a..], &rows[b..], PINS * g, c, out)
 }
 
 // The lines of the gates from gate g on.
 fn put_lines(
-    inputs: usize,
-    gates: usize,
-    period: usize,
+    s: CoverHead,
     labels: &[i64],
-    marks: &[usize],
-    sizes: &[usize],
-    nodes: &[usize],
-    backs: &[usize],
+    rows: &[usize],
     tables: &[u64],
     g: usize,
     at: usize,
     out: &mut [u8],
 ) -> usize
-    requires { ⌜ GatesAsked (kept inputs gates period (now labels) (now marks) (now sizes) (now nodes) (now backs) (now tables)) g at (now out) ⌝ }
-    ensures { λ r. ⌜ Put (361 * (gates - g)) at (linesFrom (kept inputs gates period (now (labels .entry)) (now (marks .entry)) (now (sizes .entry)) (now (nodes .entry)) (now (backs .entry)) (now (tables .entry))) g) (now (out .entry)) (now (out .exit)) r ⌝ }
+    requires { ⌜ GatesAsked (keptIn (s .inputs) (s .gates) (s .period) (now labels) (now rows) (now tables)) g at (now out) ⌝ }
+    requires { ⌜ rowRoom (s .gates) ≤ length (now rows) ⌝ }
+    ensures { λ r. ⌜ Put (361 * (s .gates - g)) at (linesFrom (keptIn (s .inputs) (s .gates) (s .period) (now (labels .entry)) (now (rows .entry)) (now (tables .entry))) g) (now (out .entry)) (now (out .exit)) r ⌝ }
 {
-    if g == gates {
+    if g == s.gates {
         return at;
     }
-    let b = put_gate(
-        inputs,
-        gates,
-        period,
-        labels,
-        marks,
-        sizes,
-        nodes,
-        backs,
-        tables,
-        g,
-        at,
-        out,
-    );
-    put_lines(
-        inputs,
-        gates,
-        period,
-        labels,
-        marks,
-        sizes,
-        nodes,
-        backs,
-        tables,
-        g + 1,
-        b,
-        out,
-    )
+    let b = put_gate(s, labels, rows, tables, g, at, out);
+    put_lines(s, labels, rows, tables, g + 1, b, out)
 }
 
 // ---- the text
@@ -167,52 +136,23 @@ fn put_first(period: usize, count: usize, registers: usize, out: &mut [u8]) -> u
     put_byte(10, c, out)
 }
 
-// The text of the cover that the arrays keep, in front of the area; the bytes behind it are kept. The register count is for n outputs.
+// The text of the cover kept, in front of the area; the bytes behind it are kept. The register count is for n outputs.
 pub fn write_text(
-    inputs: usize,
-    gates: usize,
-    period: usize,
+    s: CoverHead,
     labels: &[i64],
-    marks: &[usize],
-    sizes: &[usize],
-    nodes: &[usize],
-    backs: &[usize],
+    rows: &[usize],
     tables: &[u64],
     outs: &[usize],
     delays: &[usize],
     n: usize,
     out: &mut [u8],
 ) -> usize
-    requires { ⌜ Listable (kept inputs gates period (now labels) (now marks) (now sizes) (now nodes) (now backs) (now tables)) (now outs) (now delays) n (now out) ⌝ }
-    ensures { λ r. ⌜ Lists (kept inputs gates period (now (labels .entry)) (now (marks .entry)) (now (sizes .entry)) (now (nodes .entry)) (now (backs .entry)) (now (tables .entry))) (now (outs .entry)) (now (delays .entry)) n (now (out .entry)) (now (out .exit)) r ⌝ }
+    requires { ⌜ Listable (keptIn (s .inputs) (s .gates) (s .period) (now labels) (now rows) (now tables)) (now outs) (now delays) n (now out) ⌝ }
+    requires { ⌜ rowRoom (s .gates) ≤ length (now rows) ⌝ }
+    ensures { λ r. ⌜ Lists (keptIn (s .inputs) (s .gates) (s .period) (now (labels .entry)) (now (rows .entry)) (now (tables .entry))) (now (outs .entry)) (now (delays .entry)) n (now (out .entry)) (now (out .exit)) r ⌝ }
 {
-    let count = count_luts(marks, gates);
-    let registers = count_registers(
-        inputs,
-        gates,
-        period,
-        labels,
-        marks,
-        sizes,
-        nodes,
-        backs,
-        outs,
-        delays,
-        n,
-    );
-    let a = put_first(period, count, registers, out);
-    put_lines(
-        inputs,
-        gates,
-        period,
-        labels,
-        marks,
-        sizes,
-        nodes,
-        backs,
-        tables,
-        0,
-        a,
-        out,
-    )
+    let count = count_luts(rows, s.gates);
+    let registers = count_registers(s, labels, rows, outs, delays, n);
+    let a = put_first(s.period, count, registers, out);
+    put_lines(s, labels, rows, tables, 0, a, out)
 }

@@ -11,25 +11,24 @@ shared-slice-read-if1 : tie.Need-shared-slice-read-if1
 shared-slice-read-if1 c = search needs
 
 returns : tie.Need-returns
-returns c = (
-  gate-none (c .before .before .before .before .before .before .before .before .before .before .before .args .g) 0 (c .if1 .taken),
-  c .before .before .before .before .before .before
-      .before .before .before .before .before .pre .1 .1,
-)
+returns c =
+    let start = c .before .before .before .before .before .before in (
+      gate-none (start .args .g) 0 (c .if1 .taken),
+      start .pre .1 .1 .1,
+    )
 
 try-row-requires : tie.Need-try-row-requires
 try-row-requires c κs =
-    let start = c .before .before .before .before .before .before .before .before .before .before .before .before in
+    let start = c .before .before .before .before .before .before .before in
     let p = start .pre .0 in
-    ((p .0 .wires, p .0 .atTables, gate-row (p .0) (start .args .g) (p .1) (c .before .if1 .left), p .1), start .pre .1)
+    ((p .0 .wires, p .0 .atTables, gate-row (p .0) (start .args .g) (p .1) (c .before .if1 .left), p .1), ((start .pre .1 .0 .0, p .1, start .pre .1 .0 .1), start .pre .1 .1))
 
 same-length : tie.Need-same-length
 same-length c = search needs
 
 returns-2 : tie.Need-returns-2
 returns-2 c = (
-  gate-lut (c .before .before .before .before .before .before .before .before .before .before .before .before .before .before .before .args .g) (c .before .before .try-row .ensures
-      .0),
+  gate-lut (c .before .before .before .before .before .before .before .before .before .before .args .g) (c .before .before .try-row .ensures .0),
   c .before .before .try-row .ensures .1,
 )
 

@@ -1,22 +1,49 @@
--- `cone_luts::try_row` meets its contract.
-use Prim.Native.Nat.{_*_}
+-- `cone_luts::try_row` meets its contract: the wiring and the leaves are parts of two slices.
 use native.Mathlib.Omega.{arith}
-use lib.ListN.{getD}
-use Rattle.net_model.specs.Arrays.{stride}
 use Rattle.sequences.specs.Behind.{length-behind}
-use Rattle.cone_luts.specs.LutLaws.{tried-row, rising-row}
+use Rattle.cone_luts.specs.LutLaws.{nodesFrom, backsFrom, leafCount, row-few, rising-row, tried-row, wires-part}
 use borrow.Author.Needs.{needs}
 use Rattle.cone_luts.proofs.try_row.Statement.{statement}
 use Rattle.cone_luts.proofs.try_row.Tie as tie
 
-mul-at : tie.Need-mul-at
-mul-at c = search needs
+mul-a : tie.Need-mul-a
+mul-a c = search needs
 
-mul-n : tie.Need-mul-n
-mul-n c = search needs
+add-b : tie.Need-add-b
+add-b c = search needs
 
-shared-slice-read-n : tie.Need-shared-slice-read-n
-shared-slice-read-n c = search needs
+mul-b : tie.Need-mul-b
+mul-b c = search needs
+
+mul-c : tie.Need-mul-c
+mul-c c = search needs
+
+mul-c-2 : tie.Need-mul-c-2
+mul-c-2 c = search needs
+
+add-c : tie.Need-add-c
+add-c c = search needs
+
+add-d : tie.Need-add-d
+add-d c = search needs
+
+mul-d : tie.Need-mul-d
+mul-d c = search needs
+
+mul-d-2 : tie.Need-mul-d-2
+mul-d-2 c = search needs
+
+add-d-2 : tie.Need-add-d-2
+add-d-2 c = search needs
+
+add-m : tie.Need-add-m
+add-m c = search needs
+
+mul-m : tie.Need-mul-m
+mul-m c = search needs
+
+shared-slice-read-m : tie.Need-shared-slice-read-m
+shared-slice-read-m c = search needs
 
 mul-try-lut : tie.Need-mul-try-lut
 mul-try-lut c = search needs
@@ -42,26 +69,47 @@ part-try-lut-start-2 c = search needs
 part-try-lut-end-2 : tie.Need-part-try-lut-end-2
 part-try-lut-end-2 c = search needs
 
+mul-try-lut-3 : tie.Need-mul-try-lut-3
+mul-try-lut-3 c = search needs
+
+sub-try-lut-3 : tie.Need-sub-try-lut-3
+sub-try-lut-3 c = search needs
+
+part-try-lut-start-3 : tie.Need-part-try-lut-start-3
+part-try-lut-start-3 c = search needs
+
+part-try-lut-end-3 : tie.Need-part-try-lut-end-3
+part-try-lut-end-3 c = search needs
+
+mul-try-lut-4 : tie.Need-mul-try-lut-4
+mul-try-lut-4 c = search needs
+
+sub-try-lut-4 : tie.Need-sub-try-lut-4
+sub-try-lut-4 c = search needs
+
+part-try-lut-start-4 : tie.Need-part-try-lut-start-4
+part-try-lut-start-4 c = search needs
+
+part-try-lut-end-4 : tie.Need-part-try-lut-end-4
+part-try-lut-end-4 c = search needs
+
 try-lut-requires : tie.Need-try-lut-requires
 try-lut-requires c κs =
-    let start = c .before .before .before .before .before .before .before .before .before .before .before .before in
-    let p = start .pre .0 in
+    let start = c .before .before .before .before .before .before .before .before .before .before in
     let a = start .args in
-    let r = p .2 in
-    let n = r .atNodes in
-    let b = r .atBacks in
-    let f = r .few in (
+    let p = start .pre .0 in
+    let q = start .pre .1 .0 in
+    let f = row-few (a .rows .now) (a .n) (a .i) (p .2) in (
       (
-        p .0,
+        wires-part (a .net .now) (p .0),
         p .1,
         f,
-        length-behind (a .nodes .now) (stride * a .i) (getD (a .sizes .now) (a .i) 0) (omega arith),
-        length-behind (a .backs .now) (stride * a .i)
-            (getD (a .sizes .now) (a .i) 0) (omega arith),
+        length-behind (a .rows .now) (nodesFrom (a .rows .now) (a .n) (a .i)) (leafCount (a .rows .now) (a .n) (a .i)) (omega (arith, f, q .1, q .2)),
+        length-behind (a .rows .now) (backsFrom (a .rows .now) (a .n) (a .i)) (leafCount (a .rows .now) (a .n) (a .i)) (omega (arith, f, q .1, q .2)),
         p .3,
-        rising-row (a .sizes .now) (a .nodes .now) (a .backs .now) (a .i) r,
+        rising-row (a .rows .now) (a .n) (a .i) (p .2),
       ),
-      start .pre .1,
+      start .pre .1 .1,
     )
 
 same-length : tie.Need-same-length
@@ -69,16 +117,26 @@ same-length c = search needs
 
 returns : tie.Need-returns
 returns c =
-    let a = c .before .before .before .before .before .before .before .before .before .before .before .before .before .before .before .args in
-    (tried-row (a .sizes .now) (a .nodes .now) (a .backs .now) (a .i) (c .before .before .try-lut .ensures .0), c .before .before .try-lut .ensures .1)
+    let a = c .before .before .before .before .before .before .before .before .before .before .before .before .before .args in
+    (tried-row (a .rows .now) (a .n) (a .i) (a .net .now) (c .before .before .try-lut .ensures .0), c .before .before .try-lut .ensures .1)
 
 pub try-row-spec : {M : Type 1} → statement M
 try-row-spec =
     tie.close
     (tie.spec
-    mul-at
-    mul-n
-    shared-slice-read-n
+    mul-a
+    add-b
+    mul-b
+    mul-c
+    mul-c-2
+    add-c
+    add-d
+    mul-d
+    mul-d-2
+    add-d-2
+    add-m
+    mul-m
+    shared-slice-read-m
     mul-try-lut
     sub-try-lut
     part-try-lut-start
@@ -87,6 +145,14 @@ try-row-spec =
     sub-try-lut-2
     part-try-lut-start-2
     part-try-lut-end-2
+    mul-try-lut-3
+    sub-try-lut-3
+    part-try-lut-start-3
+    part-try-lut-end-3
+    mul-try-lut-4
+    sub-try-lut-4
+    part-try-lut-start-4
+    part-try-lut-end-4
     try-lut-requires
     same-length
     returns)

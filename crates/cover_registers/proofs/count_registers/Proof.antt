@@ -3,7 +3,7 @@ use borrow.Author.Needs.{needs}
 use mathlib.Core.Path.{_∙_}
 use mathlib.Core.List.{[]}
 use denote.Ref.{now}
-use Rattle.cover_records.specs.Kept.{kept}
+use Rattle.cover_records.specs.Rows.{keptIn}
 use Rattle.cover_tally.specs.TallyLaws.{took-all, took-then, took-same}
 use Rattle.cover_registers.specs.Counting.{tapsOf}
 use Rattle.cover_registers.specs.LagLaws.{all-taps, all-counted}
@@ -24,8 +24,8 @@ total-requires c κs = search needs
 
 returns : tie.Need-returns
 returns c =
-    let s = c .before .before .before .before .before .before .before .before .before .before .args in
-    let a = kept (s .inputs) (s .gates) (s .period) (now (s .labels)) (now (s .marks)) (now (s .sizes)) (now (s .nodes)) (now (s .backs)) [] in
+    let s = c .before .before .before .before .before .before .before .args in
+    let a = keptIn (s .s .inputs) (s .s .gates) (s .s .period) (now (s .labels)) (now (s .rows)) [] in
     let os = now (s .outs) in
     let oc = now (s .delays) in
     let all = took-same (all-taps a os oc (s .n)) (took-then (c .before .before .take-luts .ensures) (c .before .take-outputs .ensures)) in

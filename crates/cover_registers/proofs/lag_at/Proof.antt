@@ -40,15 +40,15 @@ module _ (a : Kept) (u : ℕ) (p : LagsHeld a) (l : a .inputs ≤ u) (h : u - a 
 
 returns : tie.Need-returns
 returns c =
-    let s = c .before .before .args in
-    let a = marking (s .inputs) (s .gates) (s .period) (now (s .labels)) (now (s .marks)) in
+    let s = c .before .before .before .args in
+    let a = marking (s .s .inputs) (s .s .gates) (s .s .period) (now (s .labels)) (now (s .rows)) in
     counted-none 128 (lag-input a (s .u) (c .if1 .taken))
 
 returns-2 : tie.Need-returns-2
 returns-2 c =
-    let s = c .before .before .before .args in
-    let a = marking (s .inputs) (s .gates) (s .period) (now (s .labels)) (now (s .marks)) in
-    let l = c .before .if1 .left in
+    let s = c .before .before .before .before .before .before .args in
+    let a = marking (s .s .inputs) (s .s .gates) (s .s .period) (now (s .labels)) (now (s .rows)) in
+    let l = c .before .before .before .if1 .left in
     let h = c .if2 .taken in
     counted-none 128 (lag-beyond a (s .u) (omega arith))
 
@@ -60,11 +60,11 @@ shared-slice-read-if3 c = search needs
 
 returns-3 : tie.Need-returns-3
 returns-3 c =
-    let start = c .before .before .before .before .before in
+    let start = c .before .before .before .before .before .before .before .before in
     let s = start .args in
-    let a = marking (s .inputs) (s .gates) (s .period) (now (s .labels)) (now (s .marks)) in
+    let a = marking (s .s .inputs) (s .s .gates) (s .s .period) (now (s .labels)) (now (s .rows)) in
     let q = start .pre in
-    counted-none 128 (unmarked a (s .u) q (c .before .before .before .if1 .left) (c .before .before .if2 .left) (c .if3 .taken))
+    counted-none 128 (unmarked a (s .u) q (c .before .before .before .before .before .if1 .left) (c .before .before .if2 .left) (c .if3 .taken))
 
 mul-lag-of : tie.Need-mul-lag-of
 mul-lag-of c = search needs
@@ -74,19 +74,19 @@ shared-slice-copy-out-lag-of c = search needs
 
 lag-of-requires : tie.Need-lag-of-requires
 lag-of-requires c κs =
-    let start = c .before .before .before .before .before .before in
+    let start = c .before .before .before .before .before .before .before .before .before in
     let s = start .args in
-    let a = marking (s .inputs) (s .gates) (s .period) (now (s .labels)) (now (s .marks)) in
+    let a = marking (s .s .inputs) (s .s .gates) (s .s .period) (now (s .labels)) (now (s .rows)) in
     let q = start .pre in
-    lag-asked (labelAt a (s .u)) (s .period) (small a (s .u) q (c .before .before .before .before .if1 .left) (c .before .before .before .if2 .left) (c .before .if3 .left)) (q .least) (q .period)
+    lag-asked (labelAt a (s .u)) (s .s .period) (small a (s .u) q (c .before .before .before .before .before .before .if1 .left) (c .before .before .before .if2 .left) (c .before .if3 .left)) (q .least) (q .period)
 
 returns-4 : tie.Need-returns-4
 returns-4 c =
-    let start = c .before .before .before .before .before .before .before in
+    let start = c .before .before .before .before .before .before .before .before .before .before in
     let s = start .args in
-    let a = marking (s .inputs) (s .gates) (s .period) (now (s .labels)) (now (s .marks)) in
+    let a = marking (s .s .inputs) (s .s .gates) (s .s .period) (now (s .labels)) (now (s .rows)) in
     let q = start .pre in
-    let low = c .before .before .before .before .before .if1 .left in
+    let low = c .before .before .before .before .before .before .before .if1 .left in
     let high = c .before .before .before .before .if2 .left in
     counted-back (omega arith) (counted a (s .u) q low high (c .before .before .if3 .left) (c .lag-of .result) (c .lag-of .ensures))
 

@@ -20,13 +20,13 @@ use Rattle.cover_registers.proofs.take_leaves.Statement.{statement}
 use Rattle.cover_registers.proofs.take_leaves.Tie as tie
 
 abbrev Inv-loop : tie.InvT-loop
-Inv-loop inputs gates period labels marks nodes backs root p n own t₀ j₀ t j =
+Inv-loop s labels rows nodes backs root p n own t₀ j₀ t j =
     (j ≤ n)
-    × Took (leafTaps (entriesIn (marking inputs gates period labels marks)) (lagIn (entriesIn (marking inputs gates period labels marks)) root) (copiesFrom nodes backs p j)) (t₀ .places)
+    × Took (leafTaps (entriesIn (marking (s .inputs) (s .gates) (s .period) labels rows)) (lagIn (entriesIn (marking (s .inputs) (s .gates) (s .period) labels rows)) root) (copiesFrom nodes backs p j)) (t₀ .places)
     (t .places)
 
 abbrev μ-loop : tie.MeasureT-loop
-μ-loop inputs gates period labels marks nodes backs root p n own t₀ j₀ t j = n - j
+μ-loop s labels rows nodes backs root p n own t₀ j₀ t j = n - j
 
 lag-at-requires : tie.Need-lag-at-requires Inv-loop μ-loop
 lag-at-requires c κs = c .before .before .before .pre .0
@@ -34,7 +34,7 @@ lag-at-requires c κs = c .before .before .before .pre .0
 loop-holds : tie.Need-loop-holds Inv-loop μ-loop
 loop-holds c =
     let s = c .before .before .before .before .args in
-    let es = entriesIn (marking (s .inputs) (s .gates) (s .period) (now (s .labels)) (now (s .marks))) in
+    let es = entriesIn (marking (s .s .inputs) (s .s .gates) (s .s .period) (now (s .labels)) (now (s .rows))) in
     (omega arith, took-same (sym (leaf-none es (lagIn es (s .root)) (now (s .nodes)) (now (s .backs)) (s .p))) (took-none (s .tally .places)))
 
 add-u : tie.Need-add-u Inv-loop μ-loop
@@ -71,7 +71,7 @@ loop-less c = search needs
 loop-again : tie.Need-loop-again Inv-loop μ-loop
 loop-again c =
     let s = c .before .before .before .before .before .before .before .before .before .args in
-    let es = entriesIn (marking (s .inputs) (s .gates) (s .period) (now (s .labels)) (now (s .marks))) in
+    let es = entriesIn (marking (s .s .inputs) (s .s .gates) (s .s .period) (now (s .labels)) (now (s .rows))) in
     let l = c .before .before .before .before .loop in
     let i = s .p + l .j in
     let e = told (omega arith) (c .before .before .before .before .before .lag-at .ensures) in (
@@ -84,7 +84,7 @@ loop-again c =
 returns : tie.Need-returns Inv-loop μ-loop
 returns c =
     let s = c .before .before .before .before .before .before .args in
-    let es = entriesIn (marking (s .inputs) (s .gates) (s .period) (now (s .labels)) (now (s .marks))) in
+    let es = entriesIn (marking (s .s .inputs) (s .s .gates) (s .s .period) (now (s .labels)) (now (s .rows))) in
     let l = c .before .loop in
     let e : l .j ≡ s .n = omega arith in
     took-same (ap (λ (m : ℕ). leafTaps es (lagIn es (s .root)) (copiesFrom (now (s .nodes)) (now (s .backs)) (s .p) m)) e) (l .inv .1)

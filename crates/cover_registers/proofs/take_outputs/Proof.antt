@@ -19,16 +19,16 @@ use Rattle.cover_registers.proofs.take_outputs.Statement.{statement}
 use Rattle.cover_registers.proofs.take_outputs.Tie as tie
 
 abbrev Inv-loop : tie.InvT-loop
-Inv-loop inputs gates period labels marks outs delays n t₀ o₀ t o =
-    (o ≤ n) × Took (outputTaps (entriesIn (marking inputs gates period labels marks)) (pinsIn outs delays 0 o)) (t₀ .places) (t .places)
+Inv-loop s labels rows outs delays n t₀ o₀ t o =
+    (o ≤ n) × Took (outputTaps (entriesIn (marking (s .inputs) (s .gates) (s .period) labels rows)) (pinsIn outs delays 0 o)) (t₀ .places) (t .places)
 
 abbrev μ-loop : tie.MeasureT-loop
-μ-loop inputs gates period labels marks outs delays n t₀ o₀ t o = n - o
+μ-loop s labels rows outs delays n t₀ o₀ t o = n - o
 
 loop-holds : tie.Need-loop-holds Inv-loop μ-loop
 loop-holds c =
     let s = c .before .before .before .args in
-    let es = entriesIn (marking (s .inputs) (s .gates) (s .period) (now (s .labels)) (now (s .marks))) in
+    let es = entriesIn (marking (s .s .inputs) (s .s .gates) (s .s .period) (now (s .labels)) (now (s .rows))) in
     (omega arith, took-same (sym (output-none es (now (s .outs)) (now (s .delays)))) (took-none (s .tally .places)))
 
 mul-u : tie.Need-mul-u Inv-loop μ-loop
@@ -62,14 +62,14 @@ loop-less c = search needs
 loop-again : tie.Need-loop-again Inv-loop μ-loop
 loop-again c =
     let s = c .before .before .before .before .before .before .before .before .args in
-    let es = entriesIn (marking (s .inputs) (s .gates) (s .period) (now (s .labels)) (now (s .marks))) in
+    let es = entriesIn (marking (s .s .inputs) (s .s .gates) (s .s .period) (now (s .labels)) (now (s .rows))) in
     let l = c .before .before .before .before .loop in
     (search needs, took-same (output-more es (now (s .outs)) (now (s .delays)) (l .o)) (took-then (l .inv .1) (c .take-reader .ensures)))
 
 returns : tie.Need-returns Inv-loop μ-loop
 returns c =
     let s = c .before .before .before .before .before .args in
-    let es = entriesIn (marking (s .inputs) (s .gates) (s .period) (now (s .labels)) (now (s .marks))) in
+    let es = entriesIn (marking (s .s .inputs) (s .s .gates) (s .s .period) (now (s .labels)) (now (s .rows))) in
     let l = c .before .loop in
     let e : l .o ≡ s .n = omega arith in
     took-same (ap (λ (m : ℕ). outputTaps es (pinsIn (now (s .outs)) (now (s .delays)) 0 m)) e) (l .inv .1)

@@ -33,7 +33,7 @@ returns c =
     let start = c .before .before .before .before .before in
     let s = start .args in
     let p = start .pre .1 in
-    let es = entriesIn (marking (s .inputs) (s .gates) (s .period) (now (s .labels)) (now (s .marks))) in
+    let es = entriesIn (marking (s .s .inputs) (s .s .gates) (s .s .period) (now (s .labels)) (now (s .rows))) in
     took-up (s .u) ((pos (s .d) +ℤ s .own) -ℤ lagIn es (s .u)) (c .before .counted .result)
     (moved-counted (s .d) (p .1) (c .before .before .before .lag-at .ensures) (c .before .before .moved .ensures) (p .0) (c .before .counted .result) (c .before .counted .ensures))
     (c .take .ensures)

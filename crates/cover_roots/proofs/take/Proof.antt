@@ -1,24 +1,47 @@
--- `cover_roots::take` meets its contract: the cut of g is written, and g is done.
+-- `cover_roots::take` meets its contract: the engine is asked at the gate's own label, and g is done.
+use mathlib.Core.Path.{refl}
+use Prim.Native.Nat.{_+_}
 use native.Mathlib.Omega.{arith}
+use denote.Ref.{now}
+use Rattle.signed.specs.RangeLaws.{back, small-fits}
+use Rattle.signed.specs.Range.{labelIn}
+use Rattle.cover_roots.specs.KeyCut.{asks-of, takes-of}
+use Rattle.cover_roots.specs.RootRoundsLaws.{cut-written}
 use borrow.Author.Needs.{needs}
 use Rattle.cover_roots.proofs.take.Statement.{statement}
 use Rattle.cover_roots.proofs.take.Tie as tie
-use Rattle.cover_roots.proofs.take.Reads as reads
-use Rattle.cover_roots.proofs.take.Lts as lts
-use Rattle.cover_roots.proofs.cut_of.Reads as cut-of-reads
-use Rattle.cover_roots.proofs.store.Reads as store-reads
 
-cut-of-requires : tie.Need-cut-of-requires
-cut-of-requires c κs = (c .before .before .before .before .before .before .before .before .before .before .before .before .before .before .before .before .before .before .before .pre .0, (c .before .before .before .before .before .before .before .before .before .before .before .before .before .before .before .before .before .before .before .pre .1 .0, c .before .before .before .before .before .before .before .before .before .before .before .before .before .before .before .before .before .before .before .pre .1 .1, c .before .before .before .before .before .before .before .before .before .before .before .before .before .before .before .before .before .before .before .pre .1 .2 .atNodes, c .before .before .before .before .before .before .before .before .before .before .before .before .before .before .before .before .before .before .before .pre .1 .2 .atBacks))
+add-v : tie.Need-add-v
+add-v c = search needs
 
-store-requires : tie.Need-store-requires
-store-requires c κs = (
-  c .before .before .before .before .before .before .before .before .before .before .before .before .before .before .before .before .before .before .before .before .before .before .before .before .before .before .before .before .before .before .before .before .before .before .before .before .before .before .before .pre .1 .0 .few,
-  c .before .before .before .before .before .before .before .before .before .before .before .before .before .before .before .before .before .before .before .before .before .before .before .before .before .before .before .before .before .before .before .before .before .before .before .before .before .before .before .pre .1 .1,
-  c .before .before .before .before .before .before .before .before .before .before .before .before .before .before .before .before .before .before .before .before .before .before .before .before .before .before .before .before .before .before .before .before .before .before .before .before .before .before .before .pre .1 .2 .atMarks,
-  c .before .before .before .before .before .before .before .before .before .before .before .before .before .before .before .before .before .before .before .before .before .before .before .before .before .before .before .before .before .before .before .before .before .before .before .before .before .before .before .pre .1 .2 .atSizes,
-  let e = c .before .before .before .before .before .before .before .before .before .before .before .before .before .before .before .before .before .before .before .cut-of .kept .1 .1 .1 .1 .1 .1 .1 .1 .1 .1 .1 .0 in omega (arith, e, c .before .before .before .before .before .before .before .before .before .before .before .before .before .before .before .before .before .before .before .before .before .before .before .before .before .before .before .before .before .before .before .before .before .before .before .before .before .before .before .pre .1 .2 .atNodes),
-)
+mul-h : tie.Need-mul-h
+mul-h c = search needs
+
+shared-slice-copy-out-h : tie.Need-shared-slice-copy-out-h
+shared-slice-copy-out-h c = search needs
+
+slice-aggregate-chosen : tie.Need-slice-aggregate-chosen
+slice-aggregate-chosen c = search needs
+
+slice-aggregate-chosen-2 : tie.Need-slice-aggregate-chosen-2
+slice-aggregate-chosen-2 c = search needs
+
+chosen-requires : tie.Need-chosen-requires
+chosen-requires c κs =
+    let start = c .before .before .before .before .before .before .before .before .before .before .before .before .before .before .before .before .before .before in
+    (start .pre .0, (asks-of (start .args .g) (start .pre .1 .0) (start .pre .1 .1), takes-of (start .pre .1 .0) refl refl))
+
+slice-aggregate-finish : tie.Need-slice-aggregate-finish
+slice-aggregate-finish c = search needs
+
+slice-aggregate-finish-2 : tie.Need-slice-aggregate-finish-2
+slice-aggregate-finish-2 c = search needs
+
+finish-requires : tie.Need-finish-requires
+finish-requires c κs =
+    let chosen = c .before .before .before .before .before .before .before .before .before .before .before .before .before .before .before .before .before .chosen in
+    let start = c .before .before .before .before .before .before .before .before .before .before .before .before .before .before .before .before .before .before .before .before .before .before .before .before .before .before .before .before .before .before .before .before .before .before .before .before in
+    (start .pre .1 .0 .few, start .pre .1 .1, start .pre .1 .2, omega (arith, start .pre .1 .0 .few, chosen .kept .1 .1 .1 .1 .1 .1 .1 .1 .0), omega (arith, start .pre .1 .0 .few, chosen .kept .1 .1 .1 .1 .1 .1 .1 .1 .1 .0))
 
 same-length : tie.Need-same-length
 same-length c = search needs
@@ -41,24 +64,35 @@ same-length-6 c = search needs
 same-length-7 : tie.Need-same-length-7
 same-length-7 c = search needs
 
-same-length-8 : tie.Need-same-length-8
-same-length-8 c = search needs
-
-same-length-9 : tie.Need-same-length-9
-same-length-9 c = search needs
-
-same-length-10 : tie.Need-same-length-10
-same-length-10 c = search needs
-
 returns : tie.Need-returns
-returns c = (c .before .before .before .before .before .before .before .before .before .before .before .before .before .before .before .before .before .before .before .before .before .before .before .before .cut-of .ensures .0, record { count = c .before .before .before .before .before .before .before .before .before .before .before .before .before .before .before .before .before .before .before .before .before .before .before .before .cut-of .result; cut = c .before .before .before .before .before .before .before .before .before .before .before .before .before .before .before .before .before .before .before .before .before .before .before .before .cut-of .ensures .1; stored = c .before .before .before .before .store .ensures })
+returns c =
+    let chosen = c .before .before .before .before .before .before .before .before .before .before .before .before .before .before .before .before .before .before .before .before .chosen in
+    let start = c .before .before .before .before .before .before .before .before .before .before .before .before .before .before .before .before .before .before .before .before .before .before .before .before .before .before .before .before .before .before .before .before .before .before .before .before .before .before .before in
+    let a = start .args in
+    let v = a .s .inputs + a .g in (
+      chosen .ensures .0,
+      record {
+        count = chosen .result;
+        nodes = chosen .last .1 .1 .1 .1 .1 .1 .1 .1 .0;
+        backs = chosen .last .1 .1 .1 .1 .1 .1 .1 .1 .1 .0;
+        cut = cut-written (a .g) (start .pre .1 .1) (chosen .ensures .1 .0) (chosen .ensures .1 .1) (back (labelIn (now (a .labels)) v) (small-fits (labelIn (now (a .labels)) v) (start .pre .1 .0 .small v)));
+        stored = c .before .before .finish .ensures;
+      },
+    )
 
 pub take-spec : {M : Type 1} → statement M
 take-spec =
     tie.close
     (tie.spec
-    cut-of-requires
-    store-requires
+    add-v
+    mul-h
+    shared-slice-copy-out-h
+    slice-aggregate-chosen
+    slice-aggregate-chosen-2
+    chosen-requires
+    slice-aggregate-finish
+    slice-aggregate-finish-2
+    finish-requires
     same-length
     same-length-2
     same-length-3
@@ -66,7 +100,4 @@ take-spec =
     same-length-5
     same-length-6
     same-length-7
-    same-length-8
-    same-length-9
-    same-length-10
     returns)

@@ -8,7 +8,8 @@ use native.Mathlib.Omega.{arith}
 use lib.ListN.{length, length-append}
 use denote.Ref.{now}
 use Rattle.cover_records.specs.CoverBytes.{allLutBytes}
-use Rattle.cover_records.specs.Kept.{Kept, kept, entriesIn}
+use Rattle.cover_records.specs.Kept.{Kept, entriesIn}
+use Rattle.cover_records.specs.Rows.{keptIn}
 use Rattle.cover_writer.specs.Writing.{Writable, marked}
 use Rattle.cover_writer.specs.BytesBehind.{wrote-behind, wrote-within, wrote-fits, room-behind}
 use Rattle.cover_writer.specs.CoverBytesLaws.{cover-bytes, marked-le}
@@ -28,31 +29,28 @@ count-luts-requires c κs = search needs
 
 write-front-requires : tie.Need-write-front-requires
 write-front-requires c κs =
-    let start = c .before .before .before .before .before .before .before .before in
-    let p = start .pre in
+    let start = c .before .before .before .before .before in
+    let p = start .pre .0 in
     let h = p .arrays in
     let e = c .before .count-luts .ensures in
-    let l = marked-le (now (start .args .marks)) (start .args .gates) in (
+    let l = marked-le (now (start .args .rows)) (start .args .s .gates) in (
       (h .period, omega arith),
-      two (kept (start .args .inputs) (start .args .gates) (start .args .period) (now (start .args .labels)) (now (start .args .marks))
-          (now (start .args .sizes)) (now (start .args .nodes)) (now (start .args .backs)) (now (start .args .tables))) (c .before .count-luts .result) p
+      two (keptIn (start .args .s .inputs) (start .args .s .gates) (start .args .s .period) (now (start .args .labels)) (now (start .args .rows)) (now (start .args .tables))) (c .before .count-luts .result) p
           (c .before .count-luts .ensures),
     )
 
 sub-write-luts : tie.Need-sub-write-luts
 sub-write-luts c =
     let count-luts = c .before .before .before .before .count-luts in
-    let start = c .before .before .before .before .before .before .before .before .before .before .before in
-    wrote-fits (two (kept (start .args .inputs) (start .args .gates) (start .args .period) (now (start .args .labels)) (now (start .args .marks)) (now (start .args .sizes))
-    (now (start .args .nodes)) (now (start .args .backs)) (now (start .args .tables))) (count-luts .result) (start .pre) (count-luts .ensures))
+    let start = c .before .before .before .before .before .before .before .before in
+    wrote-fits (two (keptIn (start .args .s .inputs) (start .args .s .gates) (start .args .s .period) (now (start .args .labels)) (now (start .args .rows)) (now (start .args .tables))) (count-luts .result) (start .pre .0) (count-luts .ensures))
     (c .before .before .write-front .ensures)
 
 part-write-luts-start : tie.Need-part-write-luts-start
 part-write-luts-start c =
     let count-luts = c .before .before .before .before .count-luts in
-    let start = c .before .before .before .before .before .before .before .before .before .before .before in
-    wrote-fits (two (kept (start .args .inputs) (start .args .gates) (start .args .period) (now (start .args .labels)) (now (start .args .marks)) (now (start .args .sizes))
-    (now (start .args .nodes)) (now (start .args .backs)) (now (start .args .tables))) (count-luts .result) (start .pre) (count-luts .ensures))
+    let start = c .before .before .before .before .before .before .before .before in
+    wrote-fits (two (keptIn (start .args .s .inputs) (start .args .s .gates) (start .args .s .period) (now (start .args .labels)) (now (start .args .rows)) (now (start .args .tables))) (count-luts .result) (start .pre .0) (count-luts .ensures))
     (c .before .before .write-front .ensures)
 
 part-write-luts-end : tie.Need-part-write-luts-end
@@ -61,23 +59,23 @@ part-write-luts-end c = search needs
 write-luts-requires : tie.Need-write-luts-requires
 write-luts-requires c κs =
     let count-luts = c .before .before .before .before .before .count-luts in
-    let start = c .before .before .before .before .before .before .before .before .before .before .before .before in
-    let a = (kept (start .args .inputs) (start .args .gates) (start .args .period) (now (start .args .labels)) (now (start .args .marks)) (now (start .args .sizes))
-    (now (start .args .nodes)) (now (start .args .backs)) (now (start .args .tables))) in
-    let p = start .pre in
-    record {
-      arrays = p .arrays;
-      luts = p .luts;
-      room = room-behind (allLutBytes false (entriesIn a)) (c .before .before .before .write-front .ensures) (both a (count-luts .result) p (count-luts .ensures));
-    }
+    let start = c .before .before .before .before .before .before .before .before .before in
+    let a = (keptIn (start .args .s .inputs) (start .args .s .gates) (start .args .s .period) (now (start .args .labels)) (now (start .args .rows)) (now (start .args .tables))) in
+    let p = start .pre .0 in (
+      record {
+        arrays = p .arrays;
+        luts = p .luts;
+        room = room-behind (allLutBytes false (entriesIn a)) (c .before .before .before .write-front .ensures) (both a (count-luts .result) p (count-luts .ensures));
+      },
+      start .pre .1,
+    )
 
 add-result : tie.Need-add-result
 add-result c =
     let count-luts = c .before .before .before .before .before .before .before .before .count-luts in
-    let start = c .before .before .before .before .before .before .before .before .before .before .before .before .before .before .before in
+    let start = c .before .before .before .before .before .before .before .before .before .before .before .before in
     let h = wrote-within (c .before .before .before .before .before .before .write-front .ensures) (c .before .before .write-luts .ensures)
-    (both (kept (start .args .inputs) (start .args .gates) (start .args .period) (now (start .args .labels)) (now (start .args .marks)) (now (start .args .sizes))
-    (now (start .args .nodes)) (now (start .args .backs)) (now (start .args .tables))) (count-luts .result) (start .pre) (count-luts .ensures)) in
+    (both (keptIn (start .args .s .inputs) (start .args .s .gates) (start .args .s .period) (now (start .args .labels)) (now (start .args .rows)) (now (start .args .tables))) (count-luts .result) (start .pre .0) (count-luts .ensures)) in
     record { fits = omega arith }
 
 same-length : tie.Need-same-length
@@ -86,10 +84,9 @@ same-length c = search needs
 returns : tie.Need-returns
 returns c =
     let count-luts = c .before .before .before .before .before .before .before .before .count-luts in
-    let start = c .before .before .before .before .before .before .before .before .before .before .before .before .before .before .before in
+    let start = c .before .before .before .before .before .before .before .before .before .before .before .before in
     let w = wrote-behind (c .before .before .before .before .before .before .write-front .ensures) (c .before .before .write-luts .ensures) in
-    rw (cover-bytes (kept (start .args .inputs) (start .args .gates) (start .args .period) (now (start .args .labels)) (now (start .args .marks)) (now (start .args .sizes))
-    (now (start .args .nodes)) (now (start .args .backs)) (now (start .args .tables))) (count-luts .result) (count-luts .ensures)) (w .count, w .area)
+    rw (cover-bytes (keptIn (start .args .s .inputs) (start .args .s .gates) (start .args .s .period) (now (start .args .labels)) (now (start .args .rows)) (now (start .args .tables))) (count-luts .result) (count-luts .ensures)) (w .count, w .area)
 
 pub write-cover-spec : {M : Type 1} → statement M
 write-cover-spec =

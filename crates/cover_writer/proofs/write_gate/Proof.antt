@@ -1,6 +1,7 @@
 -- `cover_writer::write_gate` meets its contract, by the mark.
 use borrow.Author.Needs.{needs}
 use mathlib.Core.Path.{_≡_, ap, _∙_}
+use mathlib.Core.Bool.{false}
 use mathlib.Core.List.{List}
 use Prim.Native.Nat.{ℕ, _≤_, _+_, _*_}
 use native.Mathlib.Omega.{arith}
@@ -11,10 +12,13 @@ use mir.Val.{toZ, ofZ}
 use denote.Ref.{now}
 use Rattle.integers.specs.Lag.{lag}
 use Rattle.net_model.specs.Arrays.{stride}
-use Rattle.cover_records.specs.Kept.{Kept, shortTable, kept}
+use Rattle.cover_records.specs.Kept.{Kept, shortTable}
+use Rattle.cover_records.specs.CoverBytes.{lutBytes}
+use Rattle.cover_records.specs.Rows.{keptIn}
+use Rattle.cover_records.specs.RowLaws.{size-at, row-lent, row-whole}
 use Rattle.signed.specs.Range.{Small, room}
 use Rattle.signed.specs.RangeLaws.{back, small-fits}
-use Rattle.cover_writer.specs.Writing.{LutAsked, GateAsked, LutHeld}
+use Rattle.cover_writer.specs.Writing.{LutAsked, lutOf, GateAsked, LutHeld, Wrote}
 use Rattle.cover_writer.specs.BytesBehind.{wrote-none}
 use Rattle.cover_writer.specs.LagBytesLaws.{lag-fits}
 use Rattle.cover_writer.specs.CoverBytesLaws.{at-none, at-some}
@@ -65,9 +69,8 @@ shared-slice-read-if1 c = search needs
 
 returns : tie.Need-returns
 returns c =
-    let start = c .before .before .before .before .before .before .before .before in
-    rw (at-none (kept (start .args .s .inputs) (start .args .s .gates) (start .args .s .period) (now (start .args .labels)) (now (start .args .marks)) (now (start .args .sizes))
-    (now (start .args .nodes)) (now (start .args .backs)) (now (start .args .tables))) (start .args .g) (c .if1 .taken)) (wrote-none (now (start .args .area)))
+    let a = c .before .before .before .before .before .args in
+    rw (at-none (keptIn (a .s .inputs) (a .s .gates) (a .s .period) (now (a .labels)) (now (a .rows)) (now (a .tables))) (a .g) (c .if1 .taken)) (wrote-none (now (a .area)))
 
 add-root : tie.Need-add-root
 add-root c = search needs
@@ -81,9 +84,12 @@ shared-slice-copy-out-lag-of c = search needs
 lag-of-requires : tie.Need-lag-of-requires
 unfolding label
 lag-of-requires c κs =
-    let start = c .before .before .before .before .before .before .before .before .before .before in
-    lag-asked (kept (start .args .s .inputs) (start .args .s .gates) (start .args .s .period) (now (start .args .labels)) (now (start .args .marks)) (now (start .args .sizes))
-    (now (start .args .nodes)) (now (start .args .backs)) (now (start .args .tables))) (start .args .g) (start .pre) (c .before .before .if1 .left)
+    let start = c .before .before .before .before .before .before .before in
+    let a = start .args in
+    lag-asked (keptIn (a .s .inputs) (a .s .gates) (a .s .period) (now (a .labels)) (now (a .rows)) (now (a .tables))) (a .g) (start .pre .0) (c .before .before .if1 .left)
+
+add-n : tie.Need-add-n
+add-n c = search needs
 
 mul-n : tie.Need-mul-n
 mul-n c = search needs
@@ -98,18 +104,60 @@ shared-slice-read-low : tie.Need-shared-slice-read-low
 shared-slice-read-low c = search needs
 
 low-requires : tie.Need-low-requires
-low-requires c κs = c .before .before .before .before .before .before .before .before .before .before .before .before .before .pre .luts .each (c .before .before .before .before .before .before .before .before .before .before .before .before .before .args .g) (c .before .before .before .before .before .before .before .before .before .before .before .before .before .pre .gate) (c .before .before .before .before .before .if1 .left) .few
+low-requires c κs =
+    let start = c .before .before .before .before .before .before .before .before .before .before .before in
+    let a = start .args in
+    let f = start .pre .0 .luts .each (a .g) (start .pre .0 .gate) (c .before .before .before .before .before .before .if1 .left) .few in
+    omega (arith, f, size-at (a .s .gates) (now (a .rows)) (a .g))
+
+mul-a : tie.Need-mul-a
+mul-a c = search needs
+
+add-b : tie.Need-add-b
+add-b c = search needs
+
+mul-b : tie.Need-mul-b
+mul-b c = search needs
 
 mul-write-lut : tie.Need-mul-write-lut
 mul-write-lut c = search needs
 
+sub-write-lut : tie.Need-sub-write-lut
+sub-write-lut c = search needs
+
+part-write-lut-start : tie.Need-part-write-lut-start
+part-write-lut-start c = search needs
+
+part-write-lut-end : tie.Need-part-write-lut-end
+part-write-lut-end c = search needs
+
+mul-write-lut-2 : tie.Need-mul-write-lut-2
+mul-write-lut-2 c = search needs
+
+sub-write-lut-2 : tie.Need-sub-write-lut-2
+sub-write-lut-2 c = search needs
+
+part-write-lut-start-2 : tie.Need-part-write-lut-start-2
+part-write-lut-start-2 c = search needs
+
+part-write-lut-end-2 : tie.Need-part-write-lut-end-2
+part-write-lut-end-2 c = search needs
+
+mul-write-lut-3 : tie.Need-mul-write-lut-3
+mul-write-lut-3 c = search needs
+
 write-lut-requires : tie.Need-write-lut-requires
 unfolding label
 write-lut-requires c κs =
-    let start = c .before .before .before .before .before .before .before .before .before .before .before .before .before .before .before in
-    let a = (kept (start .args .s .inputs) (start .args .s .gates) (start .args .s .period) (now (start .args .labels)) (now (start .args .marks)) (now (start .args .sizes))
-    (now (start .args .nodes)) (now (start .args .backs)) (now (start .args .tables))) in
-    rw (c .before .low .ensures, lagged a (start .args .g) (start .pre) (c .before .before .before .before .before .before .before .if1 .left) (c .before .before .before .before .lag-of .result) (c .before .before .before .before .lag-of .ensures)) (lut-asked a (start .args .g) (start .pre) (c .before .before .before .before .before .before .before .if1 .left))
+    let lag-of = c .before .before .before .before .before .before .before .before .before .lag-of in
+    let if1 = c .before .before .before .before .before .before .before .before .before .before .before .before .if1 in
+    let start = c .before .before .before .before .before .before .before .before .before .before .before .before .before .before .before .before .before in
+    let a = start .args in
+    let k = (keptIn (a .s .inputs) (a .s .gates) (a .s .period) (now (a .labels)) (now (a .rows)) (now (a .tables))) in
+    let v = lag (a .s .period) (getD (now (a .labels)) (a .s .inputs + a .g) (pos 0)) in
+    rw (c .before .before .before .before .before .low .ensures, lagged k (a .g) (start .pre .0) (if1 .left) (lag-of .result) (lag-of .ensures))
+    (row-lent (a .s .gates) (now (a .rows)) (λ (no ba : List ℕ) (n : ℕ). LutAsked (a .s .inputs + a .g) no ba (stride * a .g) n v (shortTable n (getD (now (a .tables)) (a .g) 0)) (now (a .area))) (a .g)
+    (lut-asked k (a .g) (start .pre .0) (if1 .left)))
 
 same-length : tie.Need-same-length
 same-length c = search needs
@@ -117,10 +165,15 @@ same-length c = search needs
 returns-2 : tie.Need-returns-2
 unfolding label
 returns-2 c =
-    let start = c .before .before .before .before .before .before .before .before .before .before .before .before .before .before .before .before .before .before in
-    let a = (kept (start .args .s .inputs) (start .args .s .gates) (start .args .s .period) (now (start .args .labels)) (now (start .args .marks)) (now (start .args .sizes))
-    (now (start .args .nodes)) (now (start .args .backs)) (now (start .args .tables))) in
-    rw (at-some a (start .args .g) (c .before .before .before .before .before .before .before .before .before .before .if1 .left)) (rw (c .before .before .before .before .low .ensures, lagged a (start .args .g) (start .pre) (c .before .before .before .before .before .before .before .before .before .before .if1 .left) (c .before .before .before .before .before .before .before .lag-of .result) (c .before .before .before .before .before .before .before .lag-of .ensures)) at (c .before .before .write-lut .ensures))
+    let lag-of = c .before .before .before .before .before .before .before .before .before .before .before .before .lag-of in
+    let if1 = c .before .before .before .before .before .before .before .before .before .before .before .before .before .before .before .if1 in
+    let start = c .before .before .before .before .before .before .before .before .before .before .before .before .before .before .before .before .before .before .before .before in
+    let a = start .args in
+    let k = (keptIn (a .s .inputs) (a .s .gates) (a .s .period) (now (a .labels)) (now (a .rows)) (now (a .tables))) in
+    let v = lag (a .s .period) (getD (now (a .labels)) (a .s .inputs + a .g) (pos 0)) in
+    rw (at-some k (a .g) (if1 .left))
+    (row-whole (a .s .gates) (now (a .rows)) (λ (no ba : List ℕ) (n : ℕ). Wrote (lutBytes false (lutOf (a .s .inputs + a .g) no ba (stride * a .g) n v (shortTable n (getD (now (a .tables)) (a .g) 0)))) (now (a .area)) (c .before .before .write-lut .last .1 .1 .1 .1 .1 .1 .1 .0) (c .before .before .write-lut .result)) (a .g)
+    (rw (c .before .before .before .before .before .before .before .before .low .ensures, lagged k (a .g) (start .pre .0) (if1 .left) (lag-of .result) (lag-of .ensures)) at (c .before .before .write-lut .ensures)))
 
 pub write-gate-spec : {M : Type 1} → statement M
 write-gate-spec =
@@ -133,12 +186,24 @@ write-gate-spec =
     mul-lag-of
     shared-slice-copy-out-lag-of
     lag-of-requires
+    add-n
     mul-n
     shared-slice-read-n
     mul-low
     shared-slice-read-low
     low-requires
+    mul-a
+    add-b
+    mul-b
     mul-write-lut
+    sub-write-lut
+    part-write-lut-start
+    part-write-lut-end
+    mul-write-lut-2
+    sub-write-lut-2
+    part-write-lut-start-2
+    part-write-lut-end-2
+    mul-write-lut-3
     write-lut-requires
     same-length
     returns-2)

@@ -9,7 +9,6 @@ use Rattle.limits.specs.Limits.{mostNodes}
 use Rattle.label_period.specs.PeriodSearchLaws.{sized-less, ceilings-less}
 use Rattle.job_plan.specs.Engines.{engine-rest}
 use Rattle.job_plan.specs.FoundLaws.{found-least}
-use Rattle.job_plan.specs.Lent.{period-lent, found-whole}
 use Rattle.job_least.specs.AskedLaws.{asked-labels, period-told}
 use borrow.Author.Needs.{needs}
 use Rattle.job_least.proofs.least_in.Statement.{statement}
@@ -29,8 +28,9 @@ slice-relend-prefix-least-period c = search needs
 
 slice-aggregate-least-period-2 : tie.Need-slice-aggregate-least-period-2
 slice-aggregate-least-period-2 c =
-    let e = c .before .before .before .before .before .before .pre .engine in
-    let a = c .before .before .before .before .before .before .args in
+    let start = c .before .before .before .before .before .before in
+    let e = start .pre .engine in
+    let a = start .args in
     let h : (a .s .inputs + a .s .gates) * a .s .width ≤ length (a .table .now) = omega (arith, e .size, e .fits) in
     sym (length-take-le ((a .s .inputs + a .s .gates) * a .s .width) (a .table .now) h)
 
@@ -51,18 +51,20 @@ array-borrow-prefix-labels c = search needs
 
 slice-aggregate-least-period-7 : tie.Need-slice-aggregate-least-period-7
 slice-aggregate-least-period-7 c =
-    let e = c .before .before .before .before .before .before .before .before .before .before .before .pre .engine in
-    let a = c .before .before .before .before .before .before .before .before .before .before .before .args in
+    let start = c .before .before .before .before .before .before .before .before .before .before .before in
+    let e = start .pre .engine in
+    let a = start .args in
     let h : a .s .inputs + a .s .gates ≤ length (replicate mostNodes (pos 0)) = omega (arith, e .wires .inputs, e .wires .gates) in
     sym (length-take-le (a .s .inputs + a .s .gates) (replicate mostNodes (pos 0)) h)
 
 least-period-requires : tie.Need-least-period-requires
 least-period-requires c κs =
-    let e = c .before .before .before .before .before .before .before .before .before .before .before .pre .engine in
-    let a = c .before .before .before .before .before .before .before .before .before .before .before .args in
+    let start = c .before .before .before .before .before .before .before .before .before .before .before in
+    let e = start .pre .engine in
+    let a = start .args in
     let h : a .s .inputs + a .s .gates ≤ length (replicate mostNodes (pos 0)) = omega (arith, e .wires .inputs, e .wires .gates) in
     let l = length-take-le (a .s .inputs + a .s .gates) (replicate mostNodes (pos 0)) h in
-    let p = period-lent (asked-labels (take (a .s .inputs + a .s .gates) (replicate mostNodes (pos 0))) (l ∙ sym (length-replicate (a .s .inputs + a .s .gates) (pos 0))) (e .period)) in
+    let p = asked-labels (take (a .s .inputs + a .s .gates) (replicate mostNodes (pos 0))) (l ∙ sym (length-replicate (a .s .inputs + a .s .gates) (pos 0))) (e .period) in
     (engine-rest e, (e .parts, (sized-less (a .s .gates) (p .few) refl (p .sized), p .ordered, ceilings-less (a .s .gates) (p .few) (p .ceilings), p .some)))
 
 same-length : tie.Need-same-length
@@ -72,7 +74,7 @@ returns : tie.Need-returns
 returns c =
     let e = c .before .before .before .before .before .before .before .before .before .before .before .before .before .before .before .before .before .before .before .before .pre .engine in
     let q = c .before .before .before .before .before .before .before .before .least-period .ensures .1 in
-    period-told (q .positive) (found-whole (found-least (e .period .few) refl q))
+    period-told (q .positive) (found-least (e .period .few) refl q)
 
 pub least-in-spec : {M : Type 1} → statement M
 least-in-spec =

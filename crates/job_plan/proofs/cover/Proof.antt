@@ -1,22 +1,15 @@
 -- `job_plan::cover` meets its contract: a period, its roots, their tables.
 use mathlib.Core.Path.{sym, _∙_}
-use mathlib.Core.List.{List, _++_}
-use Prim.Native.Nat.{ℕ, _+_, _*_, _≤_}
+use mathlib.Core.List.{_++_}
+use Prim.Native.Nat.{_+_, _*_, _≤_}
 use native.Mathlib.Omega.{arith}
 use lib.ListN.{length, drop}
 use lib.Seq.{length-take-le}
-use Rattle.cut_circuit.specs.Packed.{sourcesAt, countsAt}
-use Rattle.net_checks.specs.Parts.{two-parts, two-wholes}
-use Rattle.cone_luts.specs.Luts.{Tabulates, Tabulated}
 use Rattle.job_plan.specs.Engines.{engine-rest, engine-chooses, engine-tabulates, rest-part, clear-behind, length-behind}
-use Rattle.job_plan.specs.Lent.{period-lent, found-whole, chooses-lent, roots-whole}
 use Rattle.job_plan.specs.Covering.{told-none, told-cover}
 use borrow.Author.Needs.{needs}
 use Rattle.job_plan.proofs.cover.Statement.{statement}
 use Rattle.job_plan.proofs.cover.Tie as tie
-
-outs-at-requires : tie.Need-outs-at-requires
-outs-at-requires c κs = search needs
 
 add-end : tie.Need-add-end
 add-end c = search needs
@@ -32,8 +25,9 @@ slice-relend-prefix-find-period c = search needs
 
 slice-aggregate-find-period-2 : tie.Need-slice-aggregate-find-period-2
 slice-aggregate-find-period-2 c =
-    let e = c .before .before .before .before .before .before .before .before .before .before .before .before .before .pre .0 in
-    let a = c .before .before .before .before .before .before .before .before .before .before .before .before .before .args in
+    let start = c .before .before .before .before .before .before .before .before .before in
+    let e = start .pre .0 in
+    let a = start .args in
     let h : (a .s .inputs + a .s .gates) * a .s .width ≤ length (a .table .now) = omega (arith, e .size, e .fits) in
     sym (length-take-le ((a .s .inputs + a .s .gates) * a .s .width) (a .table .now) h)
 
@@ -51,8 +45,8 @@ slice-aggregate-find-period-6 c = search needs
 
 find-period-requires : tie.Need-find-period-requires
 find-period-requires c κs =
-    let e = c .before .before .before .before .before .before .before .before .before .before .before .before .before .before .before .before .before .before .pre .0 in
-    (engine-rest e, (e .parts, period-lent (e .period)))
+    let e = c .before .before .before .before .before .before .before .before .before .before .before .before .before .before .pre .0 in
+    (engine-rest e, (e .parts, e .period))
 
 same-length : tie.Need-same-length
 same-length c = search needs
@@ -61,32 +55,36 @@ same-length-2 : tie.Need-same-length-2
 same-length-2 c = search needs
 
 returns : tie.Need-returns
-returns c = told-none (found-whole (c .before .before .before .before .before .before .before .before .before .find-period .ensures .1)) (c .if1 .taken)
+returns c = told-none (c .before .before .before .before .before .before .before .before .before .find-period .ensures .1) (c .if1 .taken)
 
 slice-aggregate-choose : tie.Need-slice-aggregate-choose
 slice-aggregate-choose c = search needs
 
 slice-relend-prefix-choose : tie.Need-slice-relend-prefix-choose
 slice-relend-prefix-choose c =
-    let e = c .before .before .before .before .before .before .before .before .before .before .before .before .before .before .before .before .before .before .before .before .before .before .before .before .before .before .before .before .before .pre .0 in
-    let a = c .before .before .before .before .before .before .before .before .before .before .before .before .before .before .before .before .before .before .before .before .before .before .before .before .before .before .before .before .before .args in
+    let find-period = c .before .before .before .before .before .before .before .before .before .before .find-period in
+    let start = c .before .before .before .before .before .before .before .before .before .before .before .before .before .before .before .before .before .before .before .before .before .before .before .before .before in
+    let e = start .pre .0 in
+    let a = start .args in
     let t = a .table .now in
     let n = (a .s .inputs + a .s .gates) * a .s .width in
     let h : n ≤ length t = omega (arith, e .size, e .fits) in
-    let x = c .before .before .before .before .before .before .before .before .before .before .find-period .last .1 .1 .1 .0 in
-    let l = length-behind x t n h (c .before .before .before .before .before .before .before .before .before .before .find-period .kept .1 .1 .1 .0) in
+    let x = find-period .last .1 .1 .1 .0 in
+    let l = length-behind x t n h (find-period .kept .1 .1 .1 .0) in
     let k : n ≤ length (x ++ drop n t) = omega arith in
     k
 
 slice-aggregate-choose-2 : tie.Need-slice-aggregate-choose-2
 slice-aggregate-choose-2 c =
-    let e = c .before .before .before .before .before .before .before .before .before .before .before .before .before .before .before .before .before .before .before .before .before .before .before .before .before .before .before .before .before .before .pre .0 in
-    let a = c .before .before .before .before .before .before .before .before .before .before .before .before .before .before .before .before .before .before .before .before .before .before .before .before .before .before .before .before .before .before .args in
+    let find-period = c .before .before .before .before .before .before .before .before .before .before .before .find-period in
+    let start = c .before .before .before .before .before .before .before .before .before .before .before .before .before .before .before .before .before .before .before .before .before .before .before .before .before .before in
+    let e = start .pre .0 in
+    let a = start .args in
     let t = a .table .now in
     let n = (a .s .inputs + a .s .gates) * a .s .width in
     let h : n ≤ length t = omega (arith, e .size, e .fits) in
-    let x = c .before .before .before .before .before .before .before .before .before .before .before .find-period .last .1 .1 .1 .0 in
-    let l = length-behind x t n h (c .before .before .before .before .before .before .before .before .before .before .before .find-period .kept .1 .1 .1 .0) in
+    let x = find-period .last .1 .1 .1 .0 in
+    let l = length-behind x t n h (find-period .kept .1 .1 .1 .0) in
     let k : n ≤ length (x ++ drop n t) = omega arith in
     sym (length-take-le n (x ++ drop n t) k)
 
@@ -102,123 +100,68 @@ slice-aggregate-choose-5 c = search needs
 slice-aggregate-choose-6 : tie.Need-slice-aggregate-choose-6
 slice-aggregate-choose-6 c = search needs
 
-mul-choose : tie.Need-mul-choose
-mul-choose c = omega (arith, c .before .before .before .before .before .before .before .before .before .before .before .before .before .before .before .before .before .before .before .before .before .before .before .before .before .before .before .before .before .before .before .before .before .before .before .pre .0 .parts, c .before .before .before .before .before .before .before .before .before .before .before .before .before .before .before .before .before .before .before .before .before .before .before .before .before .before .before .before .before .before .before .before .before .before .before .good, c .before .before .before .before .before .before .before .before .before .before .before .before .before .before .before .before .before .before .before .before .before .before .before .before .before .before .outs-at .ensures)
-
-sub-choose : tie.Need-sub-choose
-sub-choose c = omega (arith, c .before .before .before .before .before .before .before .before .before .before .before .before .before .before .before .before .before .before .before .before .before .before .before .before .before .before .before .before .before .before .before .before .before .before .before .pre .0 .parts, c .before .before .before .before .before .before .before .before .before .before .before .before .before .before .before .before .before .before .before .before .before .before .before .before .before .before .before .before .before .before .before .before .before .before .before .good, c .before .before .before .before .before .before .before .before .before .before .before .before .before .before .before .before .before .before .before .before .before .before .before .before .before .before .outs-at .ensures)
-
-part-choose-start : tie.Need-part-choose-start
-part-choose-start c = omega (arith, c .before .before .before .before .before .before .before .before .before .before .before .before .before .before .before .before .before .before .before .before .before .before .before .before .before .before .before .before .before .before .before .before .before .before .before .pre .0 .parts, c .before .before .before .before .before .before .before .before .before .before .before .before .before .before .before .before .before .before .before .before .before .before .before .before .before .before .before .before .before .before .before .before .before .before .before .good, c .before .before .before .before .before .before .before .before .before .before .before .before .before .before .before .before .before .before .before .before .before .before .before .before .before .before .outs-at .ensures)
-
-part-choose-end : tie.Need-part-choose-end
-part-choose-end c = search needs
-
 choose-requires : tie.Need-choose-requires
 choose-requires c κs =
-    (rest-part _ (c .before .before .before .before .before .before .before .before .before .before .before .before .before .before .before .before .before .before .before .before .before .find-period .ensures .0), chooses-lent (c .before .before .before .before .before .before .before .before .before .before .before .before .before .before .before .before .before .before .before .before .before .before .before .before .before .before .before .before .before .before .before .outs-at .ensures) (engine-chooses (c .before .before .before .before .before .before .before .before .before .before .before .before .before .before .before .before .before .before .before .before .before .before .before .before .before .before .before .before .before .before .before .before .before .before .before .before .before .before .before .before .pre .0) (c .before .before .before .before .before .before .before .before .before .before .before .before .before .before .before .before .before .before .before .before .before .before .before .before .before .before .before .before .before .before .before .before .before .before .before .before .before .before .before .before .pre .1) (found-whole (c .before .before .before .before .before .before .before .before .before .before .before .before .before .before .before .before .before .before .before .before .before .find-period .ensures .1))))
-
-mul-a : tie.Need-mul-a
-mul-a c = omega (arith, c .before .before .before .before .before .before .before .before .before .before .before .before .before .before .before .before .before .before .before .before .before .before .before .before .before .before .before .before .before .before .before .before .before .before .before .before .before .before .before .before .before .before .before .before .before .before .before .before .before .before .before .before .before .before .before .before .before .pre .0 .parts, c .before .before .before .before .before .before .before .before .before .before .before .before .before .before .before .before .before .before .before .before .before .before .before .before .before .before .before .before .before .before .before .before .before .before .before .before .before .before .before .before .before .before .before .before .before .before .before .before .before .before .before .before .before .before .before .before .before .good)
-
-add-b : tie.Need-add-b
-add-b c = search needs
-
-mul-b : tie.Need-mul-b
-mul-b c = omega (arith, c .before .before .before .before .before .before .before .before .before .before .before .before .before .before .before .before .before .before .before .before .before .before .before .before .before .before .before .before .before .before .before .before .before .before .before .before .before .before .before .before .before .before .before .before .before .before .before .before .before .before .before .before .before .before .before .before .before .before .pre .0 .parts, c .before .before .before .before .before .before .before .before .before .before .before .before .before .before .before .before .before .before .before .before .before .before .before .before .before .before .before .before .before .before .before .before .before .before .before .before .before .before .before .before .before .before .before .before .before .before .before .before .before .before .before .before .before .before .before .before .before .before .good)
-
-mul-tabulate : tie.Need-mul-tabulate
-mul-tabulate c = omega (arith, c .before .before .before .before .before .before .before .before .before .before .before .before .before .before .before .before .before .before .before .before .before .before .before .before .before .before .before .before .before .before .before .before .before .before .before .before .before .before .before .before .before .before .before .before .before .before .before .before .before .before .before .before .before .before .before .before .before .before .pre .0 .parts, c .before .before .before .before .before .before .before .before .before .before .before .before .before .before .before .before .before .before .before .before .before .before .before .before .before .before .before .before .before .before .before .before .before .before .before .before .before .before .before .before .before .before .before .before .before .before .before .before .before .before .before .before .before .before .before .before .before .before .good)
-
-sub-tabulate : tie.Need-sub-tabulate
-sub-tabulate c = omega (arith, c .before .before .before .before .before .before .before .before .before .before .before .before .before .before .before .before .before .before .before .before .before .before .before .before .before .before .before .before .before .before .before .before .before .before .before .before .before .before .before .before .before .before .before .before .before .before .before .before .before .before .before .before .before .before .before .before .before .before .pre .0 .parts, c .before .before .before .before .before .before .before .before .before .before .before .before .before .before .before .before .before .before .before .before .before .before .before .before .before .before .before .before .before .before .before .before .before .before .before .before .before .before .before .before .before .before .before .before .before .before .before .before .before .before .before .before .before .before .before .before .before .before .good)
-
-part-tabulate-start : tie.Need-part-tabulate-start
-part-tabulate-start c = omega (arith, c .before .before .before .before .before .before .before .before .before .before .before .before .before .before .before .before .before .before .before .before .before .before .before .before .before .before .before .before .before .before .before .before .before .before .before .before .before .before .before .before .before .before .before .before .before .before .before .before .before .before .before .before .before .before .before .before .before .before .pre .0 .parts, c .before .before .before .before .before .before .before .before .before .before .before .before .before .before .before .before .before .before .before .before .before .before .before .before .before .before .before .before .before .before .before .before .before .before .before .before .before .before .before .before .before .before .before .before .before .before .before .before .before .before .before .before .before .before .before .before .before .before .good)
-
-part-tabulate-end : tie.Need-part-tabulate-end
-part-tabulate-end c = search needs
-
-mul-tabulate-2 : tie.Need-mul-tabulate-2
-mul-tabulate-2 c = omega (arith, c .before .before .before .before .before .before .before .before .before .before .before .before .before .before .before .before .before .before .before .before .before .before .before .before .before .before .before .before .before .before .before .before .before .before .before .before .before .before .before .before .before .before .before .before .before .before .before .before .before .before .before .before .before .before .before .before .before .before .before .pre .0 .parts, c .before .before .before .before .before .before .before .before .before .before .before .before .before .before .before .before .before .before .before .before .before .before .before .before .before .before .before .before .before .before .before .before .before .before .before .before .before .before .before .before .before .before .before .before .before .before .before .before .before .before .before .before .before .before .before .before .before .before .before .good)
-
-sub-tabulate-2 : tie.Need-sub-tabulate-2
-sub-tabulate-2 c = omega (arith, c .before .before .before .before .before .before .before .before .before .before .before .before .before .before .before .before .before .before .before .before .before .before .before .before .before .before .before .before .before .before .before .before .before .before .before .before .before .before .before .before .before .before .before .before .before .before .before .before .before .before .before .before .before .before .before .before .before .before .before .pre .0 .parts, c .before .before .before .before .before .before .before .before .before .before .before .before .before .before .before .before .before .before .before .before .before .before .before .before .before .before .before .before .before .before .before .before .before .before .before .before .before .before .before .before .before .before .before .before .before .before .before .before .before .before .before .before .before .before .before .before .before .before .before .good)
-
-part-tabulate-start-2 : tie.Need-part-tabulate-start-2
-part-tabulate-start-2 c = omega (arith, c .before .before .before .before .before .before .before .before .before .before .before .before .before .before .before .before .before .before .before .before .before .before .before .before .before .before .before .before .before .before .before .before .before .before .before .before .before .before .before .before .before .before .before .before .before .before .before .before .before .before .before .before .before .before .before .before .before .before .before .pre .0 .parts, c .before .before .before .before .before .before .before .before .before .before .before .before .before .before .before .before .before .before .before .before .before .before .before .before .before .before .before .before .before .before .before .before .before .before .before .before .before .before .before .before .before .before .before .before .before .before .before .before .before .before .before .before .before .before .before .before .before .before .before .good)
-
-part-tabulate-end-2 : tie.Need-part-tabulate-end-2
-part-tabulate-end-2 c = search needs
+    let find-period = c .before .before .before .before .before .before .before .before .before .before .before .before .before .before .before .before .before .find-period in
+    let start = c .before .before .before .before .before .before .before .before .before .before .before .before .before .before .before .before .before .before .before .before .before .before .before .before .before .before .before .before .before .before .before .before in
+    (rest-part _ (find-period .ensures .0), (start .pre .0 .parts, engine-chooses (start .pre .0) (start .pre .1) (find-period .ensures .1)))
 
 tabulate-requires : tie.Need-tabulate-requires
 tabulate-requires c κs =
-    let e = c .before .before .before .before .before .before .before .before .before .before .before .before .before .before .before .before .before .before .before .before .before .before .before .before .before .before .before .before .before .before .before .before .before .before .before .before .before .before .before .before .before .before .before .before .before .before .before .before .before .before .before .before .before .before .before .before .before .before .before .before .before .before .before .before .before .before .pre .0 in
-    let a = c .before .before .before .before .before .before .before .before .before .before .before .before .before .before .before .before .before .before .before .before .before .before .before .before .before .before .before .before .before .before .before .before .before .before .before .before .before .before .before .before .before .before .before .before .before .before .before .before .before .before .before .before .before .before .before .before .before .before .before .before .before .before .before .before .before .before .args in
+    let choose = c .before .before .before .before .before .before .before .before .before .before .before .before .choose in
+    let find-period = c .before .before .before .before .before .before .before .before .before .before .before .before .before .before .before .before .before .before .before .before .before .before .before .before .before .before .before .before .before .before .find-period in
+    let start = c .before .before .before .before .before .before .before .before .before .before .before .before .before .before .before .before .before .before .before .before .before .before .before .before .before .before .before .before .before .before .before .before .before .before .before .before .before .before .before .before .before .before .before .before .before in
+    let e = start .pre .0 in
+    let a = start .args in
     let t = a .table .now in
     let n = (a .s .inputs + a .s .gates) * a .s .width in
     let h : n ≤ length t = omega (arith, e .size, e .fits) in
-    let x = c .before .before .before .before .before .before .before .before .before .before .before .before .before .before .before .before .before .before .before .before .before .before .before .before .before .before .before .before .before .before .before .before .before .before .before .before .before .before .before .before .before .before .before .before .before .before .before .find-period .last .1 .1 .1 .0 in
-    let l = length-behind x t n h (c .before .before .before .before .before .before .before .before .before .before .before .before .before .before .before .before .before .before .before .before .before .before .before .before .before .before .before .before .before .before .before .before .before .before .before .before .before .before .before .before .before .before .before .before .before .before .before .find-period .kept .1 .1 .1 .0) in
+    let x = find-period .last .1 .1 .1 .0 in
+    let l = length-behind x t n h (find-period .kept .1 .1 .1 .0) in
     let k : n ≤ length (x ++ drop n t) = omega arith in
-    let y = c .before .before .before .before .before .before .before .before .before .before .before .before .before .before .before .before .before .before .before .before .before .before .before .before .before .choose .last .1 .1 .1 .0 in
-    let m = length-behind y (x ++ drop n t) n k (c .before .before .before .before .before .before .before .before .before .before .before .before .before .before .before .before .before .before .before .before .before .before .before .before .before .choose .kept .1 .1 .1 .0) in
-    let kept = c .before .before .before .before .before .before .before .before .before .before .before .before .before .before .before .before .before .before .before .before .before .before .before .before .before .choose .kept .1 .1 .1 .1 .1 .1 .1 .1 .1 .1 .1 .1 .1 in
-    let last = c .before .before .before .before .before .before .before .before .before .before .before .before .before .before .before .before .before .before .before .before .before .before .before .before .before .choose .last .1 .1 .1 .1 .1 .1 .1 .1 .1 .1 .1 .1 .1 in (
+    let y = choose .last .1 .1 .1 .0 in
+    let m = length-behind y (x ++ drop n t) n k (choose .kept .1 .1 .1 .0) in
+    let rows = choose .kept .1 .1 .1 .1 .1 .1 .1 .1 .1 .1 .0 in (
+      (engine-tabulates e (start .pre .1) rows (find-period .ensures .1) (c .before .before .before .before .before .before .before .before .before .before .before .before .before .before .before .before .before .before .before .before .before .if1 .left) (choose .ensures .1), start .pre .1 .atLuts),
       (
-        two-parts (λ (so co : List ℕ). Tabulates (a .s .inputs) (a .s .gates) (a .net .now) so co (a .tables .now) (last .0) (last .1 .0) (last .1 .1 .0) (last .1 .1 .1 .0))
-            (a .net .now) (sourcesAt (a .s .gates)) (countsAt (a .s .gates))
-            (engine-tabulates e (c .before .before .before .before .before .before .before .before .before .before .before .before .before .before .before .before .before .before .before .before .before .before .before .before .before .before .before .before .before .before .before .before .before .before .before .before .before .before .before .before .before .before .before .before .before .before .before .before .before .before .before .before .before .before .before .before .before .before .before .before .before .before .before .before .before .before .pre .1) (kept .0) (kept .1 .0) (kept .1 .1 .0) (kept .1 .1 .1 .0) (found-whole (c .before .before .before .before .before .before .before .before .before .before .before .before .before .before .before .before .before .before .before .before .before .before .before .before .before .before .before .before .before .before .before .before .before .before .before .before .before .before .before .before .before .before .before .before .before .before .before .find-period .ensures .1)) (c .before .before .before .before .before .before .before .before .before .before .before .before .before .before .before .before .before .before .before .before .before .before .before .before .before .before .before .before .before .before .before .before .before .before .before .before .before .before .if1 .left) (roots-whole (c .before .before .before .before .before .before .before .before .before .before .before .before .before .before .before .before .before .before .before .before .before .before .before .before .before .before .before .before .before .before .before .before .before .before .before .before .before .before .before .before .before .before .before .before .before .before .before .before .before .before .before .before .before .before .before .before .before .outs-at .ensures) (c .before .before .before .before .before .before .before .before .before .before .before .before .before .before .before .before .before .before .before .before .before .before .before .before .before .choose .ensures .1))),
-        c .before .before .before .before .before .before .before .before .before .before .before .before .before .before .before .before .before .before .before .before .before .before .before .before .before .before .before .before .before .before .before .before .before .before .before .before .before .before .before .before .before .before .before .before .before .before .before .before .before .before .before .before .before .before .before .before .before .before .before .before .before .before .before .before .before .before .pre .1 .atLuts,
+        (omega (arith, e .parts), omega (arith, rows, start .pre .1 .atRows)),
+        (omega (arith, m, l, e .size), clear-behind y (x ++ drop n t) n (choose .ensures .0 .cleared .zero) (clear-behind x t n (find-period .ensures .0 .cleared .zero) (e .clear))),
       ),
-      (omega (arith, m, l, e .size), clear-behind y (x ++ drop n t) n (c .before .before .before .before .before .before .before .before .before .before .before .before .before .before .before .before .before .before .before .before .before .before .before .before .before .choose .ensures .0 .cleared .zero) (clear-behind x t n (c .before .before .before .before .before .before .before .before .before .before .before .before .before .before .before .before .before .before .before .before .before .before .before .before .before .before .before .before .before .before .before .before .before .before .before .before .before .before .before .before .before .before .before .before .before .before .before .find-period .ensures .0 .cleared .zero) (e .clear))),
     )
 
 same-length-3 : tie.Need-same-length-3
 same-length-3 c =
-    let e = c .before .before .before .before .before .before .before .before .before .before .before .before .before .before .before .before .before .before .before .before .before .before .before .before .before .before .before .before .before .before .before .before .before .before .before .before .before .before .before .before .before .before .before .before .before .before .before .before .before .before .before .before .before .before .before .before .before .before .before .before .before .before .before .before .before .before .before .before .before .before .before .pre .0 in
-    let a = c .before .before .before .before .before .before .before .before .before .before .before .before .before .before .before .before .before .before .before .before .before .before .before .before .before .before .before .before .before .before .before .before .before .before .before .before .before .before .before .before .before .before .before .before .before .before .before .before .before .before .before .before .before .before .before .before .before .before .before .before .before .before .before .before .before .before .before .before .before .before .before .args in
+    let choose = c .before .before .before .before .before .before .before .before .before .before .before .before .before .before .before .before .before .choose in
+    let find-period = c .before .before .before .before .before .before .before .before .before .before .before .before .before .before .before .before .before .before .before .before .before .before .before .before .before .before .before .before .before .before .before .before .before .before .before .find-period in
+    let start = c .before .before .before .before .before .before .before .before .before .before .before .before .before .before .before .before .before .before .before .before .before .before .before .before .before .before .before .before .before .before .before .before .before .before .before .before .before .before .before .before .before .before .before .before .before .before .before .before .before .before in
+    let e = start .pre .0 in
+    let a = start .args in
     let t = a .table .now in
     let n = (a .s .inputs + a .s .gates) * a .s .width in
     let h : n ≤ length t = omega (arith, e .size, e .fits) in
-    let x = c .before .before .before .before .before .before .before .before .before .before .before .before .before .before .before .before .before .before .before .before .before .before .before .before .before .before .before .before .before .before .before .before .before .before .before .before .before .before .before .before .before .before .before .before .before .before .before .before .before .before .before .before .find-period .last .1 .1 .1 .0 in
-    let l = length-behind x t n h (c .before .before .before .before .before .before .before .before .before .before .before .before .before .before .before .before .before .before .before .before .before .before .before .before .before .before .before .before .before .before .before .before .before .before .before .before .before .before .before .before .before .before .before .before .before .before .before .before .before .before .before .before .find-period .kept .1 .1 .1 .0) in
+    let x = find-period .last .1 .1 .1 .0 in
+    let l = length-behind x t n h (find-period .kept .1 .1 .1 .0) in
     let k : n ≤ length (x ++ drop n t) = omega arith in
-    let y = c .before .before .before .before .before .before .before .before .before .before .before .before .before .before .before .before .before .before .before .before .before .before .before .before .before .before .before .before .before .before .choose .last .1 .1 .1 .0 in
-    let m = length-behind y (x ++ drop n t) n k (c .before .before .before .before .before .before .before .before .before .before .before .before .before .before .before .before .before .before .before .before .before .before .before .before .before .before .before .before .before .before .choose .kept .1 .1 .1 .0) in
-    c .before .before .before .before .tabulate .kept .1 .1 .1 .1 .1 .1 .1 .1 .1 .1 .1 .0 ∙ m ∙ l
+    let y = choose .last .1 .1 .1 .0 in
+    let m = length-behind y (x ++ drop n t) n k (choose .kept .1 .1 .1 .0) in
+    c .before .before .before .before .tabulate .kept .1 .1 .1 .1 .1 .1 .0 ∙ m ∙ l
 
 same-length-4 : tie.Need-same-length-4
-same-length-4 c = c .before .before .before .before .before .before .before .before .before .before .before .before .before .before .before .before .before .before .before .before .before .before .before .before .before .before .before .before .before .before .before .before .before .before .before .before .before .before .before .before .before .before .before .before .before .before .before .before .before .before .before .before .find-period .kept .1 .1 .1 .1 .1 .1 .1 .1 .0
+same-length-4 c = c .before .before .before .before .before .before .before .before .before .before .before .before .before .before .before .before .before .before .before .before .before .before .before .before .before .before .before .before .before .before .before .before .before .before .before .find-period .kept .1 .1 .1 .1 .1 .1 .1 .1 .0
 
 same-length-5 : tie.Need-same-length-5
-same-length-5 c = c .before .before .before .before .before .before .before .before .before .before .before .before .before .before .before .before .before .before .before .before .before .before .before .before .before .before .before .before .before .before .choose .kept .1 .1 .1 .1 .1 .1 .1 .1 .1 .1 .1 .1 .1 .0
+same-length-5 c = c .before .before .before .before .before .before .before .before .before .before .before .before .before .before .before .before .before .choose .kept .1 .1 .1 .1 .1 .1 .1 .1 .1 .1 .0
 
 same-length-6 : tie.Need-same-length-6
-same-length-6 c = c .before .before .before .before .before .before .before .before .before .before .before .before .before .before .before .before .before .before .before .before .before .before .before .before .before .before .before .before .before .before .choose .kept .1 .1 .1 .1 .1 .1 .1 .1 .1 .1 .1 .1 .1 .1 .0
-
-same-length-7 : tie.Need-same-length-7
-same-length-7 c = c .before .before .before .before .before .before .before .before .before .before .before .before .before .before .before .before .before .before .before .before .before .before .before .before .before .before .before .before .before .before .choose .kept .1 .1 .1 .1 .1 .1 .1 .1 .1 .1 .1 .1 .1 .1 .1 .0
-
-same-length-8 : tie.Need-same-length-8
-same-length-8 c = c .before .before .before .before .before .before .before .before .before .before .before .before .before .before .before .before .before .before .before .before .before .before .before .before .before .before .before .before .before .before .choose .kept .1 .1 .1 .1 .1 .1 .1 .1 .1 .1 .1 .1 .1 .1 .1 .1 .0
-
-same-length-9 : tie.Need-same-length-9
-same-length-9 c = search needs
+same-length-6 c = search needs
 
 returns-2 : tie.Need-returns-2
-returns-2 c =
-    let a = c .before .before .before .before .before .before .before .before .before .before .before .before .before .before .before .before .before .before .before .before .before .before .before .before .before .before .before .before .before .before .before .before .before .before .before .before .before .before .before .before .before .before .before .before .before .before .before .before .before .before .before .before .before .before .before .before .before .before .before .before .before .before .before .before .before .before .before .before .before .before .before .args in
-    let last = c .before .before .before .before .before .before .before .before .before .before .before .before .before .before .before .before .before .before .before .before .before .before .before .before .before .before .before .before .before .before .choose .last .1 .1 .1 .1 .1 .1 .1 .1 .1 .1 .1 .1 .1 in
-    told-cover (c .before .before .before .before .before .before .before .before .before .before .before .before .before .before .before .before .before .before .before .before .before .before .before .before .before .before .before .before .before .before .before .before .before .before .before .before .before .before .before .before .before .before .before .before .before .before .before .before .before .before .before .before .before .before .before .before .before .before .before .before .before .before .before .before .before .before .before .before .before .before .before .pre .0 .few) (found-whole (c .before .before .before .before .before .before .before .before .before .before .before .before .before .before .before .before .before .before .before .before .before .before .before .before .before .before .before .before .before .before .before .before .before .before .before .before .before .before .before .before .before .before .before .before .before .before .before .before .before .before .before .before .find-period .ensures .1)) (c .before .before .before .before .before .before .before .before .before .before .before .before .before .before .before .before .before .before .before .before .before .before .before .before .before .before .before .before .before .before .before .before .before .before .before .before .before .before .before .before .before .before .before .if1 .left) (roots-whole (c .before .before .before .before .before .before .before .before .before .before .before .before .before .before .before .before .before .before .before .before .before .before .before .before .before .before .before .before .before .before .before .before .before .before .before .before .before .before .before .before .before .before .before .before .before .before .before .before .before .before .before .before .before .before .before .before .before .before .before .before .before .before .outs-at .ensures) (c .before .before .before .before .before .before .before .before .before .before .before .before .before .before .before .before .before .before .before .before .before .before .before .before .before .before .before .before .before .before .choose .ensures .1))
-    (two-wholes (λ (so co : List ℕ). Tabulated (a .s .inputs) (a .s .gates) (a .net .now) so co (a .tables .now) (last .0) (last .1 .0) (last .1 .1 .0) (last .1 .1 .1 .0) (c .before .before .before .before .tabulate .last .1 .1 .1 .1 .1 .1 .1 .1 .1 .1 .0) (a .s .gates))
-    (a .net .now) (sourcesAt (a .s .gates)) (countsAt (a .s .gates)) (c .before .before .before .before .tabulate .ensures .0))
+returns-2 c = told-cover (c .before .before .before .before .before .before .before .before .before .before .before .before .before .before .before .before .before .before .before .before .before .before .before .before .before .before .before .before .before .before .before .before .before .before .before .before .before .before .before .before .before .before .before .before .before .before .before .before .before .before .pre .0 .few) (c .before .before .before .before .before .before .before .before .before .before .before .before .before .before .before .before .before .before .before .before .before .before .before .before .before .before .before .before .before .before .before .before .before .before .before .find-period .ensures .1) (c .before .before .before .before .before .before .before .before .before .before .before .before .before .before .before .before .before .before .before .before .before .before .before .before .before .before .if1 .left) (c .before .before .before .before .before .before .before .before .before .before .before .before .before .before .before .before .before .choose .ensures .1) (c .before .before .before .before .tabulate .ensures .0)
 
 pub cover-spec : {M : Type 1} → statement M
 cover-spec =
     tie.close
     (tie.spec
-    outs-at-requires
     add-end
     mul-end
     slice-aggregate-find-period
@@ -239,28 +182,10 @@ cover-spec =
     slice-aggregate-choose-4
     slice-aggregate-choose-5
     slice-aggregate-choose-6
-    mul-choose
-    sub-choose
-    part-choose-start
-    part-choose-end
     choose-requires
-    mul-a
-    add-b
-    mul-b
-    mul-tabulate
-    sub-tabulate
-    part-tabulate-start
-    part-tabulate-end
-    mul-tabulate-2
-    sub-tabulate-2
-    part-tabulate-start-2
-    part-tabulate-end-2
     tabulate-requires
     same-length-3
     same-length-4
     same-length-5
     same-length-6
-    same-length-7
-    same-length-8
-    same-length-9
     returns-2)

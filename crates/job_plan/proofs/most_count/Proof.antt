@@ -11,7 +11,7 @@ use Rattle.job_plan.proofs.most_count.Statement.{statement}
 use Rattle.job_plan.proofs.most_count.Tie as tie
 use Rattle.job_plan.proofs.most_count.Reads as reads
 use Rattle.job_plan.proofs.most_count.Lts as lts
-use Rattle.job_plan.proofs.larger.Reads as larger-reads
+use Rattle.label_lines.proofs.greater.Reads as greater-reads
 
 abbrev Inv-loop : tie.InvT-loop
 Inv-loop counts at n most₀ j₀ most j = (j ≤ n) × MostCount counts at j most
@@ -24,20 +24,20 @@ loop-holds : tie.Need-loop-holds Inv-loop μ-loop
 loop-holds c = (omega arith, most-none (now (c .before .args .counts)) (c .before .args .at))
 
 -- src/lib.rt:38:36
-add-larger : tie.Need-add-larger Inv-loop μ-loop
-add-larger c = let h = c .loop-test .taken in let p = c .before .before .before .pre in search needs
+add-greater : tie.Need-add-greater Inv-loop μ-loop
+add-greater c = let h = c .loop-test .taken in let p = c .before .before .before .pre in search needs
 
 -- src/lib.rt:38:29
-mul-larger : tie.Need-mul-larger Inv-loop μ-loop
-mul-larger c = let h = c .loop-test .taken in let p = c .before .before .before .pre in search needs
+mul-greater : tie.Need-mul-greater Inv-loop μ-loop
+mul-greater c = let h = c .loop-test .taken in let p = c .before .before .before .pre in search needs
 
 -- src/lib.rt:38:29
-shared-slice-read-larger : tie.Need-shared-slice-read-larger Inv-loop μ-loop
-shared-slice-read-larger c = let h = c .before .loop-test .taken in let p = c .before .before .before .before .pre in search needs
+shared-slice-read-greater : tie.Need-shared-slice-read-greater Inv-loop μ-loop
+shared-slice-read-greater c = let h = c .before .loop-test .taken in let p = c .before .before .before .before .pre in search needs
 
 -- src/lib.rt:38:9
-larger-requires : tie.Need-larger-requires Inv-loop μ-loop
-larger-requires c κs = tt
+greater-requires : tie.Need-greater-requires Inv-loop μ-loop
+greater-requires c κs = tt
 
 -- src/lib.rt:39:9
 add-j : tie.Need-add-j Inv-loop μ-loop
@@ -53,7 +53,7 @@ loop-again c =
     let loop = c .before .before .before .loop in
     let start = c .before .before .before .before .before in
     let h = c .before .before .loop-test .taken in
-    (omega arith, subst (MostCount _ _ _) (sym (c .larger .ensures)) (most-next (now (start .args .counts)) (start .args .at) (loop .j) (loop .most) (loop .inv .1)))
+    (omega arith, subst (MostCount _ _ _) (sym (c .greater .ensures)) (most-next (now (start .args .counts)) (start .args .at) (loop .j) (loop .most) (loop .inv .1)))
 
 -- src/lib.rt:31:1
 returns : tie.Need-returns Inv-loop μ-loop
@@ -69,10 +69,10 @@ most-count-spec =
     Inv-loop
     μ-loop
     loop-holds
-    add-larger
-    mul-larger
-    shared-slice-read-larger
-    larger-requires
+    add-greater
+    mul-greater
+    shared-slice-read-greater
+    greater-requires
     add-j
     loop-less
     loop-again

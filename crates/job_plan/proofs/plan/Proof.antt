@@ -18,7 +18,7 @@ link-requires : tie.Need-link-requires
 link-requires c κs = search needs
 
 extent-requires : tie.Need-extent-requires
-extent-requires c κs = plan-extending (linked-planning (c .before .before .before .before .before .before .before .before .before .before .before .before .before .before .pre .0) (c .before .before .before .link .ensures))
+extent-requires c κs = plan-extending (linked-planning (c .before .before .before .before .before .before .before .before .before .before .before .pre .0) (c .before .before .before .link .ensures))
 
 clear-first-requires : tie.Need-clear-first-requires
 clear-first-requires c κs = search needs
@@ -28,25 +28,29 @@ slice-relend-prefix-cover c = search needs
 
 slice-aggregate-cover : tie.Need-slice-aggregate-cover
 slice-aggregate-cover c =
-    let h : mostTable ≤ length (c .before .before .before .before .clear-first .last .0) = let d = c .before .before .before .before .before .before .before .before .before .before .before .before .before .before .before .before .before .before .before .before .before .pre .1 .0 in let e = c .before .before .before .before .clear-first .kept .0 in omega arith in
-    sym (length-take-le mostTable (c .before .before .before .before .clear-first .last .0) h)
+    let clear-first = c .before .before .before .before .clear-first in
+    let h : mostTable ≤ length (clear-first .last .0) = let d = c .before .before .before .before .before .before .before .before .before .before .before .before .before .before .before .before .before .before .pre .1 .0 in let e = clear-first .kept .0 in omega arith in
+    sym (length-take-le mostTable (clear-first .last .0) h)
 
 slice-relend-prefix-cover-2 : tie.Need-slice-relend-prefix-cover-2
 slice-relend-prefix-cover-2 c = search needs
 
 slice-aggregate-cover-2 : tie.Need-slice-aggregate-cover-2
 slice-aggregate-cover-2 c =
-    let a = c .before .before .before .before .before .before .before .before .before .before .before .before .before .before .before .before .before .before .before .before .before .before .args in
-    sym (length-take-le (a .z .inputs + a .z .gates) (a .labels .now) (c .before .before .before .before .before .before .before .before .before .before .before .before .before .before .before .before .before .before .before .before .before .before .pre .1 .1))
+    let start = c .before .before .before .before .before .before .before .before .before .before .before .before .before .before .before .before .before .before .before in
+    let a = start .args in
+    sym (length-take-le (a .z .inputs + a .z .gates) (a .labels .now) (start .pre .1 .1))
 
 cover-requires : tie.Need-cover-requires
 cover-requires c κs =
-    let a = c .before .before .before .before .before .before .before .before .before .before .before .before .before .before .before .before .before .before .before .before .before .before .before .before .before .before .before .args in
-    let p = (linked-planning (c .before .before .before .before .before .before .before .before .before .before .before .before .before .before .before .before .before .before .before .before .before .before .before .before .before .before .before .pre .0) (c .before .before .before .before .before .before .before .before .before .before .before .before .before .before .before .before .link .ensures)) in
-    let x = c .before .before .before .before .before .before .before .before .before .before .before .before .extent .ensures in (
-      planned-engine p x (c .before .before .before .before .before .before .before .before .before .before .before .before .before .before .before .before .link .ensures .linked) _ (ap (take mostTable) (c .before .before .before .before .before .before .before .before .before .before .clear-first .ensures) ∙ cleared-part mostTable (a .work .now)) _
-          (length-take-le (a .z .inputs + a .z .gates) (a .labels .now) (c .before .before .before .before .before .before .before .before .before .before .before .before .before .before .before .before .before .before .before .before .before .before .before .before .before .before .before .pre .1 .1)),
-      planned-room p x (c .before .before .before .before .before .before .before .before .before .before .before .before .before .before .before .before .before .before .before .before .before .before .before .before .before .before .before .pre .1 .2),
+    let link = c .before .before .before .before .before .before .before .before .before .before .before .before .before .link in
+    let start = c .before .before .before .before .before .before .before .before .before .before .before .before .before .before .before .before .before .before .before .before .before in
+    let a = start .args in
+    let p = (linked-planning (start .pre .0) (link .ensures)) in
+    let x = c .before .before .before .before .before .before .before .before .before .extent .ensures in (
+      planned-engine p x (link .ensures .linked) _ (ap (take mostTable) (c .before .before .before .before .before .before .before .clear-first .ensures) ∙ cleared-part mostTable (a .work .now)) _
+          (length-take-le (a .z .inputs + a .z .gates) (a .labels .now) (start .pre .1 .1)),
+      planned-room p x (start .pre .1 .2),
     )
 
 same-length : tie.Need-same-length
@@ -54,8 +58,10 @@ same-length c = search needs
 
 same-length-2 : tie.Need-same-length-2
 same-length-2 c =
-    let h : mostTable ≤ length (c .before .before .before .before .before .before .before .before .before .before .before .before .before .before .before .before .before .before .before .before .before .before .before .before .clear-first .last .0) = let d = c .before .before .before .before .before .before .before .before .before .before .before .before .before .before .before .before .before .before .before .before .before .before .before .before .before .before .before .before .before .before .before .before .before .before .before .before .before .before .before .before .before .pre .1 .0 in let e = c .before .before .before .before .before .before .before .before .before .before .before .before .before .before .before .before .before .before .before .before .before .before .before .before .clear-first .kept .0 in omega arith in
-    length-behind (c .before .before .before .before .before .before .before .before .before .before .before .before .before .cover .last .1 .1 .1 .1 .1 .1 .0) (c .before .before .before .before .before .before .before .before .before .before .before .before .before .before .before .before .before .before .before .before .before .before .before .before .clear-first .last .0) mostTable h (c .before .before .before .before .before .before .before .before .before .before .before .before .before .cover .kept .1 .1 .1 .1 .1 .1 .0) ∙ c .before .before .before .before .before .before .before .before .before .before .before .before .before .before .before .before .before .before .before .before .before .before .before .before .clear-first .kept .0
+    let cover = c .before .before .before .before .before .before .before .cover in
+    let clear-first = c .before .before .before .before .before .before .before .before .before .before .before .before .before .before .before .clear-first in
+    let h : mostTable ≤ length (clear-first .last .0) = let d = c .before .before .before .before .before .before .before .before .before .before .before .before .before .before .before .before .before .before .before .before .before .before .before .before .before .before .before .before .before .pre .1 .0 in let e = clear-first .kept .0 in omega arith in
+    length-behind (cover .last .1 .1 .1 .1 .1 .1 .0) (clear-first .last .0) mostTable h (cover .kept .1 .1 .1 .1 .1 .1 .0) ∙ clear-first .kept .0
 
 same-length-3 : tie.Need-same-length-3
 same-length-3 c = search needs
@@ -66,22 +72,16 @@ same-length-4 c = search needs
 same-length-5 : tie.Need-same-length-5
 same-length-5 c = search needs
 
-same-length-6 : tie.Need-same-length-6
-same-length-6 c = search needs
-
-same-length-7 : tie.Need-same-length-7
-same-length-7 c = search needs
-
-same-length-8 : tie.Need-same-length-8
-same-length-8 c = search needs
-
 returns : tie.Need-returns
 returns c =
-    let a = c .before .before .before .before .before .before .before .before .before .before .before .before .before .before .before .before .before .before .before .before .before .before .before .before .before .before .before .before .before .before .before .before .before .before .before .before .before .before .before .before .before .args in
-    let p = (linked-planning (c .before .before .before .before .before .before .before .before .before .before .before .before .before .before .before .before .before .before .before .before .before .before .before .before .before .before .before .before .before .before .before .before .before .before .before .before .before .before .before .before .before .pre .0) (c .before .before .before .before .before .before .before .before .before .before .before .before .before .before .before .before .before .before .before .before .before .before .before .before .before .before .before .before .before .before .link .ensures)) in (
-      planned-cover p (c .before .before .before .before .before .before .before .before .before .before .before .before .before .before .before .before .before .before .before .before .before .before .before .before .before .before .extent .ensures) (linked-net (c .before .before .before .before .before .before .before .before .before .before .before .before .before .before .before .before .before .before .before .before .before .before .before .before .before .before .before .before .before .before .before .before .before .before .before .before .before .before .before .before .before .pre .0) (c .before .before .before .before .before .before .before .before .before .before .before .before .before .before .before .before .before .before .before .before .before .before .before .before .before .before .before .before .before .before .link .ensures)) (drop (a .z .inputs + a .z .gates) (a .labels .now))
-          (c .before .before .before .before .before .before .before .before .before .before .before .before .before .cover .kept .1 .1 .1 .1 .1 .1 .1 .0 ∙ length-take-le (a .z .inputs + a .z .gates) (a .labels .now) (c .before .before .before .before .before .before .before .before .before .before .before .before .before .before .before .before .before .before .before .before .before .before .before .before .before .before .before .before .before .before .before .before .before .before .before .before .before .before .before .before .before .pre .1 .1)) (c .before .before .before .before .before .before .before .before .before .before .before .before .before .cover .ensures),
-      linked-kept (c .before .before .before .before .before .before .before .before .before .before .before .before .before .before .before .before .before .before .before .before .before .before .before .before .before .before .before .before .before .before .before .before .before .before .before .before .before .before .before .before .before .pre .0) (c .before .before .before .before .before .before .before .before .before .before .before .before .before .before .before .before .before .before .before .before .before .before .before .before .before .before .before .before .before .before .link .ensures),
+    let cover = c .before .before .before .before .before .before .before .cover in
+    let link = c .before .before .before .before .before .before .before .before .before .before .before .before .before .before .before .before .before .before .before .before .before .link in
+    let start = c .before .before .before .before .before .before .before .before .before .before .before .before .before .before .before .before .before .before .before .before .before .before .before .before .before .before .before .before .before in
+    let a = start .args in
+    let p = (linked-planning (start .pre .0) (link .ensures)) in (
+      planned-cover p (c .before .before .before .before .before .before .before .before .before .before .before .before .before .before .before .before .before .extent .ensures) (linked-net (start .pre .0) (link .ensures)) (drop (a .z .inputs + a .z .gates) (a .labels .now))
+          (cover .kept .1 .1 .1 .1 .1 .1 .1 .0 ∙ length-take-le (a .z .inputs + a .z .gates) (a .labels .now) (start .pre .1 .1)) (cover .ensures),
+      linked-kept (start .pre .0) (link .ensures),
     )
 
 pub plan-spec : {M : Type 1} → statement M
@@ -102,7 +102,4 @@ plan-spec =
     same-length-3
     same-length-4
     same-length-5
-    same-length-6
-    same-length-7
-    same-length-8
     returns)

@@ -4,7 +4,7 @@ use native.Mathlib.Omega.{arith}
 use Rattle.job_settle.specs.SettlingLaws.{cover-settled, settled-small}
 use Rattle.job_plan.specs.Ready.{zero-room}
 use Rattle.job_record.specs.MapOutcomeLaws.{net-refused-as, net-covered}
-use Rattle.job_record.specs.Recording.{Long, cover-small, cover-writable}
+use Rattle.job_record.specs.Recording.{rows-long, cover-small, cover-writable}
 use borrow.Author.Needs.{needs}
 use Rattle.job_record.proofs.map_read.Statement.{statement}
 use Rattle.job_record.proofs.map_read.Tie as tie
@@ -24,23 +24,14 @@ slice-aggregate-settle-4 c = search needs
 slice-aggregate-settle-5 : tie.Need-slice-aggregate-settle-5
 slice-aggregate-settle-5 c = search needs
 
-slice-aggregate-settle-6 : tie.Need-slice-aggregate-settle-6
-slice-aggregate-settle-6 c = search needs
-
-slice-aggregate-settle-7 : tie.Need-slice-aggregate-settle-7
-slice-aggregate-settle-7 c = search needs
-
-slice-aggregate-settle-8 : tie.Need-slice-aggregate-settle-8
-slice-aggregate-settle-8 c = search needs
-
 settle-requires : tie.Need-settle-requires
 settle-requires c κs =
-    let start = c .before .before .before .before .before .before .before .before .before .before .before .before .before .before .before in
+    let start = c .before .before .before .before .before .before .before .before .before .before .before .before in
     let f = start .pre .settling .facts in
     (start .pre .settling, ((omega (arith, f .gates-high), omega (arith, f .gates-high)), (omega (arith, start .pre .space), omega (arith, f .gates-high, f .inputs-high), zero-room (start .args .z .gates) (f .gates-high))))
 
 narrow-requires : tie.Need-narrow-requires
-narrow-requires c κs = settled-small (c .before .before .before .before .before .before .before .before .before .before .before .before .before .settle .ensures .0)
+narrow-requires c κs = settled-small (c .before .before .before .before .before .before .before .before .before .before .settle .ensures .0)
 
 same-length : tie.Need-same-length
 same-length c = search needs
@@ -49,7 +40,7 @@ same-length-2 : tie.Need-same-length-2
 same-length-2 c = search needs
 
 returns : tie.Need-returns
-returns c = net-refused-as _ _ (c .before .before .before .before .before .before .before .before .before .before .before .before .before .before .settle .ensures .0) (omega (arith, c .before .if1 .taken)) (c .narrow .ensures)
+returns c = net-refused-as _ _ (c .before .before .before .before .before .before .before .before .before .before .before .settle .ensures .0) (omega (arith, c .before .if1 .taken)) (c .narrow .ensures)
 
 slice-aggregate-write-cover : tie.Need-slice-aggregate-write-cover
 slice-aggregate-write-cover c = search needs
@@ -60,27 +51,14 @@ slice-aggregate-write-cover-2 c = search needs
 slice-aggregate-write-cover-3 : tie.Need-slice-aggregate-write-cover-3
 slice-aggregate-write-cover-3 c = search needs
 
-slice-aggregate-write-cover-4 : tie.Need-slice-aggregate-write-cover-4
-slice-aggregate-write-cover-4 c = search needs
-
-slice-aggregate-write-cover-5 : tie.Need-slice-aggregate-write-cover-5
-slice-aggregate-write-cover-5 c = search needs
-
-slice-aggregate-write-cover-6 : tie.Need-slice-aggregate-write-cover-6
-slice-aggregate-write-cover-6 c = search needs
-
 write-cover-requires : tie.Need-write-cover-requires
 write-cover-requires c κs =
-    let k = c .before .before .before .before .before .before .before .before .before .before .before .before .before .before .before .before .before .before .before .before .settle .kept .1 .1 .1 .1 .1 .1 .1 .1 in
-    let u = cover-settled (c .before .before .before .before .before .before .before .before .before .before .before .before .before .before .before .before .before .before .before .before .settle .ensures .0) (omega (arith, c .before .before .before .before .before .before .before .if1 .left)) in
-    cover-writable (c .before .before .before .before .before .before .before .before .before .before .before .before .before .before .before .before .before .before .before .before .before .before .before .before .before .before .before .before .before .before .before .before .before .before .before .before .pre .settling) refl refl (record {
-      atLabels = k .0;
-      atMarks = k .1 .0;
-      atSizes = k .1 .1 .0;
-      atNodes = k .1 .1 .1 .0;
-      atBacks = k .1 .1 .1 .1 .0;
-      atTables = k .1 .1 .1 .1 .1 .0;
-    }) (u .passed) (u .cover) _ (c .before .before .before .before .before .before .before .before .before .before .before .before .before .before .before .before .before .before .before .before .before .before .before .before .before .before .before .before .before .before .before .before .before .before .before .before .pre .room)
+    let settle = c .before .before .before .before .before .before .before .before .before .before .before .before .before .before .settle in
+    let start = c .before .before .before .before .before .before .before .before .before .before .before .before .before .before .before .before .before .before .before .before .before .before .before .before .before .before .before in
+    let k = settle .kept .1 .1 .1 .1 .1 .1 .1 .1 in
+    let h = start .pre .settling .facts .gates-high in
+    let u = cover-settled (settle .ensures .0) (omega (arith, c .before .before .before .before .if1 .left)) in
+    (cover-writable (start .pre .settling) refl refl (rows-long h (k .0) (k .1 .0) (k .1 .1 .0)) (u .passed) (u .cover) _ (start .pre .room), omega (arith, h, k .1 .0))
 
 slice-aggregate-write-image : tie.Need-slice-aggregate-write-image
 slice-aggregate-write-image c = search needs
@@ -90,12 +68,13 @@ slice-aggregate-write-image-2 c = search needs
 
 write-image-requires : tie.Need-write-image-requires
 write-image-requires c κs =
-    let k = c .before .before .before .before .before .before .before .before .before .before .before .before .before .before .before .before .before .before .before .before .before .before .before .before .before .before .settle .kept .1 .1 .1 .1 .1 .1 .1 .1 in
-    let f = c .before .before .before .before .before .before .before .before .before .before .before .before .before .before .before .before .before .before .before .before .before .before .before .before .before .before .before .before .before .before .before .before .before .before .before .before .before .before .before .before .before .before .pre .settling .facts in
+    let start = c .before .before .before .before .before .before .before .before .before .before .before .before .before .before .before .before .before .before .before .before .before .before .before .before .before .before .before .before .before .before .before .before .before in
+    let k = c .before .before .before .before .before .before .before .before .before .before .before .before .before .before .before .before .before .before .before .before .settle .kept .1 .1 .1 .1 .1 .1 .1 .1 in
+    let f = start .pre .settling .facts in
     record {
       atMarks = omega (arith, k .1 .0, f .gates-high);
-      atLuts = omega (arith, k .1 .1 .1 .1 .1 .0, f .gates-high);
-      room = λ n. omega (arith, c .before .before .before .before .before .before .before .before .before .before .before .before .before .before .before .before .before .before .before .before .before .before .before .before .before .before .before .before .before .before .before .before .before .before .before .before .before .before .before .before .before .before .pre .load n, f .gates-high);
+      atLuts = omega (arith, k .1 .1 .0, f .gates-high);
+      room = λ n. omega (arith, start .pre .load n, f .gates-high);
     }
 
 same-length-3 : tie.Need-same-length-3
@@ -112,17 +91,13 @@ same-length-6 c = search needs
 
 returns-2 : tie.Need-returns-2
 returns-2 c =
-    let k = c .before .before .before .before .before .before .before .before .before .before .before .before .before .before .before .before .before .before .before .before .before .before .before .before .before .before .before .before .before .settle .kept .1 .1 .1 .1 .1 .1 .1 .1 in
-    let u = cover-settled (c .before .before .before .before .before .before .before .before .before .before .before .before .before .before .before .before .before .before .before .before .before .before .before .before .before .before .before .before .before .settle .ensures .0) (omega (arith, c .before .before .before .before .before .before .before .before .before .before .before .before .before .before .before .before .if1 .left)) in
-    let l : Long _ = record {
-      atLabels = k .0;
-      atMarks = k .1 .0;
-      atSizes = k .1 .1 .0;
-      atNodes = k .1 .1 .1 .0;
-      atBacks = k .1 .1 .1 .1 .0;
-      atTables = k .1 .1 .1 .1 .1 .0;
-    } in
-    net-covered _ _ u (cover-small (c .before .before .before .before .before .before .before .before .before .before .before .before .before .before .before .before .before .before .before .before .before .before .before .before .before .before .before .before .before .before .before .before .before .before .before .before .before .before .before .before .before .before .before .before .before .pre .settling) refl refl l (u .passed) (u .cover)) (c .before .before .before .before .before .before .before .before .write-cover .ensures .0) (c .before .before .before .before .before .before .before .before .write-cover .ensures .1)
+    let write-cover = c .before .before .before .before .before .before .before .before .write-cover in
+    let settle = c .before .before .before .before .before .before .before .before .before .before .before .before .before .before .before .before .before .before .before .before .before .before .before .settle in
+    let start = c .before .before .before .before .before .before .before .before .before .before .before .before .before .before .before .before .before .before .before .before .before .before .before .before .before .before .before .before .before .before .before .before .before .before .before .before in
+    let k = settle .kept .1 .1 .1 .1 .1 .1 .1 .1 in
+    let u = cover-settled (settle .ensures .0) (omega (arith, c .before .before .before .before .before .before .before .before .before .before .before .before .before .if1 .left)) in
+    let l = rows-long (start .pre .settling .facts .gates-high) (k .0) (k .1 .0) (k .1 .1 .0) in
+    net-covered _ _ u (cover-small (start .pre .settling) refl refl l (u .passed) (u .cover)) (write-cover .ensures .0) (write-cover .ensures .1)
     (c .before .before .write-image .ensures .image _ (record { gates-are = refl; marks-are = refl; luts-are = refl }) (u .cover .whole))
 
 pub map-read-spec : {M : Type 1} → statement M
@@ -134,9 +109,6 @@ map-read-spec =
     slice-aggregate-settle-3
     slice-aggregate-settle-4
     slice-aggregate-settle-5
-    slice-aggregate-settle-6
-    slice-aggregate-settle-7
-    slice-aggregate-settle-8
     settle-requires
     narrow-requires
     same-length
@@ -145,9 +117,6 @@ map-read-spec =
     slice-aggregate-write-cover
     slice-aggregate-write-cover-2
     slice-aggregate-write-cover-3
-    slice-aggregate-write-cover-4
-    slice-aggregate-write-cover-5
-    slice-aggregate-write-cover-6
     write-cover-requires
     slice-aggregate-write-image
     slice-aggregate-write-image-2

@@ -12,17 +12,21 @@ slice-relend-prefix-check-graph : tie.Need-slice-relend-prefix-check-graph
 slice-relend-prefix-check-graph c = search needs
 
 slice-aggregate-check-graph : tie.Need-slice-aggregate-check-graph
-slice-aggregate-check-graph c = sym (length-take-le (c .before .before .before .before .before .before .before .before .before .before .before .before .args .z .gates) (c .before .before .before .before .before .before .before .before .before .before .before .before .args .seen .now) (c .before .before .before .before .before .before .before .before .before .before .before .before .pre .1 .0 .0))
+slice-aggregate-check-graph c =
+    let start = c .before .before .before .before .before .before .before .before .before in
+    sym (length-take-le (start .args .z .gates) (start .args .seen .now) (start .pre .1 .0 .0))
 
 slice-relend-prefix-check-graph-2 : tie.Need-slice-relend-prefix-check-graph-2
 slice-relend-prefix-check-graph-2 c = search needs
 
 slice-aggregate-check-graph-2 : tie.Need-slice-aggregate-check-graph-2
-slice-aggregate-check-graph-2 c = sym (length-take-le (c .before .before .before .before .before .before .before .before .before .before .before .before .before .args .z .gates) (c .before .before .before .before .before .before .before .before .before .before .before .before .before .args .noted .now) (c .before .before .before .before .before .before .before .before .before .before .before .before .before .pre .1 .0 .1))
+slice-aggregate-check-graph-2 c =
+    let start = c .before .before .before .before .before .before .before .before .before .before in
+    sym (length-take-le (start .args .z .gates) (start .args .noted .now) (start .pre .1 .0 .1))
 
 check-graph-requires : tie.Need-check-graph-requires
 check-graph-requires c κs =
-    let start = c .before .before .before .before .before .before .before .before .before .before .before .before .before in
+    let start = c .before .before .before .before .before .before .before .before .before .before in
     let s = start .pre .0 in (
       read-checkable (s .facts) (s .room),
       record {
@@ -41,10 +45,14 @@ same-length-3 : tie.Need-same-length-3
 same-length-3 c = search needs
 
 returns : tie.Need-returns
-returns c = (settled-check (c .before .before .before .before .before .before .before .before .before .before .before .before .before .before .before .before .before .before .before .before .before .pre .0) (c .before .before .before .before .before .before .before .check-graph .ensures) (c .if1 .taken), c .before .before .before .before .before .before .before .check-graph .ensures .kept)
+returns c =
+    let check-graph = c .before .before .before .before .before .before .before .check-graph in
+    (settled-check (c .before .before .before .before .before .before .before .before .before .before .before .before .before .before .before .before .before .before .pre .0) (check-graph .ensures) (c .if1 .taken), check-graph .ensures .kept)
 
 plan-requires : tie.Need-plan-requires
-plan-requires c κs = (settled-planning (c .before .before .before .before .before .before .before .before .before .before .before .before .before .before .before .before .before .before .before .before .before .before .before .before .before .before .before .before .before .pre .0) (c .before .before .before .before .before .before .before .before .before .before .before .before .before .before .before .check-graph .ensures) (c .before .before .before .before .before .before .before .before .if1 .left), c .before .before .before .before .before .before .before .before .before .before .before .before .before .before .before .before .before .before .before .before .before .before .before .before .before .before .before .before .before .pre .1 .1)
+plan-requires c κs =
+    let start = c .before .before .before .before .before .before .before .before .before .before .before .before .before .before .before .before .before .before .before .before .before .before .before in
+    (settled-planning (start .pre .0) (c .before .before .before .before .before .before .before .before .before .before .before .before .check-graph .ensures) (c .before .before .before .before .before .if1 .left), start .pre .1 .1)
 
 same-length-4 : tie.Need-same-length-4
 same-length-4 c = search needs
@@ -67,6 +75,12 @@ same-length-9 c = search needs
 same-length-10 : tie.Need-same-length-10
 same-length-10 c = search needs
 
+returns-2 : tie.Need-returns-2
+returns-2 c =
+    let plan = c .before .before .before .before .before .before .before .before .before .before .plan in
+    let g = c .before .before .before .before .before .before .before .before .before .before .before .before .before .before .before .before .before .before .before .before .before .before .before .check-graph .ensures in
+    (settled-none (c .before .before .before .before .before .before .before .before .before .before .before .before .before .before .before .before .before .before .before .before .before .before .before .before .before .before .before .before .before .before .before .before .before .before .pre .0) g (c .before .before .before .before .before .before .before .before .before .before .before .before .before .before .before .before .if1 .left) (plan .ensures .0) (c .if2 .taken), kept-trans (g .kept) (plan .ensures .1))
+
 same-length-11 : tie.Need-same-length-11
 same-length-11 c = search needs
 
@@ -75,11 +89,6 @@ same-length-12 c = search needs
 
 same-length-13 : tie.Need-same-length-13
 same-length-13 c = search needs
-
-returns-2 : tie.Need-returns-2
-returns-2 c =
-    let g = c .before .before .before .before .before .before .before .before .before .before .before .before .before .before .before .before .before .before .before .before .before .before .before .before .before .before .before .before .before .before .before .before .check-graph .ensures in
-    (settled-none (c .before .before .before .before .before .before .before .before .before .before .before .before .before .before .before .before .before .before .before .before .before .before .before .before .before .before .before .before .before .before .before .before .before .before .before .before .before .before .before .before .before .before .before .before .before .before .pre .0) g (c .before .before .before .before .before .before .before .before .before .before .before .before .before .before .before .before .before .before .before .before .before .before .before .before .before .if1 .left) (c .before .before .before .before .before .before .before .before .before .before .before .before .before .before .before .before .plan .ensures .0) (c .if2 .taken), kept-trans (g .kept) (c .before .before .before .before .before .before .before .before .before .before .before .before .before .before .before .before .plan .ensures .1))
 
 same-length-14 : tie.Need-same-length-14
 same-length-14 c = search needs
@@ -93,28 +102,11 @@ same-length-16 c = search needs
 same-length-17 : tie.Need-same-length-17
 same-length-17 c = search needs
 
-same-length-18 : tie.Need-same-length-18
-same-length-18 c = search needs
-
-same-length-19 : tie.Need-same-length-19
-same-length-19 c = search needs
-
-same-length-20 : tie.Need-same-length-20
-same-length-20 c = search needs
-
-same-length-21 : tie.Need-same-length-21
-same-length-21 c = search needs
-
-same-length-22 : tie.Need-same-length-22
-same-length-22 c = search needs
-
-same-length-23 : tie.Need-same-length-23
-same-length-23 c = search needs
-
 returns-3 : tie.Need-returns-3
 returns-3 c =
-    let g = c .before .before .before .before .before .before .before .before .before .before .before .before .before .before .before .before .before .before .before .before .before .before .before .before .before .before .before .before .before .before .before .before .check-graph .ensures in
-    (settled-cover (c .before .before .before .before .before .before .before .before .before .before .before .before .before .before .before .before .before .before .before .before .before .before .before .before .before .before .before .before .before .before .before .before .before .before .before .before .before .before .before .before .before .before .before .before .before .before .pre .0) g (c .before .before .before .before .before .before .before .before .before .before .before .before .before .before .before .before .before .before .before .before .before .before .before .before .before .if1 .left) (c .before .before .before .before .before .before .before .before .before .before .before .before .before .before .before .before .plan .ensures .0) (c .if2 .left), kept-trans (g .kept) (c .before .before .before .before .before .before .before .before .before .before .before .before .before .before .before .before .plan .ensures .1))
+    let plan = c .before .before .before .before .before .before .before .before .before .before .plan in
+    let g = c .before .before .before .before .before .before .before .before .before .before .before .before .before .before .before .before .before .before .before .before .before .before .before .check-graph .ensures in
+    (settled-cover (c .before .before .before .before .before .before .before .before .before .before .before .before .before .before .before .before .before .before .before .before .before .before .before .before .before .before .before .before .before .before .before .before .before .before .pre .0) g (c .before .before .before .before .before .before .before .before .before .before .before .before .before .before .before .before .if1 .left) (plan .ensures .0) (c .if2 .left), kept-trans (g .kept) (plan .ensures .1))
 
 pub settle-spec : {M : Type 1} → statement M
 settle-spec =
@@ -137,18 +129,12 @@ settle-spec =
     same-length-8
     same-length-9
     same-length-10
+    returns-2
     same-length-11
     same-length-12
     same-length-13
-    returns-2
     same-length-14
     same-length-15
     same-length-16
     same-length-17
-    same-length-18
-    same-length-19
-    same-length-20
-    same-length-21
-    same-length-22
-    same-length-23
     returns-3)

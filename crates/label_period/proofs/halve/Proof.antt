@@ -7,6 +7,7 @@ use lib.ListN.{length}
 use Rattle.cut_circuit.specs.Packed.{packedOf}
 use Rattle.cut_question.specs.Separating.{AtRest}
 use Rattle.label_visit.specs.LabelVisits.{wiring, topsIn}
+use Rattle.label_lines.specs.LineLaws.{layout-wires}
 use Rattle.label_sweep.specs.Sweeps.{outsIn, delaysIn}
 use Rattle.label_period.specs.PeriodSearch.{Halved}
 use Rattle.label_period.specs.PeriodSearchLaws.{sized-less, ceilings-less, halves-less, halved-first, halved-next, halved-end}
@@ -19,21 +20,24 @@ Inv-loop s net slots₀ table₀ list₀ stack₀ counts₀ members₀ labels₀
 abbrev μ-loop : tie.MeasureT-loop
 μ-loop s net slots₀ table₀ list₀ stack₀ counts₀ members₀ labels₀ n k from low₀ high₀ slots table list stack counts members labels low high = high - low
 
+longest-line-requires : tie.Need-longest-line-requires Inv-loop μ-loop
+longest-line-requires c κs = (layout-wires (c .before .before .before .before .before .before .before .pre .0 .resting .layout), c .before .before .before .before .before .before .before .pre .1 .1 .0 .1, c .before .before .before .before .before .before .before .pre .1 .1 .1 .1)
+
 loop-holds : tie.Need-loop-holds Inv-loop μ-loop
-loop-holds c = (halved-first refl (c .before .before .before .before .before .before .before .pre .1 .1 .1 .0) (c .before .before .before .before .before .before .before .pre .1 .1 .1 .1) (c .before .before .before .before .before .before .before .pre .1 .1 .1 .2), c .before .before .before .before .before .before .before .pre .0, refl, refl, refl, refl, refl, refl, refl)
+loop-holds c = (halved-first (c .before .before .before .before .before .before .before .before .pre .1 .1 .1 .0) (c .before .before .before .before .before .before .before .before .pre .1 .1 .1 .2) (c .longest-line .ensures), c .before .before .before .before .before .before .before .before .pre .0, refl, refl, refl, refl, refl, refl, refl)
 
 sub-phi : tie.Need-sub-phi Inv-loop μ-loop
 sub-phi c = search needs
 
 add-phi : tie.Need-add-phi Inv-loop μ-loop
-add-phi c = record { fits = omega (arith, c .before .loop .inv .0 .most, c .before .before .before .before .before .before .before .before .before .pre .0 .resting .layout .slots, c .before .before .before .before .before .before .before .before .before .good) }
+add-phi c = record { fits = omega (arith, c .before .loop .inv .0 .most, c .before .before .before .before .before .before .before .before .before .before .pre .0 .resting .layout .slots, c .before .before .before .before .before .before .before .before .before .before .good) }
 
 reach-requires : tie.Need-reach-requires Inv-loop μ-loop
 reach-requires c κs =
-    (c .before .before .before .before .before .before .before .before .loop .inv .1, (c .before .before .before .before .before .before .before .before .before .before .before .before .before .before .before .before .pre .1 .0, (sized-less _ (omega (arith, c .before .before .before .before .before .before .before .loop-test .taken, c .before .before .before .before .before .before .before .before .loop .inv .0 .most)) (c .before .before .before .before .before .before .before .before .loop .inv .8) (c .before .before .before .before .before .before .before .before .before .before .before .before .before .before .before .before .pre .1 .1 .0 .0), c .before .before .before .before .before .before .before .before .before .before .before .before .before .before .before .before .pre .1 .1 .0 .1, ceilings-less _ (omega (arith, c .before .before .before .before .before .before .before .loop-test .taken, c .before .before .before .before .before .before .before .before .loop .inv .0 .most)) (c .before .before .before .before .before .before .before .before .before .before .before .before .before .before .before .before .pre .1 .1 .0 .2))))
+    (c .before .before .before .before .before .before .before .before .loop .inv .1, (c .before .before .before .before .before .before .before .before .before .before .before .before .before .before .before .before .before .pre .1 .0, (sized-less _ (omega (arith, c .before .before .before .before .before .before .before .loop-test .taken, c .before .before .before .before .before .before .before .before .loop .inv .0 .most)) (c .before .before .before .before .before .before .before .before .loop .inv .8) (c .before .before .before .before .before .before .before .before .before .before .before .before .before .before .before .before .before .pre .1 .1 .0 .0), c .before .before .before .before .before .before .before .before .before .before .before .before .before .before .before .before .before .pre .1 .1 .0 .1, ceilings-less _ (omega (arith, c .before .before .before .before .before .before .before .loop-test .taken, c .before .before .before .before .before .before .before .before .loop .inv .0 .most)) (c .before .before .before .before .before .before .before .before .before .before .before .before .before .before .before .before .before .pre .1 .1 .0 .2))))
 
 add-either : tie.Need-add-either Inv-loop μ-loop
-add-either c = record { fits = omega (arith, c .before .before .before .before .before .before .before .before .before .before .before .before .before .before .before .before .before .before .before .before .before .loop-test .taken, c .before .before .before .before .before .before .before .before .before .before .before .before .before .before .before .before .before .before .before .before .before .before .loop .inv .0 .most, c .before .before .before .before .before .before .before .before .before .before .before .before .before .before .before .before .before .before .before .before .before .before .before .before .before .before .before .before .before .before .pre .0 .resting .layout .slots, c .before .before .before .before .before .before .before .before .before .before .before .before .before .before .before .before .before .before .before .before .before .before .before .before .before .before .before .before .before .before .good) }
+add-either c = record { fits = omega (arith, c .before .before .before .before .before .before .before .before .before .before .before .before .before .before .before .before .before .before .before .before .before .loop-test .taken, c .before .before .before .before .before .before .before .before .before .before .before .before .before .before .before .before .before .before .before .before .before .before .loop .inv .0 .most, c .before .before .before .before .before .before .before .before .before .before .before .before .before .before .before .before .before .before .before .before .before .before .before .before .before .before .before .before .before .before .before .pre .0 .resting .layout .slots, c .before .before .before .before .before .before .before .before .before .before .before .before .before .before .before .before .before .before .before .before .before .before .before .before .before .before .before .before .before .before .before .good) }
 
 either-requires : tie.Need-either-requires Inv-loop μ-loop
 either-requires c κs = search needs
@@ -87,6 +91,7 @@ halve-spec =
     (tie.spec
     Inv-loop
     μ-loop
+    longest-line-requires
     loop-holds
     sub-phi
     add-phi

@@ -5,7 +5,7 @@ use lib.ListN.{length, take, drop}
 use Rattle.net_model.specs.PackedNet.{outsAt, delaysAt}
 use Rattle.net_model.specs.PackedNetLaws.{to-part, from-part}
 use Rattle.label_sweep.specs.Sweeps.{OutFits, outsIn}
-use Rattle.label_sweep.specs.Starting.{OutsMet}
+use Rattle.label_sweep.specs.Sweeps.{OutsMet}
 use borrow.Author.Needs.{needs}
 use Rattle.label_sweep.proofs.met.Statement.{statement}
 use Rattle.label_sweep.proofs.met.Tie as tie

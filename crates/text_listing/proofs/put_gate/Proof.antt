@@ -2,20 +2,23 @@
 use borrow.Author.Needs.{needs}
 use mathlib.Core.Path.{_≡_, sym, ap, ap₂, _∙_}
 use mathlib.Core.List.{List}
-use Prim.Native.Nat.{ℕ, _+_}
+use Prim.Native.Nat.{ℕ, _+_, _*_, _≤_}
 use native.Mathlib.Omega.{arith}
 use lib.IntN.{ℤ}
-use lib.ListN.{getD}
+use lib.ListN.{length, getD}
 use mir.Syntax.{w64}
 use mir.Val.{toZ, ofZ}
 use denote.Ref.{now}
 use Rattle.integers.specs.Lag.{lag}
-use Rattle.cover_records.specs.Kept.{Kept, kept, labelAt}
+use Rattle.cover_records.specs.Kept.{Kept, shortTable, labelAt}
+use Rattle.cover_records.specs.Rows.{keptIn}
+use Rattle.cover_records.specs.RowLaws.{size-at, row-lent, row-whole}
 use Rattle.signed.specs.Range.{Small, room}
 use Rattle.signed.specs.RangeLaws.{back, small-fits}
+use Rattle.net_model.specs.Arrays.{stride}
 use Rattle.cover_writer.specs.Writing.{LutHeld}
 use Rattle.text_digits.specs.Put.{Put}
-use Rattle.text_listing.specs.Text.{GateAsked, lineFront}
+use Rattle.text_listing.specs.Text.{GateAsked, lineFront, lineBack}
 use Rattle.cover_registers.specs.RegisterCountLaws.{lag-asked, lag-told, within-lag, within-small}
 use Rattle.text_digits.specs.PutLaws.{put-none, put-then, put-room, put-more, put-same}
 use Rattle.text_listing.specs.LineLaws.{line-none, line-some}
@@ -60,10 +63,9 @@ shared-slice-read-if1 c = search needs
 
 returns : tie.Need-returns
 returns c =
-    let start = c .before .before .before .before .before .before .before .before in
-    put-more 361 (omega arith) (put-same (sym
-    (line-none (kept (start .args .inputs) (start .args .gates) (start .args .period) (now (start .args .labels)) (now (start .args .marks)) (now (start .args .sizes))
-    (now (start .args .nodes)) (now (start .args .backs)) (now (start .args .tables))) (start .args .g) (c .if1 .taken))) (put-none (start .args .at) (now (start .args .out))))
+    let a = c .before .before .before .before .before .args in
+    let k = (keptIn (a .s .inputs) (a .s .gates) (a .s .period) (now (a .labels)) (now (a .rows)) (now (a .tables))) in
+    put-more 361 (omega arith) (put-same (sym (line-none k (a .g) (c .if1 .taken))) (put-none (a .at) (now (a .out))))
 
 add-root : tie.Need-add-root
 add-root c = search needs
@@ -77,13 +79,11 @@ shared-slice-copy-out-lag-of c = search needs
 lag-of-requires : tie.Need-lag-of-requires
 unfolding label
 lag-of-requires c κs =
-    let start = c .before .before .before .before .before .before .before .before .before in
-    let h = start .pre .arrays in
-    lag-asked (label (kept (start .args .inputs) (start .args .gates) (start .args .period) (now (start .args .labels)) (now (start .args .marks)) (now (start .args .sizes))
-    (now (start .args .nodes)) (now (start .args .backs)) (now (start .args .tables))) (start .args .g) (start .args .at) (start .pre) (c .before .if1 .left)) (start .args .period)
-    (lent (kept (start .args .inputs) (start .args .gates) (start .args .period) (now (start .args .labels)) (now (start .args .marks)) (now (start .args .sizes))
-    (now (start .args .nodes)) (now (start .args .backs)) (now (start .args .tables))) (start .args .g) (start .args .at) (start .pre) (c .before .if1 .left)) (h .least)
-    (h .period)
+    let start = c .before .before .before .before .before .before .before in
+    let a = start .args in
+    let k = (keptIn (a .s .inputs) (a .s .gates) (a .s .period) (now (a .labels)) (now (a .rows)) (now (a .tables))) in
+    let h = start .pre .0 .arrays in
+    lag-asked (label k (a .g) (a .at) (start .pre .0) (c .before .before .if1 .left)) (a .s .period) (lent k (a .g) (a .at) (start .pre .0) (c .before .before .if1 .left)) (h .least) (h .period)
 
 mul-put-front : tie.Need-mul-put-front
 mul-put-front c = search needs
@@ -94,23 +94,15 @@ shared-slice-copy-out-put-front c = search needs
 put-front-requires : tie.Need-put-front-requires
 unfolding label
 put-front-requires c κs =
-    let if1 = c .before .before .before .before .if1 in
-    let start = c .before .before .before .before .before .before .before .before .before .before .before .before in
-    let r = start .pre .room in (
-      (
-        rw (lent-label (kept (start .args .inputs) (start .args .gates) (start .args .period) (now (start .args .labels)) (now (start .args .marks)) (now (start .args .sizes))
-            (now (start .args .nodes)) (now (start .args .backs)) (now (start .args .tables))) (start .args .g) (start .args .at) (start .pre) (if1 .left))
-            (lent (kept (start .args .inputs) (start .args .gates) (start .args .period) (now (start .args .labels)) (now (start .args .marks)) (now (start .args .sizes))
-            (now (start .args .nodes)) (now (start .args .backs)) (now (start .args .tables))) (start .args .g) (start .args .at) (start .pre) (if1 .left)),
-        rw
-            (lagged (kept (start .args .inputs) (start .args .gates) (start .args .period) (now (start .args .labels)) (now (start .args .marks)) (now (start .args .sizes))
-            (now (start .args .nodes)) (now (start .args .backs)) (now (start .args .tables))) (start .args .g) (start .args .at) (start .pre) (if1 .left)
-            (c .before .before .lag-of .result) (c .before .before .lag-of .ensures))
-            (small-lag (kept (start .args .inputs) (start .args .gates) (start .args .period) (now (start .args .labels)) (now (start .args .marks)) (now (start .args .sizes))
-            (now (start .args .nodes)) (now (start .args .backs)) (now (start .args .tables))) (start .args .g) (start .args .at) (start .pre) (if1 .left)),
-      ),
-      omega arith,
-    )
+    let if1 = c .before .before .before .before .before .if1 in
+    let start = c .before .before .before .before .before .before .before .before .before .before in
+    let a = start .args in
+    let k = (keptIn (a .s .inputs) (a .s .gates) (a .s .period) (now (a .labels)) (now (a .rows)) (now (a .tables))) in
+    let r = start .pre .0 .room in
+    ((rw (lent-label k (a .g) (a .at) (start .pre .0) (if1 .left)) (lent k (a .g) (a .at) (start .pre .0) (if1 .left)), rw (lagged k (a .g) (a .at) (start .pre .0) (if1 .left) (c .before .before .lag-of .result) (c .before .before .lag-of .ensures)) (small-lag k (a .g) (a .at) (start .pre .0) (if1 .left))), omega arith)
+
+add-n : tie.Need-add-n
+add-n c = search needs
 
 mul-n : tie.Need-mul-n
 mul-n c = search needs
@@ -125,20 +117,61 @@ shared-slice-read-low : tie.Need-shared-slice-read-low
 shared-slice-read-low c = search needs
 
 low-requires : tie.Need-low-requires
-low-requires c κs = c .before .before .before .before .before .before .before .before .before .before .before .before .before .before .before .before .before .pre .luts .each (c .before .before .before .before .before .before .before .before .before .before .before .before .before .before .before .before .before .args .g) (c .before .before .before .before .before .before .before .before .before .before .before .before .before .before .before .before .before .pre .gate) (c .before .before .before .before .before .before .before .before .before .if1 .left) .few
+low-requires c κs =
+    let start = c .before .before .before .before .before .before .before .before .before .before .before .before .before .before .before .before in
+    let a = start .args in
+    let k = (keptIn (a .s .inputs) (a .s .gates) (a .s .period) (now (a .labels)) (now (a .rows)) (now (a .tables))) in
+    let f = held k (a .g) (a .at) (start .pre .0) (c .before .before .before .before .before .before .before .before .before .before .before .if1 .left) .few in
+    omega (arith, f, size-at (a .s .gates) (now (a .rows)) (a .g))
+
+mul-a : tie.Need-mul-a
+mul-a c = search needs
+
+add-b : tie.Need-add-b
+add-b c = search needs
+
+mul-b : tie.Need-mul-b
+mul-b c = search needs
 
 mul-put-back : tie.Need-mul-put-back
 mul-put-back c = search needs
 
+sub-put-back : tie.Need-sub-put-back
+sub-put-back c = search needs
+
+part-put-back-start : tie.Need-part-put-back-start
+part-put-back-start c = search needs
+
+part-put-back-end : tie.Need-part-put-back-end
+part-put-back-end c = search needs
+
+mul-put-back-2 : tie.Need-mul-put-back-2
+mul-put-back-2 c = search needs
+
+sub-put-back-2 : tie.Need-sub-put-back-2
+sub-put-back-2 c = search needs
+
+part-put-back-start-2 : tie.Need-part-put-back-start-2
+part-put-back-start-2 c = search needs
+
+part-put-back-end-2 : tie.Need-part-put-back-end-2
+part-put-back-end-2 c = search needs
+
+mul-put-back-3 : tie.Need-mul-put-back-3
+mul-put-back-3 c = search needs
+
 put-back-requires : tie.Need-put-back-requires
 unfolding label
 put-back-requires c κs =
-    let start = c .before .before .before .before .before .before .before .before .before .before .before .before .before .before .before .before .before .before .before in
-    let h = start .pre .arrays in
-    let i = start .pre .gate in
-    let f = held (kept (start .args .inputs) (start .args .gates) (start .args .period) (now (start .args .labels)) (now (start .args .marks)) (now (start .args .sizes))
-    (now (start .args .nodes)) (now (start .args .backs)) (now (start .args .tables))) (start .args .g) (start .args .at) (start .pre) (c .before .before .before .before .before .before .before .before .before .before .before .if1 .left) .few in
-    ((f, omega arith, omega arith), put-room 283 (c .before .before .before .before .before .before .put-front .ensures) (start .pre .room))
+    let start = c .before .before .before .before .before .before .before .before .before .before .before .before .before .before .before .before .before .before .before .before .before .before in
+    let a = start .args in
+    let k = (keptIn (a .s .inputs) (a .s .gates) (a .s .period) (now (a .labels)) (now (a .rows)) (now (a .tables))) in
+    let h = start .pre .0 .arrays in
+    let i = start .pre .0 .gate in
+    let f = held k (a .g) (a .at) (start .pre .0) (c .before .before .before .before .before .before .before .before .before .before .before .before .before .before .before .before .before .if1 .left) .few in (
+      row-lent (a .s .gates) (now (a .rows)) (λ (no ba : List ℕ) (n : ℕ). (n ≤ stride) × (stride * a .g + n ≤ length no) × (stride * a .g + n ≤ length ba)) (a .g) (f, omega arith, omega arith),
+      put-room 283 (c .before .before .before .before .before .before .before .before .before .before .before .put-front .ensures) (start .pre .0 .room),
+    )
 
 same-length : tie.Need-same-length
 same-length c = search needs
@@ -146,11 +179,16 @@ same-length c = search needs
 returns-2 : tie.Need-returns-2
 unfolding label
 returns-2 c =
-    let start = c .before .before .before .before .before .before .before .before .before .before .before .before .before .before .before .before .before .before .before .before .before .before in
-    let a = (kept (start .args .inputs) (start .args .gates) (start .args .period) (now (start .args .labels)) (now (start .args .marks)) (now (start .args .sizes))
-    (now (start .args .nodes)) (now (start .args .backs)) (now (start .args .tables))) in
-    put-same (sym (line-some a (start .args .g) (c .before .before .before .before .before .before .before .before .before .before .before .before .before .before .if1 .left)))
-    (put-then (front a (start .args .g) (start .args .at) (start .pre) (c .before .before .before .before .before .before .before .before .before .before .before .before .before .before .if1 .left) (c .before .before .before .before .before .before .before .before .before .before .before .before .lag-of .result) (c .before .before .before .before .before .before .before .before .before .before .before .before .lag-of .ensures) (c .before .before .before .before .before .before .before .before .before .put-front .ensures)) (rw (c .before .before .before .before .low .ensures) at (c .before .before .put-back .ensures)))
+    let put-front = c .before .before .before .before .before .before .before .before .before .before .before .before .before .before .put-front in
+    let lag-of = c .before .before .before .before .before .before .before .before .before .before .before .before .before .before .before .before .before .lag-of in
+    let if1 = c .before .before .before .before .before .before .before .before .before .before .before .before .before .before .before .before .before .before .before .before .if1 in
+    let start = c .before .before .before .before .before .before .before .before .before .before .before .before .before .before .before .before .before .before .before .before .before .before .before .before .before in
+    let a = start .args in
+    let k = (keptIn (a .s .inputs) (a .s .gates) (a .s .period) (now (a .labels)) (now (a .rows)) (now (a .tables))) in
+    put-same (sym (line-some k (a .g) (if1 .left)))
+    (put-then (front k (a .g) (a .at) (start .pre .0) (if1 .left) (lag-of .result) (lag-of .ensures) (put-front .ensures))
+    (row-whole (a .s .gates) (now (a .rows)) (λ (no ba : List ℕ) (n : ℕ). Put 283 (put-front .result) (lineBack n (shortTable n (getD (now (a .tables)) (a .g) 0)) no ba (stride * a .g)) (put-front .last .1 .1 .1 .1 .0) (c .before .before .put-back .last .1 .1 .1 .1 .1 .1 .0) (c .before .before .put-back .result)) (a .g)
+    (rw (c .before .before .before .before .before .before .before .before .low .ensures) at (c .before .before .put-back .ensures))))
 
 pub put-gate-spec : {M : Type 1} → statement M
 put-gate-spec =
@@ -166,12 +204,24 @@ put-gate-spec =
     mul-put-front
     shared-slice-copy-out-put-front
     put-front-requires
+    add-n
     mul-n
     shared-slice-read-n
     mul-low
     shared-slice-read-low
     low-requires
+    mul-a
+    add-b
+    mul-b
     mul-put-back
+    sub-put-back
+    part-put-back-start
+    part-put-back-end
+    mul-put-back-2
+    sub-put-back-2
+    part-put-back-start-2
+    part-put-back-end-2
+    mul-put-back-3
     put-back-requires
     same-length
     returns-2)

@@ -1,20 +1,17 @@
+-- `label_start::fill` meets its contract. The loop's invariant: z stands from the first place up to i.
 use mir.Val.{toZ, ofZ}
 use mir.Syntax.{w64}
-use Rattle.label_sweep.specs.StartingLaws.{filled-of, filled-none, filled-next, filled-at}
-use Rattle.label_sweep.specs.Sweeps.{Filled}
+use Rattle.label_start.specs.StartLaws.{filled-of, filled-none, filled-next, filled-at}
+use Rattle.label_start.specs.Starts.{Filled}
 use borrow.Author.Needs.{needs}
-use Rattle.signed.specs.Range.{labelIn, Small, room}
-use Rattle.signed.specs.RangeLaws.{back, fits-of, small-fits, minus-mag, plus-mag}
-use Prim.Native.Nat.{ℕ, _+_, _-_, _*_, _≤_, _<_}
-use lib.ListN.{length, getD, set}
+use Rattle.signed.specs.RangeLaws.{back}
+use Prim.Native.Nat.{_-_, _≤_}
+use lib.ListN.{length}
 use denote.Ref.{now}
 use native.Mathlib.Omega.{arith}
-use lib.IntN.{ℤ, pos, _+ℤ_, _-ℤ_}
-use mathlib.Core.Path.{_≡_, refl, sym, ap, _∙_, subst}
-use Rattle.label_sweep.proofs.fill.Statement.{statement}
-use Rattle.label_sweep.proofs.fill.Tie as tie
-use Rattle.label_sweep.proofs.fill.Reads as reads
-use Rattle.label_sweep.proofs.fill.Lts as lts
+use mathlib.Core.Path.{refl}
+use Rattle.label_start.proofs.fill.Statement.{statement}
+use Rattle.label_start.proofs.fill.Tie as tie
 
 abbrev Inv-loop : tie.InvT-loop
 Inv-loop labels₀ from to z i₀ labels i = (from ≤ i) × (i ≤ to) × (to ≤ length labels₀) × Filled labels₀ labels from i (toZ w64 z)
@@ -22,35 +19,27 @@ Inv-loop labels₀ from to z i₀ labels i = (from ≤ i) × (i ≤ to) × (to �
 abbrev μ-loop : tie.MeasureT-loop
 μ-loop labels₀ from to z i₀ labels i = to - i
 
--- src/lib.rt:294:5
 loop-holds : tie.Need-loop-holds Inv-loop μ-loop
 loop-holds c = (omega arith, c .pre .0, c .pre .1, filled-none (now (c .args .labels)) (c .args .from) (toZ w64 (ofZ w64 (c .args .z))))
 
--- src/lib.rt:295:9
 mul-z : tie.Need-mul-z Inv-loop μ-loop
 mul-z c = search needs
 
--- src/lib.rt:295:9
 slice-set-from-z : tie.Need-slice-set-from-z Inv-loop μ-loop
 slice-set-from-z c = let e = c .before .loop .inv .3 .size in let a = c .before .loop .inv .2 in search needs
 
--- src/lib.rt:296:9
 add-i : tie.Need-add-i Inv-loop μ-loop
 add-i c = let a = c .before .loop .inv .2 in search needs
 
--- src/lib.rt:294:5
 loop-less : tie.Need-loop-less Inv-loop μ-loop
 loop-less c = omega arith
 
--- src/lib.rt:294:5
 loop-again : tie.Need-loop-again Inv-loop μ-loop
 loop-again c = (omega arith, omega arith, c .before .loop .inv .2, filled-next refl (c .before .loop .inv .0) (let a = c .before .loop .inv .2 in omega arith) (c .before .loop .inv .3))
 
--- src/lib.rt:289:1
 same-length : tie.Need-same-length Inv-loop μ-loop
 same-length c = c .before .loop .inv .3 .size
 
--- src/lib.rt:289:1
 returns : tie.Need-returns Inv-loop μ-loop
 returns c = filled-of (back (c .before .before .args .z) (c .before .before .fits .z)) (filled-at (omega arith) (c .before .loop .inv .3))
 
