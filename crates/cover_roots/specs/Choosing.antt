@@ -9,7 +9,8 @@ use Rattle.net_model.specs.Checks.{Sound, Loopless}
 use Rattle.net_model.specs.Arrays.{stride, pinsIn, copiesFrom}
 use Rattle.cone_theory.specs.Ranks.{Ranked}
 use Rattle.cone_theory.specs.Reach.{reachOf}
-use Rattle.cover_theory.specs.Key.{Key, Root}
+use Rattle.label_theory.specs.Labels.{Mode}
+use Rattle.cover_theory.specs.Key.{KeyIn, Root}
 use Rattle.cover_records.specs.Rows.{rowRoom}
 use Rattle.signed.specs.Range.{Small, room, labelIn}
 use Rattle.cut_circuit.specs.Circuit.{Circuit, total}
@@ -35,9 +36,9 @@ pub record Chooses (C : Circuit) (ls : List ℤ) (φ k : ℕ) (rows : List ℕ) 
   pub unmarked : (g : ℕ) → g < C .gates → getD rows g 0 ≡ 0
 
 -- A net with this wiring whose cuts the border leaves room for, and a key of it with these labels.
-pub record Keyed (C : Circuit) (ls : List ℤ) (φ k : ℕ) : Type 0 where
+pub record Keyed (M : Mode) (C : Circuit) (ls : List ℤ) (φ k : ℕ) : Type 0 where
   pub net : Net
-  pub key : Key net k φ
+  pub key : KeyIn M net k φ
   pub holds : Holds C net
   pub ranked : Ranked net
   pub loopless : Loopless net
@@ -50,8 +51,8 @@ abbrev pub Reads : Net → List ℕ → ℕ → Type 0
 Reads N os n = (counts : List ℕ) × (N .outputs ≡ pinsIn os counts 0 n)
 
 -- The marked gates are the chosen roots, and each has the number of its chosen cut's leaves and these leaves at its places.
-pub record RootsTold (C : Circuit) (ls : List ℤ) (os : List ℕ) (n φ k : ℕ) (marks sizes nodes backs : List ℕ) : Type 0 where
-  pub root : (c : Keyed C ls φ k) → Reads (c .net) os n → (g : ℕ) → g < C .gates → ¬ (getD marks g 0 ≡ 0) → Root (c .net) (c .key .leaves) (C .inputs + g)
-  pub all : (c : Keyed C ls φ k) → Reads (c .net) os n → (g : ℕ) → g < C .gates → Root (c .net) (c .key .leaves) (C .inputs + g) → ¬ (getD marks g 0 ≡ 0)
-  pub leaves : (c : Keyed C ls φ k) → (g : ℕ) → g < C .gates → ¬ (getD marks g 0 ≡ 0) → copiesFrom nodes backs (stride * g) (getD sizes g 0) ≡ c .key .leaves (C .inputs + g)
-  pub size : (c : Keyed C ls φ k) → (g : ℕ) → g < C .gates → ¬ (getD marks g 0 ≡ 0) → getD sizes g 0 ≤ k
+pub record RootsTold (M : Mode) (C : Circuit) (ls : List ℤ) (os : List ℕ) (n φ k : ℕ) (marks sizes nodes backs : List ℕ) : Type 0 where
+  pub root : (c : Keyed M C ls φ k) → Reads (c .net) os n → (g : ℕ) → g < C .gates → ¬ (getD marks g 0 ≡ 0) → Root (c .net) (c .key .leaves) (C .inputs + g)
+  pub all : (c : Keyed M C ls φ k) → Reads (c .net) os n → (g : ℕ) → g < C .gates → Root (c .net) (c .key .leaves) (C .inputs + g) → ¬ (getD marks g 0 ≡ 0)
+  pub leaves : (c : Keyed M C ls φ k) → (g : ℕ) → g < C .gates → ¬ (getD marks g 0 ≡ 0) → copiesFrom nodes backs (stride * g) (getD sizes g 0) ≡ c .key .leaves (C .inputs + g)
+  pub size : (c : Keyed M C ls φ k) → (g : ℕ) → g < C .gates → ¬ (getD marks g 0 ≡ 0) → getD sizes g 0 ≤ k

@@ -8,14 +8,15 @@ use Rattle.net_model.specs.Copies.{Copy}
 use Rattle.net_model.specs.Arrays.{stride, copiesFrom}
 use Rattle.cover_theory.specs.Key.{Root}
 use Rattle.cover_records.specs.Rows.{sizesIn, nodesIn, backsIn}
+use Rattle.label_theory.specs.Labels.{Mode}
 use Rattle.cut_circuit.specs.Circuit.{Circuit}
 use Rattle.cover_roots.specs.Choosing.{Keyed, Reads}
 use Rattle.cover_roots.specs.RootMarks.{Among, Marks}
 
 -- The first r numbers of two lists are the leaves of gate g's chosen cut.
-pub record CutWritten (C : Circuit) (ls : List ℤ) (φ k g : ℕ) (nodes backs : List ℕ) (r : ℕ) : Type 0 where
-  pub few : Keyed C ls φ k → r ≤ k
-  pub leaves : (c : Keyed C ls φ k) → copiesFrom nodes backs 0 r ≡ c .key .leaves (C .inputs + g)
+pub record CutWritten (M : Mode) (C : Circuit) (ls : List ℤ) (φ k g : ℕ) (nodes backs : List ℕ) (r : ℕ) : Type 0 where
+  pub few : Keyed M C ls φ k → r ≤ k
+  pub leaves : (c : Keyed M C ls φ k) → copiesFrom nodes backs 0 r ≡ c .key .leaves (C .inputs + g)
 
 -- of a part that ends at a place, only the places of one gate, from place `at` on, may differ
 pub record Beside (at end : ℕ) (xs ys : List ℕ) : Type 0 where
@@ -53,11 +54,11 @@ pub record Stored (I G k g r : ℕ) (nodes backs old new : List ℕ) : Type 0 wh
   pub marking : Marks (LeafGate I G k r nodes) mid new
 
 -- The cut is taken and gate g is done.
-pub record Taken (C : Circuit) (ls : List ℤ) (φ k g : ℕ) (old new : List ℕ) : Type 0 where
+pub record Taken (M : Mode) (C : Circuit) (ls : List ℤ) (φ k g : ℕ) (old new : List ℕ) : Type 0 where
   pub count : ℕ
   pub nodes : List ℕ
   pub backs : List ℕ
-  pub cut : CutWritten C ls φ k g nodes backs count
+  pub cut : CutWritten M C ls φ k g nodes backs count
   pub stored : Stored (C .inputs) (C .gates) k g count nodes backs old new
 
 -- The leaves of gate g are L, and those that are gates are marked.
@@ -67,8 +68,8 @@ pub record Done (I G k g : ℕ) (L : List Copy) (rows : List ℕ) : Type 0 where
   pub closed : (u : ℕ) → Among I G (nodesIn G rows) (stride * g) (stride * g + getD (sizesIn G rows) g 0) u → ¬ (getD rows u 0 ≡ 0)
 
 -- The marked gates are roots. Those that are done have their leaves, and all gates that these and the outputs read are marked.
-pub record Choosing (C : Circuit) (ls : List ℤ) (os : List ℕ) (n φ k : ℕ) (rows : List ℕ) : Type 0 where
+pub record Choosing (M : Mode) (C : Circuit) (ls : List ℤ) (os : List ℕ) (n φ k : ℕ) (rows : List ℕ) : Type 0 where
   pub most : (g : ℕ) → g < C .gates → getD rows g 0 ≤ 2
   pub sources : (g : ℕ) → Among (C .inputs) (C .gates) os 0 n g → ¬ (getD rows g 0 ≡ 0)
-  pub root : (c : Keyed C ls φ k) → Reads (c .net) os n → (g : ℕ) → g < C .gates → ¬ (getD rows g 0 ≡ 0) → Root (c .net) (c .key .leaves) (C .inputs + g)
-  pub done : (c : Keyed C ls φ k) → (g : ℕ) → g < C .gates → getD rows g 0 ≡ 2 → Done (C .inputs) (C .gates) k g (c .key .leaves (C .inputs + g)) rows
+  pub root : (c : Keyed M C ls φ k) → Reads (c .net) os n → (g : ℕ) → g < C .gates → ¬ (getD rows g 0 ≡ 0) → Root (c .net) (c .key .leaves) (C .inputs + g)
+  pub done : (c : Keyed M C ls φ k) → (g : ℕ) → g < C .gates → getD rows g 0 ≡ 2 → Done (C .inputs) (C .gates) k g (c .key .leaves (C .inputs + g)) rows

@@ -1,6 +1,6 @@
 -- Laws of the choice of roots.
 use mathlib.Core.Path.{_≡_, refl, sym, ap, subst, _∙_}
-use mathlib.Core.List.{List}
+use mathlib.Core.List.{List, []}
 use Prim.Native.Nat.{ℕ, _+_, _-_, _*_, _≤_, _<_}
 use native.Mathlib.Nat.{zero-add}
 use native.Mathlib.Decide.{ℕ-discrete, decLt}
@@ -27,13 +27,20 @@ use Rattle.cover_roots.specs.KeyCut.{told-few, told-leaves, copies-same}
 use Rattle.cover_roots.specs.RootRounds.{CutWritten, Beside, LeavesKept, RowKept, LeafGate, Stored, Taken, Done, Choosing}
 use Rattle.signed.specs.Range.{labelIn}
 use Rattle.cut_question.specs.Question.{Decides, Written}
-use Rattle.cut_forced.specs.Forcing.{wiresOf}
+use Rattle.label_theory.specs.Labels.{Mode}
+use Rattle.label_aim.specs.Aims.{Bordering}
+use Rattle.label_aim.specs.AimLaws.{bordering-is}
+use Rattle.cut_circuit.specs.Packed.{packedOf}
+use Rattle.cut_circuit.specs.declared.Extent.{Extent}
 
 -- ---- what one root adds
 
-pub cut-written : {C : Circuit} {ls : List ℤ} {φ k : ℕ} (g : ℕ) {h : ℤ} {r : ℕ} {nodes backs : List ℕ} → g < C .gates
-    → Decides C ls φ k g h r → Written C ls φ k g h nodes backs r → h ≡ labelIn ls (C .inputs + g) → CutWritten (wiresOf C) ls φ k g nodes backs r
-cut-written {C} g l a w z = record { few = λ c. told-few C g l c z a; leaves = λ c. told-leaves C g l c z a w }
+pub cut-written : {M : Mode} {s e : Extent} {net slots : List ℕ} {ls : List ℤ} {φ k : ℕ} (g : ℕ) {h : ℤ} {r : ℕ} {nodes backs : List ℕ} → g < s .gates → Bordering M φ h s e
+    → Decides (packedOf e net slots) ls φ k g h r → Written (packedOf e net slots) ls φ k g h nodes backs r → h ≡ labelIn ls (s .inputs + g) → CutWritten M (packedOf s net []) ls φ k g nodes backs r
+cut-written {M} {s} {e} {net} {slots} {ls} {φ} {k} g {h} {r} {nodes} {backs} l B a w z =
+    let a′ = subst (λ (x : Extent). Decides (packedOf x net slots) ls φ k g h r) (bordering-is B) a in
+    let w′ = subst (λ (x : Extent). Written (packedOf x net slots) ls φ k g h nodes backs r) (bordering-is B) w in
+    record { few = λ c. told-few s net slots (e .border) g l c z (B .border) a′; leaves = λ c. told-leaves s net slots (e .border) g l c z (B .border) a′ w′ }
 
 -- no leaves
 pub stored-none : {I G k g r : ℕ} {nodes backs rows : List ℕ} → k < r → g < G → rowRoom G ≤ length rows → Stored I G k g r nodes backs rows (set rows g 2)
@@ -140,9 +147,9 @@ leaf-marked {G = G} {u = u} {rows = rows} {y} d m g p =
     })
 
 -- the outputs' sources are marked
-pub choosing-first : {C : Circuit} {ls : List ℤ} {os : List ℕ} {n φ k : ℕ} {rows marks′ : List ℕ} → Chooses C ls φ k rows
-    → Marks (Among (C .inputs) (C .gates) os 0 n) rows marks′ → Choosing C ls os n φ k marks′
-choosing-first {C} {ls} {os} {n} {φ} {k} {marks′ = marks′} a m = record {
+pub choosing-first : {M : Mode} {C : Circuit} {ls : List ℤ} {os : List ℕ} {n φ k : ℕ} {rows marks′ : List ℕ} → Chooses C ls φ k rows
+    → Marks (Among (C .inputs) (C .gates) os 0 n) rows marks′ → Choosing M C ls os n φ k marks′
+choosing-first {M} {C} {ls} {os} {n} {φ} {k} {marks′ = marks′} a m = record {
   most = λ g h. most g h (ℕ-discrete (getD marks′ g 0) 0);
   sources = m .marked;
   root = root;
@@ -156,13 +163,13 @@ choosing-first {C} {ls} {os} {n} {φ} {k} {marks′ = marks′} a m = record {
     two : (g : ℕ) → g < C .gates → getD marks′ g 0 ≡ 2 → ⊥
     two g h e = let r = m .new g (a .unmarked g h) (λ z. omega (arith, e, z)) in omega (arith, r .0, e)
 
-    root : (c : Keyed C ls φ k) → Reads (c .net) os n → (g : ℕ) → g < C .gates → ¬ (getD marks′ g 0 ≡ 0) → Root (c .net) (c .key .leaves) (C .inputs + g)
+    root : (c : Keyed M C ls φ k) → Reads (c .net) os n → (g : ℕ) → g < C .gates → ¬ (getD marks′ g 0 ≡ 0) → Root (c .net) (c .key .leaves) (C .inputs + g)
     root c (oc, e) g h z =
         let p = m .new g (a .unmarked g h) z .1 in
         source (pinAt os oc (p .place)) (subst (λ (l : List Pin). pinAt os oc (p .place) ∈ l) (sym e) (in-equal (ap (pinAt os oc) (sym (zero-add (p .place)))) (in-pinsIn os oc 0 n (p .place) (p .high))))
         (p .isAt .node) (gate-of (c .holds) g h)
 
-module _ {C : Circuit} {ls : List ℤ} {φ k g : ℕ} {rows rows′ : List ℕ} (h : g < C .gates) (one : getD rows g 0 ≡ 1) (t : Taken C ls φ k g rows rows′) where
+module _ {M : Mode} {C : Circuit} {ls : List ℤ} {φ k g : ℕ} {rows rows′ : List ℕ} (h : g < C .gates) (one : getD rows g 0 ≡ 1) (t : Taken M C ls φ k g rows rows′) where
   abbrev G : ℕ
   G = C .gates
 
@@ -247,7 +254,7 @@ module _ {C : Circuit} {ls : List ℤ} {φ k g : ℕ} {rows rows′ : List ℕ} 
         isAt = subst (λ (x : ℕ). IsAt (C .inputs) G x v) (node (p .place) (p .low) hi) (p .isAt);
       }
 
-  module _ {os : List ℕ} {n : ℕ} (few : k ≤ stride) (a : Choosing C ls os n φ k rows) where
+  module _ {os : List ℕ} {n : ℕ} (few : k ≤ stride) (a : Choosing M C ls os n φ k rows) where
     next-most : (u : ℕ) → u < G → getD rows′ u 0 ≤ 2
     next-most u l = go (ℕ-discrete u g) (ℕ-discrete (getD rows u 0) 0) (ℕ-discrete (getD rows′ u 0) 0)
       where
@@ -257,7 +264,7 @@ module _ {C : Circuit} {ls : List ℤ} {φ k g : ℕ} {rows rows′ : List ℕ} 
         go (no m) (yes z) (yes w) = omega (arith, w)
         go (no m) (yes z) (no w) = omega (arith, after-new u l m z w .0)
 
-    next-root : (c : Keyed C ls φ k) → Reads (c .net) os n → (u : ℕ) → u < G → ¬ (getD rows′ u 0 ≡ 0) → Root (c .net) (c .key .leaves) (C .inputs + u)
+    next-root : (c : Keyed M C ls φ k) → Reads (c .net) os n → (u : ℕ) → u < G → ¬ (getD rows′ u 0 ≡ 0) → Root (c .net) (c .key .leaves) (C .inputs + u)
     next-root c o u l w = go (ℕ-discrete u g) (ℕ-discrete (getD rows u 0) 0)
       where
         go : Dec (u ≡ g) → Dec (getD rows u 0 ≡ 0) → Root (c .net) (c .key .leaves) (C .inputs + u)
@@ -269,7 +276,7 @@ module _ {C : Circuit} {ls : List ℤ} {φ k g : ℕ} {rows rows′ : List ℕ} 
             (subst (λ (L : List Copy). copyAt (t .nodes) (t .backs) (p .place) ∈ L) (t .cut .leaves c) (in-copiesFrom (t .nodes) (t .backs) 0 (t .count) (p .place) (p .low) (omega (arith, p .high))))
             (p .isAt .node) (gate-of (c .holds) u l)
 
-    next-done : (c : Keyed C ls φ k) → (u : ℕ) → u < G → getD rows′ u 0 ≡ 2 → Done (C .inputs) G k u (c .key .leaves (C .inputs + u)) rows′
+    next-done : (c : Keyed M C ls φ k) → (u : ℕ) → u < G → getD rows′ u 0 ≡ 2 → Done (C .inputs) G k u (c .key .leaves (C .inputs + u)) rows′
     next-done c u l w = go (ℕ-discrete u g) (ℕ-discrete (getD rows u 0) 0)
       where
         r : t .count ≤ k
@@ -314,17 +321,17 @@ module _ {C : Circuit} {ls : List ℤ} {φ k g : ℕ} {rows rows′ : List ℕ} 
         go (no m) (yes z) = absurd (omega (arith, w, after-new u l m z (λ q. omega (arith, q, w)) .0))
         go (no m) (no z) = other-done u l m few (a .done c u l (sym (after-other u l m z) ∙ w))
 
-    pub choosing-next : Choosing C ls os n φ k rows′
+    pub choosing-next : Choosing M C ls os n φ k rows′
     choosing-next = record { most = next-most; sources = λ u p. stays u (p .isAt .gate) (a .sources u p); root = next-root; done = next-done }
 
 -- ---- the end
 
-module _ {C : Circuit} {ls : List ℤ} {os : List ℕ} {n φ k : ℕ} {rows : List ℕ} (a : Choosing C ls os n φ k rows)
+module _ {M : Mode} {C : Circuit} {ls : List ℤ} {os : List ℕ} {n φ k : ℕ} {rows : List ℕ} (a : Choosing M C ls os n φ k rows)
     (none : (g : ℕ) → g < C .gates → ¬ (getD rows g 0 ≡ 1)) where
-  is-done : (c : Keyed C ls φ k) → (g : ℕ) → g < C .gates → ¬ (getD rows g 0 ≡ 0) → Done (C .inputs) (C .gates) k g (c .key .leaves (C .inputs + g)) rows
+  is-done : (c : Keyed M C ls φ k) → (g : ℕ) → g < C .gates → ¬ (getD rows g 0 ≡ 0) → Done (C .inputs) (C .gates) k g (c .key .leaves (C .inputs + g)) rows
   is-done c g h z = let m = a .most g h in let o = none g h in a .done c g h (omega (arith, m, o, z))
 
-  root-marked : (c : Keyed C ls φ k) → Reads (c .net) os n → {v : ℕ} → Root (c .net) (c .key .leaves) v → (g : ℕ) → IsAt (C .inputs) (C .gates) v g → ¬ (getD rows g 0 ≡ 0)
+  root-marked : (c : Keyed M C ls φ k) → Reads (c .net) os n → {v : ℕ} → Root (c .net) (c .key .leaves) v → (g : ℕ) → IsAt (C .inputs) (C .gates) v g → ¬ (getD rows g 0 ≡ 0)
   root-marked c (oc, e) (source o i s gate) g p =
       let r = pinsIn-in os oc 0 n o (subst (λ (l : List Pin). o ∈ l) e i) in
       a .sources g (record {
@@ -340,7 +347,7 @@ module _ {C : Circuit} {ls : List ℤ} {os : List ℕ} {n φ k : ℕ} {rows : Li
       leaf-marked d (subst (λ (L : List Copy). y ∈ L) (ap (c .key .leaves) (w .node)) m) g (record { node = s ∙ p .node; gate = p .gate })
 
   -- **No root is pending: the marked gates are the chosen roots.**
-  pub choosing-last : RootsTold C ls os n φ k rows (sizesIn (C .gates) rows) (nodesIn (C .gates) rows) (backsIn (C .gates) rows)
+  pub choosing-last : RootsTold M C ls os n φ k rows (sizesIn (C .gates) rows) (nodesIn (C .gates) rows) (backsIn (C .gates) rows)
   choosing-last = record {
     root = a .root;
     all = λ c o g h r. root-marked c o r g (record { node = refl; gate = h });

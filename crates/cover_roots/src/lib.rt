@@ -2,9 +2,12 @@
 use cut_circuit::Extent;
 use cut_forced::Query;
 use cut_question::chosen;
-use label_visit::Aim;
+use label_aim::Aim;
+use label_aim::narrowed;
 use limits::PINS;
 use net_marks::store;
+ghost use mathlib.Core.Path.{_≡_};
+ghost use mathlib.Core.Bool.{false};
 ghost use mathlib.Core.List.{[]};
 ghost use Prim.Native.Nat.{_≤_, _<_};
 ghost use lib.ListN.{length};
@@ -13,6 +16,7 @@ ghost use Rattle.net_model.specs.PackedNet.{packedRoom};
 ghost use Rattle.cover_records.specs.Rows.{sizesIn, nodesIn, backsIn, rowRoom};
 ghost use Rattle.cut_circuit.specs.Packed.{packedOf};
 ghost use Rattle.cut_question.specs.Separating.{AtRest};
+ghost use Rattle.label_aim.specs.Aims.{modeOf};
 ghost use Rattle.label_sweep.specs.Sweeps.{outsIn};
 ghost use Rattle.cover_roots.specs.Choosing.{Asking, Chooses, RootsTold};
 ghost use Rattle.cover_roots.specs.RootMarks.{IsAt, Among, Marks, Pending};
@@ -129,12 +133,13 @@ fn take(
     g: usize,
 )
     requires { ⌜ AtRest (packedOf s (now net) (now slots)) (now table) (now list) (now stack) (now counts) (now members) ⌝ }
-    requires { ⌜ Asking (packedOf s (now net) []) (now labels) (a .phi) (a .k) × (g < s .gates) × (rowRoom (s .gates) ≤ length (now rows)) ⌝ }
+    requires { ⌜ Asking (packedOf s (now net) []) (now labels) (a .phi) (a .k) × (g < s .gates) × (rowRoom (s .gates) ≤ length (now rows)) × (a .trial ≡ false) ⌝ }
     ensures rest { λ _. ⌜ AtRest (packedOf s (now (net .entry)) (now (slots .exit))) (now (table .exit)) (now (list .exit)) (now (stack .exit)) (now (counts .exit)) (now (members .exit)) ⌝ }
-    ensures taken { λ _. ⌜ Taken (packedOf s (now (net .entry)) []) (now (labels .entry)) (a .phi) (a .k) g (now (rows .entry)) (now (rows .exit)) ⌝ }
+    ensures taken { λ _. ⌜ Taken (modeOf (a .forward)) (packedOf s (now (net .entry)) []) (now (labels .entry)) (a .phi) (a .k) g (now (rows .entry)) (now (rows .exit)) ⌝ }
 {
     let v = s.inputs + g;
     let h = labels[v];
+    let e = narrowed(s, a, h);
     let q = Query {
         phi: a.phi,
         k: a.k,
@@ -144,7 +149,7 @@ fn take(
     let mut nodes = [0usize; PINS];
     let mut backs = [0usize; PINS];
     let r = chosen(
-        s,
+        e,
         net,
         slots,
         table,
@@ -175,10 +180,10 @@ pub fn choose(
     rows: &mut [usize],
 )
     requires { ⌜ AtRest (packedOf s (now net) (now slots)) (now table) (now list) (now stack) (now counts) (now members) ⌝ }
-    requires { ⌜ packedRoom (s .inputs) (s .gates) (a .outputs) ≤ length (now net) ⌝ }
+    requires { ⌜ (packedRoom (s .inputs) (s .gates) (a .outputs) ≤ length (now net)) × (a .trial ≡ false) ⌝ }
     requires { ⌜ Chooses (packedOf s (now net) []) (now labels) (a .phi) (a .k) (now rows) ⌝ }
     ensures rest { λ _. ⌜ AtRest (packedOf s (now (net .entry)) (now (slots .exit))) (now (table .exit)) (now (list .exit)) (now (stack .exit)) (now (counts .exit)) (now (members .exit)) ⌝ }
-    ensures chosen { λ _. ⌜ RootsTold (packedOf s (now (net .entry)) []) (now (labels .entry)) (outsIn s (now (net .entry))) (a .outputs) (a .phi) (a .k) (now (rows .exit)) (sizesIn (s .gates) (now (rows .exit))) (nodesIn (s .gates) (now (rows .exit))) (backsIn (s .gates) (now (rows .exit))) ⌝ }
+    ensures chosen { λ _. ⌜ RootsTold (modeOf (a .forward)) (packedOf s (now (net .entry)) []) (now (labels .entry)) (outsIn s (now (net .entry))) (a .outputs) (a .phi) (a .k) (now (rows .exit)) (sizesIn (s .gates) (now (rows .exit))) (nodesIn (s .gates) (now (rows .exit))) (backsIn (s .gates) (now (rows .exit))) ⌝ }
 {
     mark_outputs(s, net, a.outputs, rows);
     let mut g = pending(rows, s.gates);

@@ -13,6 +13,7 @@ use lib.Signed.{_≤ℤ_, _<ℤ_, ≤ℤ-refl}
 use Rattle.limits.specs.Limits.{mostNodes}
 use Rattle.integers.specs.Parts.{ints, +-parts, sub-parts}
 use Rattle.net_model.specs.Net.{Net, IsGate, IsInput}
+use Rattle.label_theory.specs.Labels.{Mode}
 use Rattle.label_theory.specs.Lower.{input-or-gate}
 use Rattle.label_theory.specs.Near.{Rose}
 use Rattle.label_theory.specs.NearLaws.{bound-near, near-bound, jump}
@@ -125,8 +126,8 @@ pub all-at : {old sv ls : List ℤ} {from i j d : ℕ} → i ≡ j → AllRose o
 all-at {old} {sv} {ls} {from} {d = d} e a = subst (λ (x : ℕ). AllRose old sv ls from x d) e a
 
 -- ---- **a trial accepted refutes**
-module _ {C : Circuit} {k : ℕ} {tops : List ℕ} {old ls sv m m′ : List ℤ} {d : ℕ} where
-  rose-all : {N : Net} → Suits C k tops N → ((u : ℕ) → u < C .inputs + C .gates → labelIn sv u ≡ labelIn ls u) → Hoisted old ls m (C .inputs) (C .inputs + C .gates) d
+module _ {M : Mode} {C : Circuit} {k : ℕ} {tops : List ℕ} {old ls sv m m′ : List ℤ} {d : ℕ} where
+  rose-all : {N : Net} → Suits M C k tops N → ((u : ℕ) → u < C .inputs + C .gates → labelIn sv u ≡ labelIn ls u) → Hoisted old ls m (C .inputs) (C .inputs + C .gates) d
       → AllRose old sv m′ (C .inputs) (C .inputs + C .gates) d → Rose N (labelIn ls) (labelIn m) (labelIn m′) d
   rose-all {N} S e h r v n = go (input-or-gate N v n)
     where
@@ -147,33 +148,33 @@ module _ {C : Circuit} {k : ℕ} {tops : List ℕ} {old ls sv m m′ : List ℤ}
           gate (inl q) = inl (same q)
           gate (inr (a, n)) = inr (n .most, subst (λ (x : ℤ). labelIn old v <ℤ x → (x +ℤ pos d) <ℤ labelIn m′ v) (e v high) (r .at v low high .further) a)
 
-module _ {C : Circuit} {k φ : ℕ} {tops : List ℕ} {old ls sv m m′ : List ℤ} {d : ℕ} where
-  trial-bounds : ((u : ℕ) → u < C .inputs + C .gates → labelIn sv u ≡ labelIn ls u) → Hoisted old ls m (C .inputs) (C .inputs + C .gates) d → Kept C k φ m m′
-      → AllRose old sv m′ (C .inputs) (C .inputs + C .gates) d → Bounds C k φ tops ls → Bounds C k φ tops m′
+module _ {M : Mode} {C : Circuit} {k φ : ℕ} {tops : List ℕ} {old ls sv m m′ : List ℤ} {d : ℕ} where
+  trial-bounds : ((u : ℕ) → u < C .inputs + C .gates → labelIn sv u ≡ labelIn ls u) → Hoisted old ls m (C .inputs) (C .inputs + C .gates) d → Kept M d C k φ m m′
+      → AllRose old sv m′ (C .inputs) (C .inputs + C .gates) d → Bounds M C k φ tops ls → Bounds M C k φ tops m′
   trial-bounds e h K r b N S =
       near-bound (λ u i. let q : u < C .inputs = let t = S .holds .inputs in omega arith in K .inputs u q ∙ (h .before u q ∙ b N S .inputs u i))
-      (jump d (bound-near (b N S)) (rose-all S e h r) (K .near d N (sane-of S)))
+      (jump d (bound-near (b N S)) (rose-all S e h r) (K .near N (sane-of S)))
 
-  pub trial-refutes : ((u : ℕ) → u < C .inputs + C .gates → labelIn sv u ≡ labelIn ls u) → Hoisted old ls m (C .inputs) (C .inputs + C .gates) d → Kept C k φ m m′
-      → Accepted (C .inputs) (C .gates) φ old sv m′ tops d → Bounds C k φ tops ls → Refuted C k φ tops
-  trial-refutes e h K a b = past-top m′ (a .over .gate) (a .over .isGate) (trial-bounds e h K (a .rose) b) (a .over .above)
+  pub trial-refutes : ((u : ℕ) → u < C .inputs + C .gates → labelIn sv u ≡ labelIn ls u) → Hoisted old ls m (C .inputs) (C .inputs + C .gates) d → Kept M d C k φ m m′
+      → Accepted (C .inputs) (C .gates) φ old sv m′ tops d → Bounds M C k φ tops ls → Refuted M C k φ tops
+  trial-refutes e h K a b = past-top M m′ (a .over .gate) (a .over .isGate) (trial-bounds e h K (a .rose) b) (a .over .above)
 
 -- ---- the ceilings of a trial
 pub caps-suit : (s : Extent) (net : List ℕ) (φ : ℕ) → Roomy (s .inputs + s .gates) φ → Ceilings (wiring s net) φ (topsIn s net farthest)
 caps-suit s net φ d = capped s net φ farthest (omega arith) (let b = mul-le-mul-right farthest (d .period) in omega arith)
 
 -- ---- sweeps and a trial that refutes
-pub leapt-past : {C : Circuit} {k φ : ℕ} {tops order : List ℕ} {ls ls′ ls″ : List ℤ} {t : ℕ} → Progress C k φ tops order ls ls′ t → ls″ ≡ ls′ → (Bounds C k φ tops ls′ → Refuted C k φ tops)
-    → Progress C k φ tops order ls ls″ (C .gates + 1)
-leapt-past {C} {k} {φ} {tops} {order} {ls} {ls′} {ls″} p e f = record {
+pub leapt-past : {M : Mode} {δ : ℕ} {C : Circuit} {k φ : ℕ} {tops order : List ℕ} {ls ls′ ls″ : List ℤ} {t : ℕ} → Progress M δ C k φ tops order ls ls′ t → ls″ ≡ ls′ → (Bounds M C k φ tops ls′ → Refuted M C k φ tops)
+    → Progress M δ C k φ tops order ls ls″ (C .gates + 1)
+leapt-past {M} {δ} {C} {k} {φ} {tops} {order} {ls} {ls′} {ls″} p e f = record {
   most = omega arith;
   fine = subst (Fine C) (sym e) (p .fine);
-  keeps = subst (Kept C k φ ls) (sym e) (p .keeps);
+  keeps = subst (Kept M δ C k φ ls) (sym e) (p .keeps);
   quiet = λ h. absurd (omega (arith, h));
   less = rw e (p .less);
   falls = λ q h. absurd (omega (arith, h));
   refuted = λ h b. f (Rattle.label_visit.specs.BoundLaws.kept-bounds (p .keeps) b);
 }
 
-pub leapt-same : {C : Circuit} {k φ : ℕ} {tops order : List ℕ} {ls ls′ ls″ : List ℤ} {t : ℕ} → Progress C k φ tops order ls ls′ t → ls″ ≡ ls′ → Progress C k φ tops order ls ls″ t
-leapt-same {C} {k} {φ} {tops} {order} {ls} {ls′} {ls″} {t} p e = subst (λ (x : List ℤ). Progress C k φ tops order ls x t) (sym e) p
+pub leapt-same : {M : Mode} {δ : ℕ} {C : Circuit} {k φ : ℕ} {tops order : List ℕ} {ls ls′ ls″ : List ℤ} {t : ℕ} → Progress M δ C k φ tops order ls ls′ t → ls″ ≡ ls′ → Progress M δ C k φ tops order ls ls″ t
+leapt-same {M} {δ} {C} {k} {φ} {tops} {order} {ls} {ls′} {ls″} {t} p e = subst (λ (x : List ℤ). Progress M δ C k φ tops order ls x t) (sym e) p

@@ -9,6 +9,7 @@ use lib.ListN.{length, getD}
 use lib.Signed.{_≤ℤ_, _<ℤ_}
 use Rattle.limits.specs.Limits.{mostNodes}
 use Rattle.signed.specs.Range.{Small, labelIn}
+use Rattle.label_theory.specs.Labels.{Mode}
 use Rattle.cut_circuit.specs.Circuit.{Circuit}
 use Rattle.label_visit.specs.LabelVisits.{Bounds, Refuted}
 
@@ -60,9 +61,9 @@ pub record Accepted (I G φ : ℕ) (old sv ls : List ℤ) (tops : List ℕ) (d :
   pub over : Over I G φ tops ls
 
 -- A trial leaves the labels as they were. Yes: if they are a lower bound, no labelling meets the outputs.
-pub record TrialTold (C : Circuit) (k φ : ℕ) (tops : List ℕ) (ls ls′ : List ℤ) (r : Bool) : Type 0 where
+pub record TrialTold (M : Mode) (C : Circuit) (k φ : ℕ) (tops : List ℕ) (ls ls′ : List ℤ) (r : Bool) : Type 0 where
   pub same : ls′ ≡ ls
-  pub refuted : r ≡ true → Bounds C k φ tops ls → Refuted C k φ tops
+  pub refuted : r ≡ true → Bounds M C k φ tops ls → Refuted M C k φ tops
 
 -- the ceilings of a trial, in periods, and the greatest period that they suit
 abbrev pub farthest : ℕ

@@ -2,7 +2,7 @@
 use cut_circuit::Extent;
 use label_pass::sweep;
 use label_pass::sweep_some;
-use label_visit::Aim;
+use label_aim::Aim;
 use label_visit::top_of;
 use limits::NODES;
 use signed::no_higher;
@@ -17,6 +17,7 @@ ghost use lib.Signed.{_<ℤ_};
 ghost use Rattle.signed.specs.Range.{Small, room, labelIn};
 ghost use Rattle.cut_circuit.specs.Packed.{packedOf};
 ghost use Rattle.cut_question.specs.Separating.{AtRest};
+ghost use Rattle.label_aim.specs.Aims.{modeOf, riseIn};
 ghost use Rattle.label_visit.specs.LabelVisits.{wiring, topsIn, Ready, Ceilings};
 ghost use Rattle.label_pass.specs.Passes.{orderIn, Ordered, QuietFrom, Progress};
 ghost use Rattle.label_climb.specs.Trials.{Copied, Nudge, Hoisted, Lent, RoseFurther, AllRose, Over, Accepted, TrialTold, Roomy};
@@ -164,7 +165,7 @@ fn trial(
     requires { ⌜ Ready s (now labels) (a .phi) (a .k) × Ordered (wiring s (now net)) (orderIn s (now net)) × Ceilings (wiring s (now net)) (a .phi) (topsIn s (now net) (a .cap)) × Roomy (s .inputs + s .gates) (a .phi) ⌝ }
     requires { ⌜ (s .inputs + s .gates ≤ length (now saved)) × (s .inputs + s .gates ≤ length (now old)) ⌝ }
     ensures { λ _. ⌜ AtRest (packedOf s (now (net .entry)) (now (slots .exit))) (now (table .exit)) (now (list .exit)) (now (stack .exit)) (now (counts .exit)) (now (members .exit)) ⌝ }
-    ensures { λ r. ⌜ TrialTold (wiring s (now (net .entry))) (a .k) (a .phi) (topsIn s (now (net .entry)) (a .cap)) (now (labels .entry)) (now (labels .exit)) r ⌝ }
+    ensures { λ r. ⌜ TrialTold (modeOf (a .forward)) (wiring s (now (net .entry))) (a .k) (a .phi) (topsIn s (now (net .entry)) (a .cap)) (now (labels .entry)) (now (labels .exit)) r ⌝ }
 {
     let d = a.phi * s.width;
     let to = s.inputs + s.gates;
@@ -175,6 +176,8 @@ fn trial(
         k: a.k,
         outputs: a.outputs,
         cap: CAP,
+        forward: a.forward,
+        trial: true,
     };
     sweep_some(
         s,
@@ -217,10 +220,10 @@ fn leap(
 ) -> usize
     requires { ⌜ AtRest (packedOf s (now net) (now slots)) (now table) (now list) (now stack) (now counts) (now members) ⌝ }
     requires { ⌜ Ready s (now labels) (a .phi) (a .k) × Ordered (wiring s (now net)) (orderIn s (now net)) × Ceilings (wiring s (now net)) (a .phi) (topsIn s (now net) (a .cap)) ⌝ }
-    requires { ⌜ (stop ≤ s .gates) × QuietFrom (wiring s (now net)) (a .k) (a .phi) (topsIn s (now net) (a .cap)) (orderIn s (now net)) (now labels) stop ⌝ }
+    requires { ⌜ (stop ≤ s .gates) × QuietFrom (modeOf (a .forward)) (riseIn s a) (wiring s (now net)) (a .k) (a .phi) (topsIn s (now net) (a .cap)) (orderIn s (now net)) (now labels) stop ⌝ }
     requires { ⌜ Roomy (s .inputs + s .gates) (a .phi) ⌝ }
     ensures { λ _. ⌜ AtRest (packedOf s (now (net .entry)) (now (slots .exit))) (now (table .exit)) (now (list .exit)) (now (stack .exit)) (now (counts .exit)) (now (members .exit)) ⌝ }
-    ensures { λ r. ⌜ Progress (wiring s (now (net .entry))) (a .k) (a .phi) (topsIn s (now (net .entry)) (a .cap)) (orderIn s (now (net .entry))) (now (labels .entry)) (now (labels .exit)) r ⌝ }
+    ensures { λ r. ⌜ Progress (modeOf (a .forward)) (riseIn s a) (wiring s (now (net .entry))) (a .k) (a .phi) (topsIn s (now (net .entry)) (a .cap)) (orderIn s (now (net .entry))) (now (labels .entry)) (now (labels .exit)) r ⌝ }
 {
     let mut old = [0i64; NODES];
     copy(labels, &mut old, s.inputs + s.gates);
@@ -290,9 +293,9 @@ pub fn round(
 ) -> usize
     requires { ⌜ AtRest (packedOf s (now net) (now slots)) (now table) (now list) (now stack) (now counts) (now members) ⌝ }
     requires { ⌜ Ready s (now labels) (a .phi) (a .k) × Ordered (wiring s (now net)) (orderIn s (now net)) × Ceilings (wiring s (now net)) (a .phi) (topsIn s (now net) (a .cap)) ⌝ }
-    requires { ⌜ (stop ≤ s .gates) × QuietFrom (wiring s (now net)) (a .k) (a .phi) (topsIn s (now net) (a .cap)) (orderIn s (now net)) (now labels) stop ⌝ }
+    requires { ⌜ (stop ≤ s .gates) × QuietFrom (modeOf (a .forward)) (riseIn s a) (wiring s (now net)) (a .k) (a .phi) (topsIn s (now net) (a .cap)) (orderIn s (now net)) (now labels) stop ⌝ }
     ensures { λ _. ⌜ AtRest (packedOf s (now (net .entry)) (now (slots .exit))) (now (table .exit)) (now (list .exit)) (now (stack .exit)) (now (counts .exit)) (now (members .exit)) ⌝ }
-    ensures { λ r. ⌜ Progress (wiring s (now (net .entry))) (a .k) (a .phi) (topsIn s (now (net .entry)) (a .cap)) (orderIn s (now (net .entry))) (now (labels .entry)) (now (labels .exit)) r ⌝ }
+    ensures { λ r. ⌜ Progress (modeOf (a .forward)) (riseIn s a) (wiring s (now (net .entry))) (a .k) (a .phi) (topsIn s (now (net .entry)) (a .cap)) (orderIn s (now (net .entry))) (now (labels .entry)) (now (labels .exit)) r ⌝ }
 {
     if early(w, s.inputs + s.gates, a.phi) {
         return sweep(

@@ -6,17 +6,18 @@ use native.Mathlib.Decide.{ℕ-discrete, decLt}
 use native.Mathlib.Omega.{arith}
 use lib.IntN.{ℤ}
 use lib.ListN.{getD}
+use Rattle.label_theory.specs.Labels.{Mode}
 use Rattle.cut_circuit.specs.Circuit.{Circuit}
 use Rattle.label_visit.specs.LabelVisits.{Quiet, Fine, Visited}
 use Rattle.label_visit.specs.BoundLaws.{kept-same, kept-then, kept-bounds}
 use Rattle.label_pass.specs.Passes.{IfRose, GoesOn, QuietFrom, Sweep, SweepTold, Progress}
 
 -- nothing stands behind all gates
-pub quiet-none : (C : Circuit) (k φ : ℕ) (tops order : List ℕ) (ls : List ℤ) → QuietFrom C k φ tops order ls (C .gates)
-quiet-none C k φ tops order ls i h m = absurd (omega (arith, h, m))
+pub quiet-none : (M : Mode) (δ : ℕ) (C : Circuit) (k φ : ℕ) (tops order : List ℕ) (ls : List ℤ) → QuietFrom M δ C k φ tops order ls (C .gates)
+quiet-none M δ C k φ tops order ls i h m = absurd (omega (arith, h, m))
 
-module _ {C : Circuit} {k φ : ℕ} {tops order : List ℕ} where
-  pub sweep-none : {ls : List ℤ} {stop : ℕ} → Fine C ls → stop ≤ C .gates → QuietFrom C k φ tops order ls stop → Sweep C k φ tops order ls ls 0 stop 0
+module _ {M : Mode} {δ : ℕ} {C : Circuit} {k φ : ℕ} {tops order : List ℕ} where
+  pub sweep-none : {ls : List ℤ} {stop : ℕ} → Fine C ls → stop ≤ C .gates → QuietFrom M δ C k φ tops order ls stop → Sweep M δ C k φ tops order ls ls 0 stop 0
   sweep-none f l q = record {
     ends = l;
     place = omega arith;
@@ -31,8 +32,8 @@ module _ {C : Circuit} {k φ : ℕ} {tops order : List ℕ} where
   }
 
   -- a gate whose label rose
-  sweep-rise : {ls ls′ ls″ : List ℤ} {n end last end′ last′ e : ℕ} → n < end → Sweep C k φ tops order ls ls′ n end last → Visited C k φ tops ls′ ls″ (getD order n 0) e
-      → e ≡ 1 → last′ ≡ n + 1 → end′ ≡ C .gates → Sweep C k φ tops order ls ls″ (n + 1) end′ last′
+  sweep-rise : {ls ls′ ls″ : List ℤ} {n end last end′ last′ e : ℕ} → n < end → Sweep M δ C k φ tops order ls ls′ n end last → Visited M δ C k φ tops ls′ ls″ (getD order n 0) e
+      → e ≡ 1 → last′ ≡ n + 1 → end′ ≡ C .gates → Sweep M δ C k φ tops order ls ls″ (n + 1) end′ last′
   sweep-rise {n = n} {end} {last} {end′} {last′} l s v z a b = record {
     ends = omega arith;
     place = let h = s .ends in omega arith;
@@ -47,8 +48,8 @@ module _ {C : Circuit} {k φ : ℕ} {tops order : List ℕ} where
   }
 
   -- a gate at which nothing can change
-  sweep-still : {ls ls′ ls″ : List ℤ} {n end last end′ last′ e : ℕ} → n < end → Sweep C k φ tops order ls ls′ n end last → Visited C k φ tops ls′ ls″ (getD order n 0) e
-      → e ≡ 0 → last′ ≡ last → end′ ≡ end → Sweep C k φ tops order ls ls″ (n + 1) end′ last′
+  sweep-still : {ls ls′ ls″ : List ℤ} {n end last end′ last′ e : ℕ} → n < end → Sweep M δ C k φ tops order ls ls′ n end last → Visited M δ C k φ tops ls′ ls″ (getD order n 0) e
+      → e ≡ 0 → last′ ≡ last → end′ ≡ end → Sweep M δ C k φ tops order ls ls″ (n + 1) end′ last′
   sweep-still {ls} {ls′} {ls″} {n} {end} {last} {end′} {last′} l s v z a b = record {
     ends = let h = s .ends in omega arith;
     place = omega arith;
@@ -62,24 +63,24 @@ module _ {C : Circuit} {k φ : ℕ} {tops order : List ℕ} where
     falls = λ q. let g = s .falls (omega (arith, q, a)) in let h = v .less in omega arith;
   }
     where
-      now-quiet : (i : ℕ) → Quiet C k φ tops ls′ (getD order i 0) → Quiet C k φ tops ls″ (getD order i 0)
-      now-quiet i q = subst (λ (x : List ℤ). Quiet C k φ tops x (getD order i 0)) (sym (v .same z)) q
+      now-quiet : (i : ℕ) → Quiet M δ C k φ tops ls′ (getD order i 0) → Quiet M δ C k φ tops ls″ (getD order i 0)
+      now-quiet i q = subst (λ (x : List ℤ). Quiet M δ C k φ tops x (getD order i 0)) (sym (v .same z)) q
 
-      quiet : (i : ℕ) → last ≤ i → i < n + 1 → Dec (i ≡ n) → Quiet C k φ tops ls′ (getD order i 0)
+      quiet : (i : ℕ) → last ≤ i → i < n + 1 → Dec (i ≡ n) → Quiet M δ C k φ tops ls′ (getD order i 0)
       quiet i h m (yes q) = rw q (v .quiet z)
       quiet i h m (no q) = s .quiet i h (omega arith)
 
   -- one more gate
-  pub sweep-next : {ls ls′ ls″ : List ℤ} {n end last end′ last′ e : ℕ} → n < end → Sweep C k φ tops order ls ls′ n end last → Visited C k φ tops ls′ ls″ (getD order n 0) e
-      → ¬ (e ≡ 2) → IfRose e (n + 1) last last′ → IfRose e (C .gates) end end′ → Sweep C k φ tops order ls ls″ (n + 1) end′ last′
+  pub sweep-next : {ls ls′ ls″ : List ℤ} {n end last end′ last′ e : ℕ} → n < end → Sweep M δ C k φ tops order ls ls′ n end last → Visited M δ C k φ tops ls′ ls″ (getD order n 0) e
+      → ¬ (e ≡ 2) → IfRose e (n + 1) last last′ → IfRose e (C .gates) end end′ → Sweep M δ C k φ tops order ls ls″ (n + 1) end′ last′
   sweep-next {ls} {ls′} {ls″} {n} {end} {last} {end′} {last′} {e} l s v t a b = go (ℕ-discrete e 1)
     where
-      go : Dec (e ≡ 1) → Sweep C k φ tops order ls ls″ (n + 1) end′ last′
+      go : Dec (e ≡ 1) → Sweep M δ C k φ tops order ls ls″ (n + 1) end′ last′
       go (yes z) = sweep-rise l s v z (a .0 z) (b .0 z)
       go (no z) = sweep-still l s v (let m = v .most in omega arith) (a .1 z) (b .1 z)
 
   -- the end of the sweep is reached
-  pub swept-end : {ls ls′ : List ℤ} {n end last : ℕ} → end ≤ n → Sweep C k φ tops order ls ls′ n end last → SweepTold C k φ tops order ls ls′ last
+  pub swept-end : {ls ls′ : List ℤ} {n end last : ℕ} → end ≤ n → Sweep M δ C k φ tops order ls ls′ n end last → SweepTold M δ C k φ tops order ls ls′ last
   swept-end {ls} {ls′} {n} {end} {last} l s = record {
     progress = record {
       most = let a = s .ends in let b = s .place in let d = s .behind in omega arith;
@@ -93,12 +94,12 @@ module _ {C : Circuit} {k φ : ℕ} {tops order : List ℕ} where
     same = s .same;
   }
     where
-      quiet : (i : ℕ) → last ≤ i → i < C .gates → Dec (i < end) → Quiet C k φ tops ls′ (getD order i 0)
+      quiet : (i : ℕ) → last ≤ i → i < C .gates → Dec (i < end) → Quiet M δ C k φ tops ls′ (getD order i 0)
       quiet i m w (yes q) = s .quiet i m (omega arith)
       quiet i m w (no q) = s .rest i (omega arith) w
 
   -- a label would pass its ceiling
-  pub swept-past : {ls ls′ ls″ : List ℤ} {n end last e g : ℕ} → Sweep C k φ tops order ls ls′ n end last → Visited C k φ tops ls′ ls″ g e → e ≡ 2 → SweepTold C k φ tops order ls ls″ (C .gates + 1)
+  pub swept-past : {ls ls′ ls″ : List ℤ} {n end last e g : ℕ} → Sweep M δ C k φ tops order ls ls′ n end last → Visited M δ C k φ tops ls′ ls″ g e → e ≡ 2 → SweepTold M δ C k φ tops order ls ls″ (C .gates + 1)
   swept-past s v z = record {
     progress = record {
       most = omega arith;
@@ -113,7 +114,7 @@ module _ {C : Circuit} {k φ : ℕ} {tops order : List ℕ} where
   }
 
   -- **sweeps one after another**
-  pub progress-then : {ls ls′ ls″ : List ℤ} {r t : ℕ} → Progress C k φ tops order ls ls′ r → Progress C k φ tops order ls′ ls″ t → Progress C k φ tops order ls ls″ t
+  pub progress-then : {ls ls′ ls″ : List ℤ} {r t : ℕ} → Progress M δ C k φ tops order ls ls′ r → Progress M δ C k φ tops order ls′ ls″ t → Progress M δ C k φ tops order ls ls″ t
   progress-then a b = record {
     most = b .most;
     fine = b .fine;
@@ -125,5 +126,5 @@ module _ {C : Circuit} {k φ : ℕ} {tops order : List ℕ} where
   }
 
   -- where the next sweep may end
-  pub next-sweep : {ls ls′ : List ℤ} {t i w r : ℕ} → Progress C k φ tops order ls ls′ t → GoesOn (C .gates) t i w r → r < w → (t ≤ C .gates) × QuietFrom C k φ tops order ls′ t
+  pub next-sweep : {ls ls′ : List ℤ} {t i w r : ℕ} → Progress M δ C k φ tops order ls ls′ t → GoesOn (C .gates) t i w r → r < w → (t ≤ C .gates) × QuietFrom M δ C k φ tops order ls′ t
   next-sweep p g h = (g .rose h .1, p .quiet (g .rose h .1))

@@ -5,6 +5,7 @@ use Prim.Native.Nat.{ℕ, _+_, _≤_, _<_}
 use lib.IntN.{ℤ}
 use lib.ListN.{length, getD, drop}
 use Rattle.net_model.specs.PackedNet.{orderAt}
+use Rattle.label_theory.specs.Labels.{Mode}
 use Rattle.cut_circuit.specs.Circuit.{Circuit}
 use Rattle.cut_circuit.specs.declared.Extent.{Extent}
 use Rattle.label_visit.specs.LabelVisits.{Quiet, Bounds, Kept, Refuted, Fine, left}
@@ -14,19 +15,19 @@ abbrev pub IfRose : ℕ → ℕ → ℕ → ℕ → Type 0
 IfRose e a b r = (e ≡ 1 → r ≡ a) × (¬ (e ≡ 1) → r ≡ b)
 
 -- from place n of the order on nothing can change
-abbrev pub QuietFrom : Circuit → ℕ → ℕ → List ℕ → List ℕ → List ℤ → ℕ → Type 0
-QuietFrom C k φ tops order ls n = (i : ℕ) → n ≤ i → i < C .gates → Quiet C k φ tops ls (getD order i 0)
+abbrev pub QuietFrom : Mode → ℕ → Circuit → ℕ → ℕ → List ℕ → List ℕ → List ℤ → ℕ → Type 0
+QuietFrom M δ C k φ tops order ls n = (i : ℕ) → n ≤ i → i < C .gates → Quiet M δ C k φ tops ls (getD order i 0)
 
 -- A sweep with n gates of the order visited. It ends at place `end`; `last` is the place behind the last rise so far, 0 where no label rose.
-pub record Sweep (C : Circuit) (k φ : ℕ) (tops order : List ℕ) (ls ls′ : List ℤ) (n end last : ℕ) : Type 0 where
+pub record Sweep (M : Mode) (δ : ℕ) (C : Circuit) (k φ : ℕ) (tops order : List ℕ) (ls ls′ : List ℤ) (n end last : ℕ) : Type 0 where
   pub ends : end ≤ C .gates
   pub place : n ≤ end
   pub behind : last ≤ n
   pub fine : Fine C ls′
-  pub keeps : Kept C k φ ls ls′
+  pub keeps : Kept M δ C k φ ls ls′
   pub same : last ≡ 0 → ls′ ≡ ls
-  pub quiet : (i : ℕ) → last ≤ i → i < n → Quiet C k φ tops ls′ (getD order i 0)
-  pub rest : QuietFrom C k φ tops order ls′ end
+  pub quiet : (i : ℕ) → last ≤ i → i < n → Quiet M δ C k φ tops ls′ (getD order i 0)
+  pub rest : QuietFrom M δ C k φ tops order ls′ end
   pub less : left C φ tops ls′ (C .gates) ≤ left C φ tops ls (C .gates)
   pub falls : 1 ≤ last → left C φ tops ls′ (C .gates) < left C φ tops ls (C .gates)
 
@@ -37,18 +38,18 @@ pub record GoesOn (gates t i w r : ℕ) : Type 0 where
 
 -- What one or more sweeps come to, the last with result r. 0: nothing can change. From 1 to the number of gates: the place behind the last rise. One more: a label
 -- would pass its ceiling.
-pub record Progress (C : Circuit) (k φ : ℕ) (tops order : List ℕ) (ls ls′ : List ℤ) (r : ℕ) : Type 0 where
+pub record Progress (M : Mode) (δ : ℕ) (C : Circuit) (k φ : ℕ) (tops order : List ℕ) (ls ls′ : List ℤ) (r : ℕ) : Type 0 where
   pub most : r ≤ C .gates + 1
   pub fine : Fine C ls′
-  pub keeps : Kept C k φ ls ls′
-  pub quiet : r ≤ C .gates → QuietFrom C k φ tops order ls′ r
+  pub keeps : Kept M δ C k φ ls ls′
+  pub quiet : r ≤ C .gates → QuietFrom M δ C k φ tops order ls′ r
   pub less : left C φ tops ls′ (C .gates) ≤ left C φ tops ls (C .gates)
   pub falls : 1 ≤ r → r ≤ C .gates → left C φ tops ls′ (C .gates) < left C φ tops ls (C .gates)
-  pub refuted : C .gates < r → Bounds C k φ tops ls → Refuted C k φ tops
+  pub refuted : C .gates < r → Bounds M C k φ tops ls → Refuted M C k φ tops
 
 -- One sweep. 0: the labels stay.
-pub record SweepTold (C : Circuit) (k φ : ℕ) (tops order : List ℕ) (ls ls′ : List ℤ) (r : ℕ) : Type 0 where
-  pub progress : Progress C k φ tops order ls ls′ r
+pub record SweepTold (M : Mode) (δ : ℕ) (C : Circuit) (k φ : ℕ) (tops order : List ℕ) (ls ls′ : List ℤ) (r : ℕ) : Type 0 where
+  pub progress : Progress M δ C k φ tops order ls ls′ r
   pub same : r ≡ 0 → ls′ ≡ ls
 
 -- the order in a net's slice

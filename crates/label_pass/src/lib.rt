@@ -1,6 +1,6 @@
 // One sweep over the gates, and some in a row: labels raised from below, gate by gate.
 use cut_circuit::Extent;
-use label_visit::Aim;
+use label_aim::Aim;
 use label_visit::visit;
 use limits::PINS;
 ghost use mathlib.Core.Path.{_≡_};
@@ -8,6 +8,7 @@ ghost use Prim.Native.Nat.{_≤_, _<_};
 ghost use lib.ListN.{length, getD};
 ghost use Rattle.cut_circuit.specs.Packed.{packedOf};
 ghost use Rattle.cut_question.specs.Separating.{AtRest};
+ghost use Rattle.label_aim.specs.Aims.{modeOf, riseIn};
 ghost use Rattle.label_visit.specs.LabelVisits.{wiring, topsIn, Ready, Ceilings};
 ghost use Rattle.label_pass.specs.Passes.{orderIn, Ordered, IfRose, GoesOn, QuietFrom, SweepTold, Progress};
 
@@ -36,9 +37,9 @@ pub fn sweep(
 ) -> usize
     requires { ⌜ AtRest (packedOf s (now net) (now slots)) (now table) (now list) (now stack) (now counts) (now members) ⌝ }
     requires { ⌜ Ready s (now labels) (a .phi) (a .k) × Ordered (wiring s (now net)) (orderIn s (now net)) × Ceilings (wiring s (now net)) (a .phi) (topsIn s (now net) (a .cap)) ⌝ }
-    requires { ⌜ (stop ≤ s .gates) × QuietFrom (wiring s (now net)) (a .k) (a .phi) (topsIn s (now net) (a .cap)) (orderIn s (now net)) (now labels) stop ⌝ }
+    requires { ⌜ (stop ≤ s .gates) × QuietFrom (modeOf (a .forward)) (riseIn s a) (wiring s (now net)) (a .k) (a .phi) (topsIn s (now net) (a .cap)) (orderIn s (now net)) (now labels) stop ⌝ }
     ensures { λ _. ⌜ AtRest (packedOf s (now (net .entry)) (now (slots .exit))) (now (table .exit)) (now (list .exit)) (now (stack .exit)) (now (counts .exit)) (now (members .exit)) ⌝ }
-    ensures { λ r. ⌜ SweepTold (wiring s (now (net .entry))) (a .k) (a .phi) (topsIn s (now (net .entry)) (a .cap)) (orderIn s (now (net .entry))) (now (labels .entry)) (now (labels .exit)) r ⌝ }
+    ensures { λ r. ⌜ SweepTold (modeOf (a .forward)) (riseIn s a) (wiring s (now (net .entry))) (a .k) (a .phi) (topsIn s (now (net .entry)) (a .cap)) (orderIn s (now (net .entry))) (now (labels .entry)) (now (labels .exit)) r ⌝ }
 {
     let mut last = 0;
     let mut end = stop;
@@ -105,9 +106,9 @@ pub fn sweep_some(
 ) -> usize
     requires { ⌜ AtRest (packedOf s (now net) (now slots)) (now table) (now list) (now stack) (now counts) (now members) ⌝ }
     requires { ⌜ Ready s (now labels) (a .phi) (a .k) × Ordered (wiring s (now net)) (orderIn s (now net)) × Ceilings (wiring s (now net)) (a .phi) (topsIn s (now net) (a .cap)) ⌝ }
-    requires { ⌜ (stop ≤ s .gates) × QuietFrom (wiring s (now net)) (a .k) (a .phi) (topsIn s (now net) (a .cap)) (orderIn s (now net)) (now labels) stop ⌝ }
+    requires { ⌜ (stop ≤ s .gates) × QuietFrom (modeOf (a .forward)) (riseIn s a) (wiring s (now net)) (a .k) (a .phi) (topsIn s (now net) (a .cap)) (orderIn s (now net)) (now labels) stop ⌝ }
     ensures { λ _. ⌜ AtRest (packedOf s (now (net .entry)) (now (slots .exit))) (now (table .exit)) (now (list .exit)) (now (stack .exit)) (now (counts .exit)) (now (members .exit)) ⌝ }
-    ensures { λ r. ⌜ Progress (wiring s (now (net .entry))) (a .k) (a .phi) (topsIn s (now (net .entry)) (a .cap)) (orderIn s (now (net .entry))) (now (labels .entry)) (now (labels .exit)) r ⌝ }
+    ensures { λ r. ⌜ Progress (modeOf (a .forward)) (riseIn s a) (wiring s (now (net .entry))) (a .k) (a .phi) (topsIn s (now (net .entry)) (a .cap)) (orderIn s (now (net .entry))) (now (labels .entry)) (now (labels .exit)) r ⌝ }
 {
     let mut t = sweep(
         s,

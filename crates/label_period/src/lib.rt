@@ -1,13 +1,14 @@
 // The least period: small ones are asked from 1 up, larger ones by halves, up to the longest line of gates without registers.
 use cut_circuit::Extent;
+use label_aim::Aim;
 use label_lines::longest_line;
 use label_sweep::reach;
-use label_visit::Aim;
 ghost use Prim.Native.Nat.{_≤_, _<_};
 ghost use lib.ListN.{length};
 ghost use Rattle.net_model.specs.PackedNet.{packedRoom};
 ghost use Rattle.cut_circuit.specs.Packed.{packedOf};
 ghost use Rattle.cut_question.specs.Separating.{AtRest};
+ghost use Rattle.label_aim.specs.Aims.{modeOf};
 ghost use Rattle.label_visit.specs.LabelVisits.{wiring, topsIn, Ceilings};
 ghost use Rattle.label_sweep.specs.Sweeps.{orderIn, outsIn, delaysIn, Sized, Ordered};
 ghost use Rattle.label_period.specs.PeriodSearch.{Either, Few, NoneBelow, Halved, Period};
@@ -40,28 +41,29 @@ fn halve(
     counts: &mut [u32],
     members: &mut [u32],
     labels: &mut [i64],
-    n: usize,
-    k: usize,
+    a: Aim,
     from: usize,
 ) -> usize
     requires { ⌜ AtRest (packedOf s (now net) (now slots)) (now table) (now list) (now stack) (now counts) (now members) ⌝ }
-    requires { ⌜ packedRoom (s .inputs) (s .gates) n ≤ length (now net) ⌝ }
-    requires { ⌜ Sized s (now labels) (outsIn s (now net)) (delaysIn s (now net) n) (s .gates) k n × Ordered (wiring s (now net)) (orderIn s (now net)) × Ceilings (wiring s (now net)) (s .gates) (topsIn s (now net) 0) ⌝ }
-    requires { ⌜ (1 ≤ from) × (from ≤ s .gates) × NoneBelow (wiring s (now net)) k (topsIn s (now net) 0) (outsIn s (now net)) (delaysIn s (now net) n) n from ⌝ }
+    requires { ⌜ packedRoom (s .inputs) (s .gates) (a .outputs) ≤ length (now net) ⌝ }
+    requires { ⌜ Sized s (now labels) (outsIn s (now net)) (delaysIn s (now net) (a .outputs)) (s .gates) (a .k) (a .outputs) × Ordered (wiring s (now net)) (orderIn s (now net)) × Ceilings (wiring s (now net)) (s .gates) (topsIn s (now net) (a .cap)) ⌝ }
+    requires { ⌜ (1 ≤ from) × (from ≤ s .gates) × NoneBelow (modeOf (a .forward)) (wiring s (now net)) (a .k) (topsIn s (now net) (a .cap)) (outsIn s (now net)) (delaysIn s (now net) (a .outputs)) (a .outputs) from ⌝ }
     ensures { λ _. ⌜ AtRest (packedOf s (now (net .entry)) (now (slots .exit))) (now (table .exit)) (now (list .exit)) (now (stack .exit)) (now (counts .exit)) (now (members .exit)) ⌝ }
-    ensures { λ r. ⌜ Halved (wiring s (now (net .entry))) k (topsIn s (now (net .entry)) 0) (outsIn s (now (net .entry))) (delaysIn s (now (net .entry)) n) n r r ⌝ }
+    ensures { λ r. ⌜ Halved (modeOf (a .forward)) (wiring s (now (net .entry))) (a .k) (topsIn s (now (net .entry)) (a .cap)) (outsIn s (now (net .entry))) (delaysIn s (now (net .entry)) (a .outputs)) (a .outputs) r r ⌝ }
 {
     let mut low = from;
     let mut high = longest_line(s, net, from);
     while low < high {
         let phi = low + (high - low) / 2;
-        let a = Aim {
+        let b = Aim {
             phi: phi,
-            k: k,
-            outputs: n,
-            cap: 0,
+            k: a.k,
+            outputs: a.outputs,
+            cap: a.cap,
+            forward: a.forward,
+            trial: false,
         };
-        let b = reach(
+        let r = reach(
             s,
             net,
             slots,
@@ -71,15 +73,15 @@ fn halve(
             counts,
             members,
             labels,
-            a,
+            b,
         );
-        low = either(b, low, phi + 1);
-        high = either(b, phi, high);
+        low = either(r, low, phi + 1);
+        high = either(r, phi, high);
     }
     low
 }
 
-// The least period, with its least labelling left in labels.
+// The least period that is reachable, with its least labelling left in labels; the aim's own period is not looked at.
 pub fn least_period(
     s: Extent,
     net: &[usize],
@@ -90,23 +92,24 @@ pub fn least_period(
     counts: &mut [u32],
     members: &mut [u32],
     labels: &mut [i64],
-    n: usize,
-    k: usize,
+    a: Aim,
 ) -> usize
     requires { ⌜ AtRest (packedOf s (now net) (now slots)) (now table) (now list) (now stack) (now counts) (now members) ⌝ }
-    requires { ⌜ packedRoom (s .inputs) (s .gates) n ≤ length (now net) ⌝ }
-    requires { ⌜ Sized s (now labels) (outsIn s (now net)) (delaysIn s (now net) n) (s .gates) k n × Ordered (wiring s (now net)) (orderIn s (now net)) × Ceilings (wiring s (now net)) (s .gates) (topsIn s (now net) 0) × (1 ≤ s .gates) ⌝ }
+    requires { ⌜ packedRoom (s .inputs) (s .gates) (a .outputs) ≤ length (now net) ⌝ }
+    requires { ⌜ Sized s (now labels) (outsIn s (now net)) (delaysIn s (now net) (a .outputs)) (s .gates) (a .k) (a .outputs) × Ordered (wiring s (now net)) (orderIn s (now net)) × Ceilings (wiring s (now net)) (s .gates) (topsIn s (now net) (a .cap)) × (1 ≤ s .gates) ⌝ }
     ensures { λ _. ⌜ AtRest (packedOf s (now (net .entry)) (now (slots .exit))) (now (table .exit)) (now (list .exit)) (now (stack .exit)) (now (counts .exit)) (now (members .exit)) ⌝ }
-    ensures { λ r. ⌜ Period (wiring s (now (net .entry))) k (topsIn s (now (net .entry)) 0) (outsIn s (now (net .entry))) (delaysIn s (now (net .entry)) n) n (now (labels .exit)) r ⌝ }
+    ensures { λ r. ⌜ Period (modeOf (a .forward)) (wiring s (now (net .entry))) (a .k) (topsIn s (now (net .entry)) (a .cap)) (outsIn s (now (net .entry))) (delaysIn s (now (net .entry)) (a .outputs)) (a .outputs) (now (labels .exit)) r ⌝ }
 {
     let end = few(s.gates);
     let mut phi = 1;
     while phi < end {
-        let a = Aim {
+        let b = Aim {
             phi: phi,
-            k: k,
-            outputs: n,
-            cap: 0,
+            k: a.k,
+            outputs: a.outputs,
+            cap: a.cap,
+            forward: a.forward,
+            trial: false,
         };
         if reach(
             s,
@@ -118,7 +121,7 @@ pub fn least_period(
             counts,
             members,
             labels,
-            a,
+            b,
         ) {
             return phi;
         }
@@ -134,15 +137,16 @@ pub fn least_period(
         counts,
         members,
         labels,
-        n,
-        k,
+        a,
         phi,
     );
     let last = Aim {
         phi: low,
-        k: k,
-        outputs: n,
-        cap: 0,
+        k: a.k,
+        outputs: a.outputs,
+        cap: a.cap,
+        forward: a.forward,
+        trial: false,
     };
     reach(
         s,

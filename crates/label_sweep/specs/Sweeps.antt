@@ -9,7 +9,7 @@ use lib.Signed.{_≤ℤ_}
 use Rattle.net_model.specs.Net.{Net}
 use Rattle.net_model.specs.Arrays.{pinsIn}
 use Rattle.net_model.specs.PackedNet.{outsAt, delaysAt}
-use Rattle.label_theory.specs.Labels.{Least, OutputsMet, Reachable}
+use Rattle.label_theory.specs.Labels.{Mode, plain, forward, LeastIn, OutputsMet, ReachableIn}
 use Rattle.signed.specs.Range.{room, labelIn}
 use Rattle.cut_circuit.specs.Circuit.{Circuit}
 use Rattle.cut_circuit.specs.declared.Extent.{Extent}
@@ -56,22 +56,30 @@ pub record Sized (s : Extent) (ls : List ℤ) (os oc : List ℕ) (φ k n : ℕ) 
   pub node : (i : ℕ) → i < n → getD os i 0 < s .inputs + s .gates
   pub count : (i : ℕ) → i < n → φ * getD oc i 0 ≤ room
 
+-- no label from one place up to another is above φ
+abbrev pub AllLow : List ℤ → ℕ → ℕ → ℕ → Type 0
+AllLow ls from to φ = (u : ℕ) → from ≤ u → u < to → labelIn ls u ≤ℤ pos φ
+
+-- What decides at the end: the outputs are met; in forward mode, where they then are too, no gate's label is above the period.
+abbrev pub Ends : Mode → Circuit → List ℕ → List ℕ → List ℤ → ℕ → ℕ → Type 0
+Ends plain C os oc ls φ n = OutsMet os oc ls φ n
+Ends forward C os oc ls φ n = AllLow ls (C .inputs) (C .inputs + C .gates) φ
+
 -- The labels' end, for every net with this wiring and these outputs: the least labelling, which meets the outputs, or that the target is not reachable.
-pub record Labelled (C : Circuit) (k φ : ℕ) (tops os oc : List ℕ) (n : ℕ) (ls : List ℤ) (r : Bool) : Type 0 where
+pub record Labelled (M : Mode) (C : Circuit) (k φ : ℕ) (tops os oc : List ℕ) (n : ℕ) (ls : List ℤ) (r : Bool) : Type 0 where
   pub fine : Fine C ls
-  pub found : r ≡ true → (N : Net) → Suits C k tops N → N .outputs ≡ pinsIn os oc 0 n → Least N k φ (labelIn ls) × OutputsMet N φ (labelIn ls)
-  pub quiet : r ≡ true → (g : ℕ) → g < C .gates → Quiet C k φ tops ls g
-  pub none : r ≡ false → (N : Net) → Suits C k tops N → N .outputs ≡ pinsIn os oc 0 n → ¬ Reachable N k φ
+  pub found : r ≡ true → (N : Net) → Suits M C k tops N → N .outputs ≡ pinsIn os oc 0 n → LeastIn M N k φ (labelIn ls) × OutputsMet N φ (labelIn ls)
+  pub none : r ≡ false → (N : Net) → Suits M C k tops N → N .outputs ≡ pinsIn os oc 0 n → ¬ ReachableIn M N k φ
 
 -- The sweeps so far, the last with result r.
-pub record Settling (C : Circuit) (k φ : ℕ) (tops : List ℕ) (ls ls′ : List ℤ) (r : ℕ) : Type 0 where
+pub record Settling (M : Mode) (δ : ℕ) (C : Circuit) (k φ : ℕ) (tops : List ℕ) (ls ls′ : List ℤ) (r : ℕ) : Type 0 where
   pub fine : Fine C ls′
-  pub bounds : Bounds C k φ tops ls → Bounds C k φ tops ls′
-  pub quiet : r ≡ 0 → (g : ℕ) → g < C .gates → Quiet C k φ tops ls′ g
-  pub refuted : r ≡ 2 → Bounds C k φ tops ls → Refuted C k φ tops
+  pub bounds : Bounds M C k φ tops ls → Bounds M C k φ tops ls′
+  pub quiet : r ≡ 0 → (g : ℕ) → g < C .gates → Quiet M δ C k φ tops ls′ g
+  pub refuted : r ≡ 2 → Bounds M C k φ tops ls → Refuted M C k φ tops
   pub most : r ≤ 2
 
 -- The sweeps' end. 0: all gates are quiet under labels no higher than any labelling's. 2: no labelling meets the outputs.
-pub record SettleTold (C : Circuit) (k φ : ℕ) (tops : List ℕ) (ls ls′ : List ℤ) (r : ℕ) : Type 0 where
-  pub settling : Settling C k φ tops ls ls′ r
+pub record SettleTold (M : Mode) (δ : ℕ) (C : Circuit) (k φ : ℕ) (tops : List ℕ) (ls ls′ : List ℤ) (r : ℕ) : Type 0 where
+  pub settling : Settling M δ C k φ tops ls ls′ r
   pub ends : ¬ (r ≡ 1)

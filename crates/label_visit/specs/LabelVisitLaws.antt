@@ -13,13 +13,15 @@ use Rattle.integers.specs.Order.{≤ℤ-antisym}
 use Rattle.net_model.specs.Arrays.{stride}
 use Rattle.signed.specs.Range.{Small, labelIn}
 use Rattle.signed.specs.RangeLaws.{other-zero}
+use Rattle.label_theory.specs.Labels.{Mode}
+use Rattle.label_theory.specs.Forced.{Falling}
+use Rattle.label_theory.specs.Near.{TrialCut}
 use Rattle.cut_circuit.specs.Circuit.{Circuit}
-use Rattle.cut_question.specs.Question.{Decides, Parted}
-use Rattle.label_visit.specs.LabelVisits.{PinMax, higher, level, Kept, Raised, Changed, Fine, left, Visited}
-use Rattle.label_visit.specs.BoundLaws.{kept-same, kept-then, kept-bounds, kept-p, kept-more, past-top}
+use Rattle.label_visit.specs.LabelVisits.{Suits, PinMax, higher, level, Kept, Raised, Changed, Fine, left, Answered, Visited}
+use Rattle.label_visit.specs.BoundLaws.{sane-of, kept-same, kept-then, kept-bounds, kept-p, kept-more, past-top}
 use Rattle.label_visit.specs.ReadyLaws.{changed-set, changed-then, two-cases, raised-changed, changed-small}
 
-module _ (C : Circuit) (k φ : ℕ) (tops : List ℕ) (ls : List ℤ) (g : ℕ) (p : ℤ) where
+module _ (M : Mode) (δ : ℕ) (C : Circuit) (k φ : ℕ) (tops : List ℕ) (ls : List ℤ) (g : ℕ) (p : ℤ) where
   -- labels above g's place do not change what is left there
   left-same : {v : ℕ} {q : ℤ} {ls′ : List ℤ} → Changed ls ls′ v q → (n : ℕ) → ((m : ℕ) → m < n → ¬ (C .inputs + m ≡ v)) → left C φ tops ls′ n ≡ left C φ tops ls n
   unfolding left
@@ -67,7 +69,7 @@ module _ (C : Circuit) (k φ : ℕ) (tops : List ℕ) (ls : List ℤ) (g : ℕ) 
       attained s w h (no n) = rw (c .other s n) h
 
   -- **the label is higher than the pins: nothing can change**
-  pub visit-higher : Fine C ls → PinMax C ls φ g p → (p +ℤ pos 1) ≤ℤ labelIn ls (C .inputs + g) → Visited C k φ tops ls ls g 0
+  pub visit-higher : Fine C ls → PinMax C ls φ g p → (p +ℤ pos 1) ≤ℤ labelIn ls (C .inputs + g) → Visited M δ C k φ tops ls ls g 0
   visit-higher f m l = record {
     most = omega arith;
     fine = f;
@@ -84,7 +86,7 @@ module _ (C : Circuit) (k φ : ℕ) (tops : List ℕ) (ls : List ℤ) (g : ℕ) 
     inside = let e = f .size in omega arith
 
     -- **past the ceiling at once**
-    pub visit-past : pos (φ * getD tops g 0) <ℤ p → Visited C k φ tops ls ls g 2
+    pub visit-past : pos (φ * getD tops g 0) <ℤ p → Visited M δ C k φ tops ls ls g 2
     visit-past o = record {
       most = omega arith;
       fine = f;
@@ -93,22 +95,22 @@ module _ (C : Circuit) (k φ : ℕ) (tops : List ℕ) (ls : List ℤ) (g : ℕ) 
       quiet = λ e. absurd (omega (arith, e));
       less = omega arith;
       falls = λ e. absurd (omega (arith, e));
-      refuted = λ e b. past-top (set ls (C .inputs + g) p) g h (kept-bounds (kept-p ls g p h inside m) b) (rw ((changed-set ls (C .inputs + g) p inside) .at) o);
+      refuted = λ e b. past-top M (set ls (C .inputs + g) p) g h (kept-bounds {δ = δ} (kept-p ls g p h inside m) b) (rw ((changed-set ls (C .inputs + g) p inside) .at) o);
     }
 
-    module _ (s : Small p) (ls′ : List ℤ) (rose : ℕ) (R : Raised ls ls′ (C .inputs + g) p rose) (q : ℕ) (a : Decides C ls′ φ k g p q) where
+    module _ (s : Small p) (ls′ : List ℤ) (rose : ℕ) (R : Raised ls ls′ (C .inputs + g) p rose) (q : ℕ) (a : Answered M δ C k φ ls′ g p q) where
       cases : (rose ≡ 0) ⊎ (rose ≡ 1)
       cases = two-cases rose (R .bound)
 
       changed : Changed ls ls′ (C .inputs + g) p
       changed = raised-changed inside R
 
-      kept : Kept C k φ ls ls′
+      kept : Kept M δ C k φ ls ls′
       kept = go cases
         where
-          go : (rose ≡ 0) ⊎ (rose ≡ 1) → Kept C k φ ls ls′
-          go (inl e) = subst (Kept C k φ ls) (sym (R .there e .1)) (kept-same ls)
-          go (inr e) = subst (Kept C k φ ls) (sym (R .lower e .1)) (kept-p ls g p h inside m)
+          go : (rose ≡ 0) ⊎ (rose ≡ 1) → Kept M δ C k φ ls ls′
+          go (inl e) = subst (Kept M δ C k φ ls) (sym (R .there e .1)) (kept-same ls)
+          go (inr e) = subst (Kept M δ C k φ ls) (sym (R .lower e .1)) (kept-p ls g p h inside m)
 
       no-more : p ≤ℤ pos (φ * getD tops g 0) → left C φ tops ls′ (C .gates) ≤ left C φ tops ls (C .gates)
       no-more u = go cases
@@ -124,27 +126,27 @@ module _ (C : Circuit) (k φ : ℕ) (tops : List ℕ) (ls : List ℤ) (g : ℕ) 
       inside′ = let e = changed .size in let i = inside in omega arith
 
       -- **a cut of height p is there**
-      pub visit-cut : q ≤ k → p ≤ℤ pos (φ * getD tops g 0) → Visited C k φ tops ls ls′ g rose
+      pub visit-cut : q ≤ k → p ≤ℤ pos (φ * getD tops g 0) → Visited M δ C k φ tops ls ls′ g rose
       visit-cut few u = record {
         most = let b = R .bound in omega arith;
         fine = fine-of f s changed;
         keeps = kept;
         same = λ e. R .there e .1;
-        quiet = λ e. level p m (R .there e .0) (λ N S. subst (λ (x : List ℤ). Parted N (C .inputs + g) φ (labelIn x) p (C .border) k) (R .there e .1)
-            (a .some N (S .holds) (S .ranked) (S .loopless) few));
+        quiet = λ e. level p m (R .there e .0) (λ N S. subst (λ (x : List ℤ). Falling N φ (labelIn x) → TrialCut M N k φ δ (labelIn x) (C .inputs + g) p) (R .there e .1)
+            (a .some N (sane-of S) few));
         less = no-more u;
         falls = λ e. left-falls changed (R .lower e .0) u (C .gates) h;
         refuted = λ e. absurd (let b = R .bound in omega (arith, e));
       }
 
       -- **no cut of height p, and room for p + 1**
-      pub visit-lift : k < q → p <ℤ pos (φ * getD tops g 0) → Small (p +ℤ pos 1) → (ls″ : List ℤ) → ls″ ≡ set ls′ (C .inputs + g) (p +ℤ pos 1) → Visited C k φ tops ls ls″ g 1
+      pub visit-lift : k < q → p <ℤ pos (φ * getD tops g 0) → Small (p +ℤ pos 1) → (ls″ : List ℤ) → ls″ ≡ set ls′ (C .inputs + g) (p +ℤ pos 1) → Visited M δ C k φ tops ls ls″ g 1
       visit-lift many u s′ ls″ e =
           let c = changed-then changed (subst (λ (x : List ℤ). Changed ls′ x (C .inputs + g) (p +ℤ pos 1)) (sym e) (changed-set ls′ (C .inputs + g) (p +ℤ pos 1) inside′)) in
           record {
             most = omega arith;
             fine = fine-of f s′ c;
-            keeps = kept-then kept (subst (Kept C k φ ls′) (sym e) (kept-more ls′ g q p h inside′ max a many));
+            keeps = kept-then kept (subst (Kept M δ C k φ ls′) (sym e) (kept-more ls′ g q p h inside′ max a many));
             same = λ i. absurd (omega (arith, i));
             quiet = λ i. absurd (omega (arith, i));
             less = let d = left-falls c (omega (arith, ints, +-parts p (pos 1))) (omega (arith, ints, +-parts p (pos 1))) (C .gates) h in omega arith;
@@ -153,7 +155,7 @@ module _ (C : Circuit) (k φ : ℕ) (tops : List ℕ) (ls : List ℤ) (g : ℕ) 
           }
 
       -- **no cut of height p, and p is the ceiling**
-      pub visit-over : k < q → p ≤ℤ pos (φ * getD tops g 0) → pos (φ * getD tops g 0) ≤ℤ p → Visited C k φ tops ls ls′ g 2
+      pub visit-over : k < q → p ≤ℤ pos (φ * getD tops g 0) → pos (φ * getD tops g 0) ≤ℤ p → Visited M δ C k φ tops ls ls′ g 2
       visit-over many t u = record {
         most = omega arith;
         fine = fine-of f s changed;
@@ -163,6 +165,6 @@ module _ (C : Circuit) (k φ : ℕ) (tops : List ℕ) (ls : List ℤ) (g : ℕ) 
         less = no-more t;
         falls = λ i. absurd (omega (arith, i));
         refuted = λ i b.
-            past-top (set ls′ (C .inputs + g) (p +ℤ pos 1)) g h (kept-bounds (kept-then kept (kept-more ls′ g q p h inside′ max a many)) b)
+            past-top M (set ls′ (C .inputs + g) (p +ℤ pos 1)) g h (kept-bounds (kept-then kept (kept-more ls′ g q p h inside′ max a many)) b)
             (rw ((changed-set ls′ (C .inputs + g) (p +ℤ pos 1) inside′) .at) (omega (arith, ints, +-parts p (pos 1))));
       }

@@ -13,28 +13,32 @@ use Rattle.net_model.specs.Arrays.{stride}
 use Rattle.net_model.specs.Checks.{Sound, Fits, Loopless}
 use Rattle.cone_theory.specs.Ranks.{Ranked}
 use Rattle.cone_theory.specs.Reach.{reachOf}
-use Rattle.label_theory.specs.Labels.{plain, Labelling, OutputsMet}
+use Rattle.label_theory.specs.Labels.{Mode, plain, forward, LabellingIn, OutputsMet}
 use Rattle.label_theory.specs.Pins.{OutPath}
-use Rattle.label_theory.specs.Bounds.{LowerBound}
-use Rattle.label_theory.specs.Near.{Keeps}
+use Rattle.label_theory.specs.Bounds.{LowerBoundIn}
+use Rattle.label_theory.specs.Forced.{Falling}
+use Rattle.label_theory.specs.Near.{Keeps, TrialCut}
 use Rattle.signed.specs.Range.{Small, room, labelIn}
 use Rattle.cut_circuit.specs.Circuit.{Circuit}
 use Rattle.cut_circuit.specs.Packed.{packedOf, sourcesAt, countsAt}
 use Rattle.cut_circuit.specs.declared.Extent.{Extent}
 use Rattle.cut_circuit.specs.Bridge.{Holds}
-use Rattle.cut_question.specs.Question.{Parted}
 use Rattle.label_pins.specs.PinHeights.{heightAt, PinFits}
 
--- What the sweep may assume of a net: its wiring is the circuit's, it passed the checks, the border leaves room for its cuts, and each gate g has a path to an
--- output with tops g − 1 registers.
-pub record Suits (C : Circuit) (k : ℕ) (tops : List ℕ) (N : Net) : Type 0 where
+-- What a ceiling of so many periods stands on: a path from the gate to an output with one register less; in forward mode no label is above one period.
+abbrev pub Ceiled : Mode → Net → ℕ → ℕ → Type 0
+Ceiled plain N v top = (1 ≤ top) × OutPath N v (top - 1)
+Ceiled forward N v top = 1 ≤ top
+
+-- What the sweep may assume of a net: its wiring is the circuit's, it passed the checks, the border leaves room for its cuts, and its ceilings are right.
+pub record Suits (M : Mode) (C : Circuit) (k : ℕ) (tops : List ℕ) (N : Net) : Type 0 where
   pub holds : Holds C N
   pub ranked : Ranked N
   pub loopless : Loopless N
   pub sound : Sound N
   pub fits : Fits N k
   pub border : k * reachOf N ≤ C .border
-  pub path : (g : ℕ) → g < C .gates → (1 ≤ getD tops g 0) × OutPath N (C .inputs + g) (getD tops g 0 - 1)
+  pub path : (g : ℕ) → g < C .gates → Ceiled M N (C .inputs + g) (getD tops g 0)
 
 -- The same without ceilings and numbers of pins: all that a visit's new label needs.
 pub record Sane (C : Circuit) (k : ℕ) (N : Net) : Type 0 where
@@ -55,24 +59,29 @@ pub record PinMax (C : Circuit) (ls : List ℤ) (φ g : ℕ) (p : ℤ) : Type 0 
   pub isPin : pin < getD (C .pins) g 0
   pub attained : pinHeight C ls φ g pin ≡ p
 
--- nothing can change at gate g: its label is above the pins' by 1, or it is the pins' and a separation with at most k leaves was found
-pub data Quiet (C : Circuit) (k φ : ℕ) (tops : List ℕ) (ls : List ℤ) (g : ℕ) : Type 0 where
-  higher : (p : ℤ) → PinMax C ls φ g p → (p +ℤ pos 1) ≤ℤ labelIn ls (C .inputs + g) → Quiet C k φ tops ls g
+-- Nothing can change at gate g: its label is above the pins' by 1, or it is the pins' and there is a cut so low, wherever labels do not fall along pins.
+pub data Quiet (M : Mode) (δ : ℕ) (C : Circuit) (k φ : ℕ) (tops : List ℕ) (ls : List ℤ) (g : ℕ) : Type 0 where
+  higher : (p : ℤ) → PinMax C ls φ g p → (p +ℤ pos 1) ≤ℤ labelIn ls (C .inputs + g) → Quiet M δ C k φ tops ls g
   level : (p : ℤ) → PinMax C ls φ g p → labelIn ls (C .inputs + g) ≡ p
-      → ((N : Net) → Suits C k tops N → Parted N (C .inputs + g) φ (labelIn ls) p (C .border) k) → Quiet C k φ tops ls g
+      → ((N : Net) → Suits M C k tops N → Falling N φ (labelIn ls) → TrialCut M N k φ δ (labelIn ls) (C .inputs + g) p) → Quiet M δ C k φ tops ls g
 
 -- a lower bound for every net that suits
-abbrev pub Bounds : Circuit → ℕ → ℕ → List ℕ → List ℤ → Type 0
-Bounds C k φ tops ls = (N : Net) → Suits C k tops N → LowerBound N k φ (labelIn ls)
+abbrev pub Bounds : Mode → Circuit → ℕ → ℕ → List ℕ → List ℤ → Type 0
+Bounds M C k φ tops ls = (N : Net) → Suits M C k tops N → LowerBoundIn M N k φ (labelIn ls)
 
--- The labels of inputs stay, and labels near all labellings stay near. No ceiling occurs here.
-pub record Kept (C : Circuit) (k φ : ℕ) (ls ls′ : List ℤ) : Type 0 where
+-- The labels of inputs stay, and labels that no labelling is below by more than δ stay so near. No ceiling occurs here.
+pub record Kept (M : Mode) (δ : ℕ) (C : Circuit) (k φ : ℕ) (ls ls′ : List ℤ) : Type 0 where
   pub inputs : (u : ℕ) → u < C .inputs → labelIn ls′ u ≡ labelIn ls u
-  pub near : (δ : ℕ) (N : Net) → Sane C k N → Keeps plain N k φ δ (labelIn ls) (labelIn ls′)
+  pub near : (N : Net) → Sane C k N → Keeps M N k φ δ (labelIn ls) (labelIn ls′)
 
 -- no labelling meets the outputs of a net that suits
-abbrev pub Refuted : Circuit → ℕ → ℕ → List ℕ → Type 0
-Refuted C k φ tops = (N : Net) → Suits C k tops N → (lab : ℕ → ℤ) → Labelling N k φ lab → ¬ OutputsMet N φ lab
+abbrev pub Refuted : Mode → Circuit → ℕ → ℕ → List ℕ → Type 0
+Refuted M C k φ tops = (N : Net) → Suits M C k tops N → (lab : ℕ → ℤ) → LabellingIn M N k φ lab → ¬ OutputsMet N φ lab
+
+-- What the answer r to the question of a visit means.
+pub record Answered (M : Mode) (δ : ℕ) (C : Circuit) (k φ : ℕ) (ls : List ℤ) (g : ℕ) (p : ℤ) (r : ℕ) : Type 0 where
+  pub none : (N : Net) → Sane C k N → k < r → ¬ TrialCut M N k φ δ (labelIn ls) (C .inputs + g) p
+  pub some : (N : Net) → Sane C k N → r ≤ k → Falling N φ (labelIn ls) → TrialCut M N k φ δ (labelIn ls) (C .inputs + g) p
 
 -- the circuit without slots: what is told of labels does not speak of forced copies
 abbrev pub wiring : Extent → List ℕ → Circuit
@@ -128,12 +137,12 @@ left C φ tops ls zero = 0
 left C φ tops ls (suc n) = up (pos (φ * getD tops n 0) -ℤ labelIn ls (C .inputs + n)) + left C φ tops ls n
 
 -- One visit of gate g. 0: nothing can change. 1: its label rose. 2: it would pass its ceiling.
-pub record Visited (C : Circuit) (k φ : ℕ) (tops : List ℕ) (ls ls′ : List ℤ) (g r : ℕ) : Type 0 where
+pub record Visited (M : Mode) (δ : ℕ) (C : Circuit) (k φ : ℕ) (tops : List ℕ) (ls ls′ : List ℤ) (g r : ℕ) : Type 0 where
   pub most : r ≤ 2
   pub fine : Fine C ls′
-  pub keeps : Kept C k φ ls ls′
+  pub keeps : Kept M δ C k φ ls ls′
   pub same : r ≡ 0 → ls′ ≡ ls
-  pub quiet : r ≡ 0 → Quiet C k φ tops ls g
+  pub quiet : r ≡ 0 → Quiet M δ C k φ tops ls g
   pub less : left C φ tops ls′ (C .gates) ≤ left C φ tops ls (C .gates)
   pub falls : r ≡ 1 → left C φ tops ls′ (C .gates) < left C φ tops ls (C .gates)
-  pub refuted : r ≡ 2 → Bounds C k φ tops ls → Refuted C k φ tops
+  pub refuted : r ≡ 2 → Bounds M C k φ tops ls → Refuted M C k φ tops

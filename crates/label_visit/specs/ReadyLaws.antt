@@ -20,20 +20,9 @@ use Rattle.signed.specs.RangeLaws.{small-between}
 use Rattle.cut_circuit.specs.Circuit.{Circuit, Layout}
 use Rattle.cut_circuit.specs.Packed.{packedOf, sourcesAt, countsAt}
 use Rattle.cut_circuit.specs.declared.Extent.{Extent}
-use Rattle.cut_question.specs.Question.{Decides, Asks}
 use Rattle.label_pins.specs.PinHeights.{heightAt, PinFits, Best}
 use Rattle.label_pins.specs.PinHeightLaws.{height-back, small-height}
 use Rattle.label_visit.specs.LabelVisits.{PinMax, wiring, PinsFit, Raised, Changed, Fine, Ready}
-
--- the answers speak of the wiring alone
-pub decides-wiring : {s : Extent} {net slots : List ℕ} {ls : List ℤ} {φ k g r : ℕ} {h : ℤ} → Decides (packedOf s net slots) ls φ k g h r → Decides (wiring s net) ls φ k g h r
-decides-wiring a = record {
-  none = λ N H. a .none N (record { inputs = H .inputs; gates = H .gates; lists = H .lists });
-  some = λ N H. a .some N (record { inputs = H .inputs; gates = H .gates; lists = H .lists });
-}
-
-pub asks-of : {s : Extent} {net slots : List ℕ} {ls : List ℤ} {φ k g : ℕ} → Ready s ls φ k → g < s .gates → Asks (packedOf s net slots) ls φ k g
-asks-of r h = record { labels = r .size; small = r .small; shift = r .shift; gate = h; least = r .least; limit = r .limit; fits = r .fits }
 
 pub raise-lower : (ls : List ℤ) (v : ℕ) (p q : ℤ) → q ≡ p → labelIn ls v <ℤ p → Raised ls (set ls v q) v p 1
 raise-lower ls v p q e h = record { bound = omega arith; lower = λ i. (h, ap (set ls v) e); there = λ i. absurd (omega (arith, i)) }

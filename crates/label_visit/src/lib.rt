@@ -2,6 +2,9 @@
 use cut_circuit::Extent;
 use cut_forced::Query;
 use cut_question::question;
+use label_aim::Aim;
+use label_aim::narrowed;
+use label_aim::too_high;
 use label_pins::best_pin;
 use label_pins::pin_height;
 use limits::PINS;
@@ -17,15 +20,8 @@ ghost use lib.Signed.{_≤ℤ_, _<ℤ_};
 ghost use Rattle.signed.specs.Range.{Small, room, labelIn};
 ghost use Rattle.cut_circuit.specs.Packed.{packedOf};
 ghost use Rattle.cut_question.specs.Separating.{AtRest};
-ghost use Rattle.label_visit.specs.LabelVisits.{wiring, topsIn, PinsFit, PinMax, Raised, Ready, Ceilings, Visited};
-
-// What is asked of the labels: a period, the most leaves of a LUT, the outputs of the net, and a ceiling of all gates, in periods; 0: each gate has its own.
-pub struct Aim {
-    pub phi: usize,
-    pub k: usize,
-    pub outputs: usize,
-    pub cap: usize,
-}
+ghost use Rattle.label_aim.specs.Aims.{modeOf, riseIn};
+ghost use Rattle.label_visit.specs.LabelVisits.{wiring, topsIn, PinsFit, PinMax, Raised, Ready, Ceilings, Answered, Visited};
 
 // Raises a label to p: 1 if it was lower.
 pub fn raise(labels: &mut [i64], v: usize, p: i64) -> usize
@@ -69,6 +65,50 @@ pub fn top_of(s: Extent, net: &[usize], cap: usize, g: usize) -> usize
     net[(2 + 3 * PINS) * s.gates + (s.inputs + s.gates) + s.gates + g]
 }
 
+// Whether gate g has a k-cut no higher than p whose cone suits the mode: a number of at most k where it has one, else a number above k.
+fn ask(
+    s: Extent,
+    net: &[usize],
+    slots: &mut [u32],
+    table: &mut [u8],
+    list: &mut [u32],
+    stack: &mut [u32],
+    counts: &mut [u32],
+    members: &mut [u32],
+    labels: &[i64],
+    a: Aim,
+    g: usize,
+    p: i64,
+) -> usize
+    requires { ⌜ AtRest (packedOf s (now net) (now slots)) (now table) (now list) (now stack) (now counts) (now members) ⌝ }
+    requires { ⌜ Ready s (now labels) (a .phi) (a .k) × (g < s .gates) × Small p ⌝ }
+    ensures { λ _. ⌜ AtRest (packedOf s (now (net .entry)) (now (slots .exit))) (now (table .exit)) (now (list .exit)) (now (stack .exit)) (now (counts .exit)) (now (members .exit)) ⌝ }
+    ensures { λ r. ⌜ Answered (modeOf (a .forward)) (riseIn s a) (wiring s (now (net .entry))) (a .k) (a .phi) (now (labels .entry)) g p r ⌝ }
+{
+    if too_high(s, a, p) {
+        return a.k + 1;
+    }
+    let e = narrowed(s, a, p);
+    let q = Query {
+        phi: a.phi,
+        k: a.k,
+        gate: g,
+        height: p,
+    };
+    question(
+        e,
+        net,
+        slots,
+        table,
+        list,
+        stack,
+        counts,
+        members,
+        labels,
+        q,
+    )
+}
+
 // Gate g, whose pins' largest is p: its label becomes p, or p + 1 where there is no k-cut of height p, unless it would pass its ceiling.
 fn try_label(
     s: Extent,
@@ -88,19 +128,13 @@ fn try_label(
     requires { ⌜ Ready s (now labels) (a .phi) (a .k) × (g < s .gates) × Ceilings (wiring s (now net)) (a .phi) (topsIn s (now net) (a .cap)) ⌝ }
     requires { ⌜ PinMax (wiring s (now net)) (now labels) (a .phi) g p × (labelIn (now labels) (s .inputs + g) ≤ℤ p) × Small p ⌝ }
     ensures { λ _. ⌜ AtRest (packedOf s (now (net .entry)) (now (slots .exit))) (now (table .exit)) (now (list .exit)) (now (stack .exit)) (now (counts .exit)) (now (members .exit)) ⌝ }
-    ensures { λ r. ⌜ Visited (wiring s (now (net .entry))) (a .k) (a .phi) (topsIn s (now (net .entry)) (a .cap)) (now (labels .entry)) (now (labels .exit)) g r ⌝ }
+    ensures { λ r. ⌜ Visited (modeOf (a .forward)) (riseIn s a) (wiring s (now (net .entry))) (a .k) (a .phi) (topsIn s (now (net .entry)) (a .cap)) (now (labels .entry)) (now (labels .exit)) g r ⌝ }
 {
     let v = s.inputs + g;
     let top = a.phi * top_of(s, net, a.cap, g);
     if below(p, top + 1) {
         let rose = raise(labels, v, p);
-        let q = Query {
-            phi: a.phi,
-            k: a.k,
-            gate: g,
-            height: p,
-        };
-        let r = question(
+        let r = ask(
             s,
             net,
             slots,
@@ -110,7 +144,9 @@ fn try_label(
             counts,
             members,
             labels,
-            q,
+            a,
+            g,
+            p,
         );
         if r <= a.k {
             return rose;
@@ -154,7 +190,7 @@ pub fn visit(
     requires { ⌜ AtRest (packedOf s (now net) (now slots)) (now table) (now list) (now stack) (now counts) (now members) ⌝ }
     requires { ⌜ Ready s (now labels) (a .phi) (a .k) × (g < s .gates) × Ceilings (wiring s (now net)) (a .phi) (topsIn s (now net) (a .cap)) ⌝ }
     ensures { λ _. ⌜ AtRest (packedOf s (now (net .entry)) (now (slots .exit))) (now (table .exit)) (now (list .exit)) (now (stack .exit)) (now (counts .exit)) (now (members .exit)) ⌝ }
-    ensures { λ r. ⌜ Visited (wiring s (now (net .entry))) (a .k) (a .phi) (topsIn s (now (net .entry)) (a .cap)) (now (labels .entry)) (now (labels .exit)) g r ⌝ }
+    ensures { λ r. ⌜ Visited (modeOf (a .forward)) (riseIn s a) (wiring s (now (net .entry))) (a .k) (a .phi) (topsIn s (now (net .entry)) (a .cap)) (now (labels .entry)) (now (labels .exit)) g r ⌝ }
 {
     let v = s.inputs + g;
     let p = highest(s, net, labels, a.phi, g);

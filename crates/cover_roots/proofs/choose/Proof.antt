@@ -5,6 +5,7 @@ use native.Mathlib.Omega.{arith}
 use lib.ListN.{length}
 use Rattle.cut_circuit.specs.Packed.{packedOf}
 use Rattle.cut_question.specs.Separating.{AtRest}
+use Rattle.label_aim.specs.Aims.{modeOf}
 use Rattle.label_sweep.specs.Sweeps.{outsIn}
 use Rattle.cover_roots.specs.RootMarks.{Pending, left}
 use Rattle.cover_roots.specs.RootRounds.{Choosing}
@@ -14,7 +15,7 @@ use Rattle.cover_roots.proofs.choose.Tie as tie
 
 abbrev Inv-loop : tie.InvT-loop
 Inv-loop s net slots₀ table₀ list₀ stack₀ counts₀ members₀ labels a rows₀ g₀ slots table list stack counts members rows g =
-    AtRest (packedOf s net slots) table list stack counts members × Choosing (packedOf s net []) labels (outsIn s net) (a .outputs) (a .phi) (a .k) rows × Pending rows (s .gates) g
+    AtRest (packedOf s net slots) table list stack counts members × Choosing (modeOf (a .forward)) (packedOf s net []) labels (outsIn s net) (a .outputs) (a .phi) (a .k) rows × Pending rows (s .gates) g
     × (length slots ≡ length slots₀) × (length table ≡ length table₀) × (length list ≡ length list₀) × (length stack ≡ length stack₀) × (length counts ≡ length counts₀) × (length members ≡ length members₀)
     × (length rows ≡ length rows₀)
 
@@ -22,7 +23,7 @@ abbrev μ-loop : tie.MeasureT-loop
 μ-loop s net slots₀ table₀ list₀ stack₀ counts₀ members₀ labels a rows₀ g₀ slots table list stack counts members rows g = left rows (s .gates)
 
 mark-outputs-requires : tie.Need-mark-outputs-requires Inv-loop μ-loop
-mark-outputs-requires c κs = (c .before .before .before .before .before .before .before .before .before .pre .1 .0, omega (arith, c .before .before .before .before .before .before .before .before .before .pre .1 .1 .places))
+mark-outputs-requires c κs = (c .before .before .before .before .before .before .before .before .before .pre .1 .0 .0, omega (arith, c .before .before .before .before .before .before .before .before .before .pre .1 .1 .places))
 
 pending-requires : tie.Need-pending-requires Inv-loop μ-loop
 pending-requires c κs = let e = c .before .before .before .mark-outputs .kept .1 .1 .1 .0 in omega (arith, e, c .before .before .before .before .before .before .before .before .before .before .before .before .before .pre .1 .1 .places)
@@ -33,7 +34,7 @@ loop-holds c = (c .before .before .before .before .before .before .before .befor
 take-requires : tie.Need-take-requires Inv-loop μ-loop
 take-requires c κs =
     let e = c .before .before .before .before .before .before .before .before .before .loop .inv .9 ∙ c .before .before .before .before .before .before .before .before .before .before .before .before .before .before .mark-outputs .kept .1 .1 .1 .0 in
-    (c .before .before .before .before .before .before .before .before .before .loop .inv .0, (c .before .before .before .before .before .before .before .before .before .before .before .before .before .before .before .before .before .before .before .before .before .before .before .before .pre .1 .1 .asking, omega arith, omega (arith, e, c .before .before .before .before .before .before .before .before .before .before .before .before .before .before .before .before .before .before .before .before .before .before .before .before .pre .1 .1 .places)))
+    (c .before .before .before .before .before .before .before .before .before .loop .inv .0, (c .before .before .before .before .before .before .before .before .before .before .before .before .before .before .before .before .before .before .before .before .before .before .before .before .pre .1 .1 .asking, omega arith, omega (arith, e, c .before .before .before .before .before .before .before .before .before .before .before .before .before .before .before .before .before .before .before .before .before .before .before .before .pre .1 .1 .places), c .before .before .before .before .before .before .before .before .before .before .before .before .before .before .before .before .before .before .before .before .before .before .before .before .pre .1 .0 .1))
 
 pending-requires-2 : tie.Need-pending-requires-2 Inv-loop μ-loop
 pending-requires-2 c κs =

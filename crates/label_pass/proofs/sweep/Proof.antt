@@ -6,6 +6,7 @@ use native.Mathlib.Omega.{arith}
 use lib.ListN.{length}
 use Rattle.cut_circuit.specs.Packed.{packedOf}
 use Rattle.cut_question.specs.Separating.{AtRest}
+use Rattle.label_aim.specs.Aims.{modeOf, riseIn}
 use Rattle.label_visit.specs.LabelVisits.{wiring, topsIn}
 use Rattle.label_visit.specs.ReadyLaws.{ready-fine, ready-after}
 use Rattle.label_pass.specs.Passes.{orderIn, Sweep}
@@ -15,7 +16,7 @@ use Rattle.label_pass.proofs.sweep.Tie as tie
 
 abbrev Inv-loop : tie.InvT-loop
 Inv-loop s net slots₀ table₀ list₀ stack₀ counts₀ members₀ labels₀ a stop last₀ end₀ i₀ slots table list stack counts members labels last end i =
-    AtRest (packedOf s net slots) table list stack counts members × Sweep (wiring s net) (a .k) (a .phi) (topsIn s net (a .cap)) (orderIn s net) labels₀ labels i end last
+    AtRest (packedOf s net slots) table list stack counts members × Sweep (modeOf (a .forward)) (riseIn s a) (wiring s net) (a .k) (a .phi) (topsIn s net (a .cap)) (orderIn s net) labels₀ labels i end last
     × (length slots ≡ length slots₀) × (length table ≡ length table₀) × (length list ≡ length list₀) × (length stack ≡ length stack₀) × (length counts ≡ length counts₀) ×
     (length members ≡ length members₀) × (length labels ≡ length labels₀)
 

@@ -8,6 +8,7 @@ use lib.IntN.{ℤ}
 use lib.ListN.{length}
 use Rattle.cut_circuit.specs.Packed.{packedOf}
 use Rattle.cut_question.specs.Separating.{AtRest}
+use Rattle.label_aim.specs.Aims.{modeOf, riseIn}
 use Rattle.label_visit.specs.LabelVisits.{wiring, topsIn, Fine}
 use Rattle.label_visit.specs.ReadyLaws.{ready-after}
 use Rattle.label_pass.specs.Passes.{orderIn, QuietFrom, Progress}
@@ -18,8 +19,8 @@ use Rattle.label_pass.proofs.sweep_some.Tie as tie
 abbrev Inv-loop : tie.InvT-loop
 Inv-loop s net slots₀ table₀ list₀ stack₀ counts₀ members₀ labels₀ a stop w t₀ i₀ slots table list stack counts members labels t i =
     AtRest (packedOf s net slots) table list stack counts members × Fine (wiring s net) labels
-    × ((ls : List ℤ) → Progress (wiring s net) (a .k) (a .phi) (topsIn s net (a .cap)) (orderIn s net) ls labels₀ t₀ → Progress (wiring s net) (a .k) (a .phi) (topsIn s net (a .cap)) (orderIn s net) ls labels t)
-    × (i < w → (t ≤ s .gates) × QuietFrom (wiring s net) (a .k) (a .phi) (topsIn s net (a .cap)) (orderIn s net) labels t)
+    × ((ls : List ℤ) → Progress (modeOf (a .forward)) (riseIn s a) (wiring s net) (a .k) (a .phi) (topsIn s net (a .cap)) (orderIn s net) ls labels₀ t₀ → Progress (modeOf (a .forward)) (riseIn s a) (wiring s net) (a .k) (a .phi) (topsIn s net (a .cap)) (orderIn s net) ls labels t)
+    × (i < w → (t ≤ s .gates) × QuietFrom (modeOf (a .forward)) (riseIn s a) (wiring s net) (a .k) (a .phi) (topsIn s net (a .cap)) (orderIn s net) labels t)
     × (length slots ≡ length slots₀) × (length table ≡ length table₀) × (length list ≡ length list₀) × (length stack ≡ length stack₀) × (length counts ≡ length counts₀) × (length members ≡ length members₀) × (length labels ≡ length labels₀)
 
 abbrev μ-loop : tie.MeasureT-loop

@@ -6,6 +6,7 @@ use native.Mathlib.Omega.{arith}
 use lib.ListN.{length}
 use Rattle.cut_circuit.specs.Packed.{packedOf}
 use Rattle.cut_question.specs.Separating.{AtRest}
+use Rattle.label_aim.specs.Aims.{modeOf}
 use Rattle.label_visit.specs.LabelVisits.{wiring, topsIn}
 use Rattle.label_lines.specs.LineLaws.{layout-wires}
 use Rattle.label_sweep.specs.Sweeps.{outsIn, delaysIn}
@@ -15,10 +16,10 @@ use Rattle.label_period.proofs.halve.Statement.{statement}
 use Rattle.label_period.proofs.halve.Tie as tie
 
 abbrev Inv-loop : tie.InvT-loop
-Inv-loop s net slots₀ table₀ list₀ stack₀ counts₀ members₀ labels₀ n k from low₀ high₀ slots table list stack counts members labels low high = Halved (wiring s net) k (topsIn s net 0) (outsIn s net) (delaysIn s net n) n low high × AtRest (packedOf s net slots) table list stack counts members × (length slots ≡ length slots₀) × (length table ≡ length table₀) × (length list ≡ length list₀) × (length stack ≡ length stack₀) × (length counts ≡ length counts₀) × (length members ≡ length members₀) × (length labels ≡ length labels₀)
+Inv-loop s net slots₀ table₀ list₀ stack₀ counts₀ members₀ labels₀ a from low₀ high₀ slots table list stack counts members labels low high = Halved (modeOf (a .forward)) (wiring s net) (a .k) (topsIn s net (a .cap)) (outsIn s net) (delaysIn s net (a .outputs)) (a .outputs) low high × AtRest (packedOf s net slots) table list stack counts members × (length slots ≡ length slots₀) × (length table ≡ length table₀) × (length list ≡ length list₀) × (length stack ≡ length stack₀) × (length counts ≡ length counts₀) × (length members ≡ length members₀) × (length labels ≡ length labels₀)
 
 abbrev μ-loop : tie.MeasureT-loop
-μ-loop s net slots₀ table₀ list₀ stack₀ counts₀ members₀ labels₀ n k from low₀ high₀ slots table list stack counts members labels low high = high - low
+μ-loop s net slots₀ table₀ list₀ stack₀ counts₀ members₀ labels₀ a from low₀ high₀ slots table list stack counts members labels low high = high - low
 
 longest-line-requires : tie.Need-longest-line-requires Inv-loop μ-loop
 longest-line-requires c κs = (layout-wires (c .before .before .before .before .before .before .before .pre .0 .resting .layout), c .before .before .before .before .before .before .before .pre .1 .1 .0 .1, c .before .before .before .before .before .before .before .pre .1 .1 .1 .1)
@@ -34,7 +35,7 @@ add-phi c = record { fits = omega (arith, c .before .loop .inv .0 .most, c .befo
 
 reach-requires : tie.Need-reach-requires Inv-loop μ-loop
 reach-requires c κs =
-    (c .before .before .before .before .before .before .before .before .loop .inv .1, (c .before .before .before .before .before .before .before .before .before .before .before .before .before .before .before .before .before .pre .1 .0, (sized-less _ (omega (arith, c .before .before .before .before .before .before .before .loop-test .taken, c .before .before .before .before .before .before .before .before .loop .inv .0 .most)) (c .before .before .before .before .before .before .before .before .loop .inv .8) (c .before .before .before .before .before .before .before .before .before .before .before .before .before .before .before .before .before .pre .1 .1 .0 .0), c .before .before .before .before .before .before .before .before .before .before .before .before .before .before .before .before .before .pre .1 .1 .0 .1, ceilings-less _ (omega (arith, c .before .before .before .before .before .before .before .loop-test .taken, c .before .before .before .before .before .before .before .before .loop .inv .0 .most)) (c .before .before .before .before .before .before .before .before .before .before .before .before .before .before .before .before .before .pre .1 .1 .0 .2))))
+    (c .before .before .before .before .before .before .before .before .loop .inv .1, (c .before .before .before .before .before .before .before .before .before .before .before .before .before .before .before .before .before .pre .1 .0, (sized-less _ (omega (arith, c .before .before .before .before .before .before .before .loop-test .taken, c .before .before .before .before .before .before .before .before .loop .inv .0 .most)) (c .before .before .before .before .before .before .before .before .loop .inv .8) (c .before .before .before .before .before .before .before .before .before .before .before .before .before .before .before .before .before .pre .1 .1 .0 .0), c .before .before .before .before .before .before .before .before .before .before .before .before .before .before .before .before .before .pre .1 .1 .0 .1, ceilings-less _ (omega (arith, c .before .before .before .before .before .before .before .loop-test .taken, c .before .before .before .before .before .before .before .before .loop .inv .0 .most)) (c .before .before .before .before .before .before .before .before .before .before .before .before .before .before .before .before .before .pre .1 .1 .0 .2), refl)))
 
 add-either : tie.Need-add-either Inv-loop μ-loop
 add-either c = record { fits = omega (arith, c .before .before .before .before .before .before .before .before .before .before .before .before .before .before .before .before .before .before .before .before .before .loop-test .taken, c .before .before .before .before .before .before .before .before .before .before .before .before .before .before .before .before .before .before .before .before .before .before .loop .inv .0 .most, c .before .before .before .before .before .before .before .before .before .before .before .before .before .before .before .before .before .before .before .before .before .before .before .before .before .before .before .before .before .before .before .pre .0 .resting .layout .slots, c .before .before .before .before .before .before .before .before .before .before .before .before .before .before .before .before .before .before .before .before .before .before .before .before .before .before .before .before .before .before .before .good) }

@@ -5,6 +5,7 @@ use native.Mathlib.Omega.{arith}
 use lib.ListN.{length}
 use Rattle.cut_circuit.specs.Packed.{packedOf}
 use Rattle.cut_question.specs.Separating.{AtRest}
+use Rattle.label_aim.specs.Aims.{modeOf}
 use Rattle.label_visit.specs.LabelVisits.{wiring, topsIn}
 use Rattle.label_sweep.specs.Sweeps.{outsIn, delaysIn}
 use Rattle.label_period.specs.PeriodSearch.{NoneBelow}
@@ -13,10 +14,10 @@ use Rattle.label_period.proofs.least_period.Statement.{statement}
 use Rattle.label_period.proofs.least_period.Tie as tie
 
 abbrev Inv-loop : tie.InvT-loop
-Inv-loop s net slots₀ table₀ list₀ stack₀ counts₀ members₀ labels₀ n k end phi₀ slots table list stack counts members labels phi = (1 ≤ phi) × (phi ≤ s .gates) × AtRest (packedOf s net slots) table list stack counts members × NoneBelow (wiring s net) k (topsIn s net 0) (outsIn s net) (delaysIn s net n) n phi × (length slots ≡ length slots₀) × (length table ≡ length table₀) × (length list ≡ length list₀) × (length stack ≡ length stack₀) × (length counts ≡ length counts₀) × (length members ≡ length members₀) × (length labels ≡ length labels₀)
+Inv-loop s net slots₀ table₀ list₀ stack₀ counts₀ members₀ labels₀ a end phi₀ slots table list stack counts members labels phi = (1 ≤ phi) × (phi ≤ s .gates) × AtRest (packedOf s net slots) table list stack counts members × NoneBelow (modeOf (a .forward)) (wiring s net) (a .k) (topsIn s net (a .cap)) (outsIn s net) (delaysIn s net (a .outputs)) (a .outputs) phi × (length slots ≡ length slots₀) × (length table ≡ length table₀) × (length list ≡ length list₀) × (length stack ≡ length stack₀) × (length counts ≡ length counts₀) × (length members ≡ length members₀) × (length labels ≡ length labels₀)
 
 abbrev μ-loop : tie.MeasureT-loop
-μ-loop s net slots₀ table₀ list₀ stack₀ counts₀ members₀ labels₀ n k end phi₀ slots table list stack counts members labels phi = s .gates - phi
+μ-loop s net slots₀ table₀ list₀ stack₀ counts₀ members₀ labels₀ a end phi₀ slots table list stack counts members labels phi = s .gates - phi
 
 few-requires : tie.Need-few-requires Inv-loop μ-loop
 few-requires c κs = c .before .before .before .before .before .before .before .pre .1 .1 .3
@@ -29,7 +30,7 @@ reach-requires c κs = (
   c .before .before .before .before .before .before .before .before .loop .inv .2,
   (
     c .before .before .before .before .before .before .before .before .before .before .before .before .before .before .before .before .before .pre .1 .0,
-    (sized-less (c .before .before .before .before .before .before .before .before .loop .phi) (c .before .before .before .before .before .before .before .before .loop .inv .1) (c .before .before .before .before .before .before .before .before .loop .inv .10) (c .before .before .before .before .before .before .before .before .before .before .before .before .before .before .before .before .before .pre .1 .1 .0), c .before .before .before .before .before .before .before .before .before .before .before .before .before .before .before .before .before .pre .1 .1 .1, ceilings-less (c .before .before .before .before .before .before .before .before .loop .phi) (c .before .before .before .before .before .before .before .before .loop .inv .1) (c .before .before .before .before .before .before .before .before .before .before .before .before .before .before .before .before .before .pre .1 .1 .2)),
+    (sized-less (c .before .before .before .before .before .before .before .before .loop .phi) (c .before .before .before .before .before .before .before .before .loop .inv .1) (c .before .before .before .before .before .before .before .before .loop .inv .10) (c .before .before .before .before .before .before .before .before .before .before .before .before .before .before .before .before .before .pre .1 .1 .0), c .before .before .before .before .before .before .before .before .before .before .before .before .before .before .before .before .before .pre .1 .1 .1, ceilings-less (c .before .before .before .before .before .before .before .before .loop .phi) (c .before .before .before .before .before .before .before .before .loop .inv .1) (c .before .before .before .before .before .before .before .before .before .before .before .before .before .before .before .before .before .pre .1 .1 .2), refl),
   ),
 )
 
@@ -99,6 +100,7 @@ reach-requires-2 c κs = (
       sized-less (c .before .before .before .before .before .before .before .before .before .before .before .before .before .before .before .before .before .before .before .before .halve .result) (c .before .before .before .before .before .before .before .before .before .before .before .before .before .before .before .before .before .before .before .before .halve .ensures .1 .most) (c .before .before .before .before .before .before .before .before .before .before .before .before .before .before .before .before .before .before .before .before .halve .kept .1 .1 .1 .1 .1 .1 .1 .1 .0 ∙ c .before .before .before .before .before .before .before .before .before .before .before .before .before .before .before .before .before .before .before .before .before .before .before .before .before .before .before .before .before .loop .inv .10) (c .before .before .before .before .before .before .before .before .before .before .before .before .before .before .before .before .before .before .before .before .before .before .before .before .before .before .before .before .before .before .before .before .before .before .before .before .before .before .pre .1 .1 .0),
       c .before .before .before .before .before .before .before .before .before .before .before .before .before .before .before .before .before .before .before .before .before .before .before .before .before .before .before .before .before .before .before .before .before .before .before .before .before .before .pre .1 .1 .1,
       ceilings-less (c .before .before .before .before .before .before .before .before .before .before .before .before .before .before .before .before .before .before .before .before .halve .result) (c .before .before .before .before .before .before .before .before .before .before .before .before .before .before .before .before .before .before .before .before .halve .ensures .1 .most) (c .before .before .before .before .before .before .before .before .before .before .before .before .before .before .before .before .before .before .before .before .before .before .before .before .before .before .before .before .before .before .before .before .before .before .before .before .before .before .pre .1 .1 .2),
+      refl,
     ),
   ),
 )

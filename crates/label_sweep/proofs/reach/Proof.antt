@@ -1,5 +1,6 @@
 -- `label_sweep::reach` meets its contract: past a ceiling no labelling meets the outputs; at rest the labels are the least, and the outputs decide.
 use Rattle.label_sweep.specs.EndLaws.{startable, ready-of, begun-bounds, labelled-past, labelled-rest, out-fits, rest-zero}
+use Rattle.label_aim.specs.AimLaws.{rise-none}
 use borrow.Author.Needs.{needs}
 use Rattle.label_sweep.proofs.reach.Statement.{statement}
 use Rattle.label_sweep.proofs.reach.Tie as tie
@@ -34,8 +35,8 @@ same-length-7 c = search needs
 returns : tie.Need-returns
 returns c = (c .before .before .before .before .before .before .before .before .before .before .before .before .before .before .sweep-all .ensures .0, labelled-past (begun-bounds (c .before .before .before .before .before .before .before .before .before .before .before .before .before .before .before .before .before .before .before .before .before .before .before .floors .ensures)) (c .before .before .before .before .before .before .before .before .before .before .before .before .before .before .sweep-all .ensures .1 .settling) (c .if1 .taken))
 
-met-requires : tie.Need-met-requires
-met-requires c κs = (c .before .before .before .before .before .before .before .before .before .before .before .before .before .before .before .before .before .before .before .before .before .before .before .before .before .before .before .before .before .before .before .before .before .pre .1 .0, out-fits (c .before .before .before .before .before .before .before .before .before .before .before .before .before .before .before .before .before .before .before .before .before .before .before .before .before .before .before .before .before .before .before .before .before .pre .1 .1 .0) (c .before .before .before .before .before .before .before .before .before .before .before .before .before .before .before .sweep-all .ensures .1 .settling .fine))
+ends-requires : tie.Need-ends-requires
+ends-requires c κs = (c .before .before .before .before .before .before .before .before .before .before .before .before .before .before .before .before .before .before .before .before .before .before .before .before .before .before .before .before .before .before .before .before .before .pre .1 .0, (out-fits (c .before .before .before .before .before .before .before .before .before .before .before .before .before .before .before .before .before .before .before .before .before .before .before .before .before .before .before .before .before .before .before .before .before .pre .1 .1 .0) (c .before .before .before .before .before .before .before .before .before .before .before .before .before .before .before .sweep-all .ensures .1 .settling .fine), c .before .before .before .before .before .before .before .before .before .before .before .before .before .before .before .sweep-all .ensures .1 .settling .fine))
 
 same-length-8 : tie.Need-same-length-8
 same-length-8 c = search needs
@@ -62,7 +63,7 @@ returns-2 : tie.Need-returns-2
 returns-2 c =
     let told = c .before .before .before .before .before .before .before .before .before .before .before .before .before .before .before .before .sweep-all .ensures .1 in (
       c .before .before .before .before .before .before .before .before .before .before .before .before .before .before .before .before .sweep-all .ensures .0,
-      labelled-rest (begun-bounds (c .before .before .before .before .before .before .before .before .before .before .before .before .before .before .before .before .before .before .before .before .before .before .before .before .before .floors .ensures)) (told .settling) (rest-zero (c .before .before .before .before .before .before .before .before .before .before .before .before .before .before .before .before .sweep-all .result) (told .settling .most) (told .ends) (c .before .before .if1 .left)) (c .met .ensures .0) (c .met .ensures .1),
+      labelled-rest (begun-bounds (c .before .before .before .before .before .before .before .before .before .before .before .before .before .before .before .before .before .before .before .before .before .before .before .before .before .floors .ensures)) (rise-none (c .before .before .before .before .before .before .before .before .before .before .before .before .before .before .before .before .before .before .before .before .before .before .before .before .before .before .before .before .before .before .before .before .before .before .args .s) (c .before .before .before .before .before .before .before .before .before .before .before .before .before .before .before .before .before .before .before .before .before .before .before .before .before .before .before .before .before .before .before .before .before .before .args .a) (c .before .before .before .before .before .before .before .before .before .before .before .before .before .before .before .before .before .before .before .before .before .before .before .before .before .before .before .before .before .before .before .before .before .before .pre .1 .1 .3)) (told .settling) (rest-zero (c .before .before .before .before .before .before .before .before .before .before .before .before .before .before .before .before .sweep-all .result) (told .settling .most) (told .ends) (c .before .before .if1 .left)) (c .ends .ensures .0) (c .ends .ensures .1),
     )
 
 pub reach-spec : {M : Type 1} → statement M
@@ -79,7 +80,7 @@ reach-spec =
     same-length-6
     same-length-7
     returns
-    met-requires
+    ends-requires
     same-length-8
     same-length-9
     same-length-10

@@ -7,6 +7,7 @@ use denote.Ref.{now}
 use lib.ListN.{length}
 use Rattle.cut_circuit.specs.Packed.{packedOf}
 use Rattle.cut_question.specs.Separating.{AtRest}
+use Rattle.label_aim.specs.Aims.{modeOf, riseIn}
 use Rattle.label_visit.specs.LabelVisits.{wiring, topsIn, left}
 use Rattle.label_visit.specs.ReadyLaws.{ready-fine, ready-after}
 use Rattle.label_pass.specs.Passes.{orderIn, QuietFrom}
@@ -18,8 +19,8 @@ use Rattle.label_sweep.proofs.sweep_all.Tie as tie
 
 abbrev Inv-loop : tie.InvT-loop
 Inv-loop s net slots₀ table₀ list₀ stack₀ counts₀ members₀ labels₀ a stop₀ w₀ r₀ slots table list stack counts members labels stop w r =
-    AtRest (packedOf s net slots) table list stack counts members × Settling (wiring s net) (a .k) (a .phi) (topsIn s net (a .cap)) labels₀ labels r
-    × (r ≡ 1 → (stop ≤ s .gates) × QuietFrom (wiring s net) (a .k) (a .phi) (topsIn s net (a .cap)) (orderIn s net) labels stop)
+    AtRest (packedOf s net slots) table list stack counts members × Settling (modeOf (a .forward)) (riseIn s a) (wiring s net) (a .k) (a .phi) (topsIn s net (a .cap)) labels₀ labels r
+    × (r ≡ 1 → (stop ≤ s .gates) × QuietFrom (modeOf (a .forward)) (riseIn s a) (wiring s net) (a .k) (a .phi) (topsIn s net (a .cap)) (orderIn s net) labels stop)
     × (length slots ≡ length slots₀) × (length table ≡ length table₀) × (length list ≡ length list₀) × (length stack ≡ length stack₀) × (length counts ≡ length counts₀) × (length members ≡ length members₀) × (length labels ≡ length labels₀)
 
 abbrev μ-loop : tie.MeasureT-loop
@@ -31,7 +32,7 @@ loop-holds c = (
   settling-first (ready-fine (c .before .before .before .before .before .before .before .pre .1 .0)),
   (λ e. (
     omega arith,
-    quiet-none (wiring (c .before .before .before .before .before .before .before .args .s) (now (c .before .before .before .before .before .before .before .args .net))) (c .before .before .before .before .before .before .before .args .a .k) (c .before .before .before .before .before .before .before .args .a .phi) (topsIn (c .before .before .before .before .before .before .before .args .s) (now (c .before .before .before .before .before .before .before .args .net)) (c .before .before .before .before .before .before .before .args .a .cap)) (orderIn (c .before .before .before .before .before .before .before .args .s) (now (c .before .before .before .before .before .before .before .args .net))) (now (c .before .before .before .before .before .before .before .args .labels)),
+    quiet-none (modeOf (c .before .before .before .before .before .before .before .args .a .forward)) (riseIn (c .before .before .before .before .before .before .before .args .s) (c .before .before .before .before .before .before .before .args .a)) (wiring (c .before .before .before .before .before .before .before .args .s) (now (c .before .before .before .before .before .before .before .args .net))) (c .before .before .before .before .before .before .before .args .a .k) (c .before .before .before .before .before .before .before .args .a .phi) (topsIn (c .before .before .before .before .before .before .before .args .s) (now (c .before .before .before .before .before .before .before .args .net)) (c .before .before .before .before .before .before .before .args .a .cap)) (orderIn (c .before .before .before .before .before .before .before .args .s) (now (c .before .before .before .before .before .before .before .args .net))) (now (c .before .before .before .before .before .before .before .args .labels)),
   )),
   refl,
   refl,

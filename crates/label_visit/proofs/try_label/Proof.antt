@@ -10,8 +10,9 @@ use lib.IntN.{ℤ, pos}
 use Rattle.integers.specs.Parts.{ints}
 use Rattle.signed.specs.Range.{labelIn, Small}
 use Rattle.signed.specs.RangeLaws.{back}
-use Rattle.label_visit.specs.ReadyLaws.{pinmax-at, decides-wiring, asks-of, raised-ready, raised-changed, ready-fine, small-next}
+use Rattle.label_visit.specs.ReadyLaws.{pinmax-at, raised-ready, raised-changed, ready-fine, small-next}
 use Rattle.label_visit.specs.LabelVisitLaws.{visit-cut, visit-lift, visit-over, visit-past}
+use Rattle.label_aim.specs.Aims.{modeOf, riseIn}
 use Rattle.label_visit.specs.LabelVisits.{wiring, topsIn}
 use borrow.Author.Needs.{needs}
 use Rattle.label_visit.proofs.try_label.Statement.{statement}
@@ -46,13 +47,16 @@ raise-requires c κs =
       (subst (λ (x : ℤ). labelIn (now (start .args .labels)) (start .args .s .inputs + start .args .g) ≤ℤ x) (sym (back (start .args .p) (start .fits .p))) (start .pre .1 .1 .1)),
     )
 
-question-requires : tie.Need-question-requires
-question-requires c κs =
+ask-requires : tie.Need-ask-requires
+ask-requires c κs =
     let start = c .before .before .before .before .before .before .before .before .before .before .before .before .before .before .before .before .before .before .before .before .before .before in (
       start .pre .0,
-      asks-of (raised-ready (start .args .g) (start .pre .1 .0 .0) (start .pre .1 .0 .1)
-          (subst Small (sym (back (start .args .p) (start .fits .p))) (start .pre .1 .1 .2)) (c .before .before .before .before .before .before .before .before .raise .ensures))
-          (start .pre .1 .0 .1),
+      (
+        raised-ready (start .args .g) (start .pre .1 .0 .0) (start .pre .1 .0 .1)
+            (subst Small (sym (back (start .args .p) (start .fits .p))) (start .pre .1 .1 .2)) (c .before .before .before .before .before .before .before .before .raise .ensures),
+        start .pre .1 .0 .1,
+        subst Small (sym (back (start .args .p) (start .fits .p))) (start .pre .1 .1 .2),
+      ),
     )
 
 same-length : tie.Need-same-length
@@ -78,16 +82,16 @@ same-length-7 c = search needs
 
 returns : tie.Need-returns
 returns c =
-    let question = c .before .before .before .before .before .before .before .before .before .before .before .before .before .before .question in
+    let ask = c .before .before .before .before .before .before .before .before .before .before .before .before .before .before .ask in
     let raise = c .before .before .before .before .before .before .before .before .before .before .before .before .before .before .before .before .before .before .before .before .before .before .before .raise in
     let start = c .before .before .before .before .before .before .before .before .before .before .before .before .before .before .before .before .before .before .before .before .before .before .before .before .before .before .before .before .before .before .before .before .before .before .before .before .before in
     let e = sym (back (start .args .p) (start .fits .p)) in (
-      question .ensures .0,
-      visit-cut (wiring (start .args .s) (now (start .args .net))) (start .args .a .k) (start .args .a .phi) (topsIn (start .args .s) (now (start .args .net)) (start .args .a .cap)) (now (start .args .labels)) (start .args .g)
+      ask .ensures .0,
+      visit-cut (modeOf (start .args .a .forward)) (riseIn (start .args .s) (start .args .a)) (wiring (start .args .s) (now (start .args .net))) (start .args .a .k) (start .args .a .phi) (topsIn (start .args .s) (now (start .args .net)) (start .args .a .cap)) (now (start .args .labels)) (start .args .g)
           (toZ w64 (ofZ w64 (start .args .p)))
           (ready-fine (start .pre .1 .0 .0)) (start .pre .1 .0 .1) (pinmax-at e (start .pre .1 .1 .0))
           (subst (λ (x : ℤ). labelIn (now (start .args .labels)) (start .args .s .inputs + start .args .g) ≤ℤ x) e (start .pre .1 .1 .1))
-          (subst Small e (start .pre .1 .1 .2)) _ (raise .result) (raise .ensures) (question .result) (decides-wiring (question .ensures .1))
+          (subst Small e (start .pre .1 .1 .2)) _ (raise .result) (raise .ensures) (ask .result) (ask .ensures .1)
           (omega arith) (let t = c .before .before .before .before .before .before .before .before .before .before .before .before .before .before .before .before .before .before .before .before .before .before .before .before .before .before .below .ensures .0 (c .before .before .before .before .before .before .before .before .before .before .before .before .before .before .before .before .before .before .before .before .before .before .before .before .before .if1 .taken) in omega (arith, ints, t, ap (λ (x : ℕ). start .args .a .phi * x) (c .before .before .before .before .before .before .before .before .before .before .before .before .before .before .before .before .before .before .before .before .before .before .before .before .before .before .before .before .top-of .ensures))),
     )
 
@@ -127,18 +131,18 @@ same-length-14 c = search needs
 
 returns-2 : tie.Need-returns-2
 returns-2 c =
-    let question = c .before .before .before .before .before .before .before .before .before .before .before .before .before .before .before .before .before .before .before .question in
+    let ask = c .before .before .before .before .before .before .before .before .before .before .before .before .before .before .before .before .before .before .before .ask in
     let raise = c .before .before .before .before .before .before .before .before .before .before .before .before .before .before .before .before .before .before .before .before .before .before .before .before .before .before .before .before .raise in
     let start = c .before .before .before .before .before .before .before .before .before .before .before .before .before .before .before .before .before .before .before .before .before .before .before .before .before .before .before .before .before .before .before .before .before .before .before .before .before .before .before .before .before .before in
     let e = sym (back (start .args .p) (start .fits .p)) in
     let s = subst Small e (start .pre .1 .1 .2) in
     let u = subst (λ (x : ℕ). (toZ w64 (ofZ w64 (start .args .p))) <ℤ pos (start .args .a .phi * x)) (c .before .before .before .before .before .before .before .before .before .before .before .before .before .before .before .before .before .before .before .before .before .before .before .before .before .before .before .before .before .before .before .before .before .top-of .ensures) (c .before .before .before .before .below2 .ensures .0 (c .before .before .before .if3 .taken)) in (
-      question .ensures .0,
-      visit-lift (wiring (start .args .s) (now (start .args .net))) (start .args .a .k) (start .args .a .phi) (topsIn (start .args .s) (now (start .args .net)) (start .args .a .cap)) (now (start .args .labels)) (start .args .g)
+      ask .ensures .0,
+      visit-lift (modeOf (start .args .a .forward)) (riseIn (start .args .s) (start .args .a)) (wiring (start .args .s) (now (start .args .net))) (start .args .a .k) (start .args .a .phi) (topsIn (start .args .s) (now (start .args .net)) (start .args .a .cap)) (now (start .args .labels)) (start .args .g)
           (toZ w64 (ofZ w64 (start .args .p)))
           (ready-fine (start .pre .1 .0 .0)) (start .pre .1 .0 .1) (pinmax-at e (start .pre .1 .1 .0))
           (subst (λ (x : ℤ). labelIn (now (start .args .labels)) (start .args .s .inputs + start .args .g) ≤ℤ x) e (start .pre .1 .1 .1))
-          s _ (raise .result) (raise .ensures) (question .result) (decides-wiring (question .ensures .1)) (omega arith) u
+          s _ (raise .result) (raise .ensures) (ask .result) (ask .ensures .1) (omega arith) u
           (small-next (toZ w64 (ofZ w64 (start .args .p))) _ s (let q = start .pre .1 .0 .2 .top (start .args .g) (start .pre .1 .0 .1) in omega (arith, q, ap (λ (x : ℕ). start .args .a .phi * x) (c .before .before .before .before .before .before .before .before .before .before .before .before .before .before .before .before .before .before .before .before .before .before .before .before .before .before .before .before .before .before .before .before .before .top-of .ensures))) u) _ (c .before .lift .ensures),
     )
 
@@ -165,16 +169,16 @@ same-length-21 c = search needs
 
 returns-3 : tie.Need-returns-3
 returns-3 c =
-    let question = c .before .before .before .before .before .before .before .before .before .before .before .before .before .before .before .before .question in
+    let ask = c .before .before .before .before .before .before .before .before .before .before .before .before .before .before .before .before .ask in
     let raise = c .before .before .before .before .before .before .before .before .before .before .before .before .before .before .before .before .before .before .before .before .before .before .before .before .before .raise in
     let start = c .before .before .before .before .before .before .before .before .before .before .before .before .before .before .before .before .before .before .before .before .before .before .before .before .before .before .before .before .before .before .before .before .before .before .before .before .before .before .before in
     let e = sym (back (start .args .p) (start .fits .p)) in (
-      question .ensures .0,
-      visit-over (wiring (start .args .s) (now (start .args .net))) (start .args .a .k) (start .args .a .phi) (topsIn (start .args .s) (now (start .args .net)) (start .args .a .cap)) (now (start .args .labels)) (start .args .g)
+      ask .ensures .0,
+      visit-over (modeOf (start .args .a .forward)) (riseIn (start .args .s) (start .args .a)) (wiring (start .args .s) (now (start .args .net))) (start .args .a .k) (start .args .a .phi) (topsIn (start .args .s) (now (start .args .net)) (start .args .a .cap)) (now (start .args .labels)) (start .args .g)
           (toZ w64 (ofZ w64 (start .args .p)))
           (ready-fine (start .pre .1 .0 .0)) (start .pre .1 .0 .1) (pinmax-at e (start .pre .1 .1 .0))
           (subst (λ (x : ℤ). labelIn (now (start .args .labels)) (start .args .s .inputs + start .args .g) ≤ℤ x) e (start .pre .1 .1 .1))
-          (subst Small e (start .pre .1 .1 .2)) _ (raise .result) (raise .ensures) (question .result) (decides-wiring (question .ensures .1))
+          (subst Small e (start .pre .1 .1 .2)) _ (raise .result) (raise .ensures) (ask .result) (ask .ensures .1)
           (omega arith) (let t = c .before .before .before .before .before .before .before .before .before .before .before .before .before .before .before .before .before .before .before .before .before .before .before .before .before .before .before .before .below .ensures .0 (c .before .before .before .before .before .before .before .before .before .before .before .before .before .before .before .before .before .before .before .before .before .before .before .before .before .before .before .if1 .taken) in omega (arith, ints, t, ap (λ (x : ℕ). start .args .a .phi * x) (c .before .before .before .before .before .before .before .before .before .before .before .before .before .before .before .before .before .before .before .before .before .before .before .before .before .before .before .before .before .before .top-of .ensures))) (subst (λ (x : ℕ). pos (start .args .a .phi * x) ≤ℤ (toZ w64 (ofZ w64 (start .args .p)))) (c .before .before .before .before .before .before .before .before .before .before .before .before .before .before .before .before .before .before .before .before .before .before .before .before .before .before .before .before .before .before .top-of .ensures) (c .before .below2 .ensures .1 (c .if3 .left))),
     )
 
@@ -183,7 +187,7 @@ returns-4 c =
     let start = c .before .before .before .before .before .before .before .before .before .before .before .before in
     let e = sym (back (start .args .p) (start .fits .p)) in (
       start .pre .0,
-      visit-past (wiring (start .args .s) (now (start .args .net))) (start .args .a .k) (start .args .a .phi) (topsIn (start .args .s) (now (start .args .net)) (start .args .a .cap)) (now (start .args .labels)) (start .args .g)
+      visit-past (modeOf (start .args .a .forward)) (riseIn (start .args .s) (start .args .a)) (wiring (start .args .s) (now (start .args .net))) (start .args .a .k) (start .args .a .phi) (topsIn (start .args .s) (now (start .args .net)) (start .args .a .cap)) (now (start .args .labels)) (start .args .g)
           (toZ w64 (ofZ w64 (start .args .p)))
           (ready-fine (start .pre .1 .0 .0)) (start .pre .1 .0 .1) (pinmax-at e (start .pre .1 .1 .0))
           (subst (λ (x : ℤ). labelIn (now (start .args .labels)) (start .args .s .inputs + start .args .g) ≤ℤ x) e (start .pre .1 .1 .1))
@@ -200,7 +204,7 @@ try-label-spec =
     add-below
     below-requires
     raise-requires
-    question-requires
+    ask-requires
     same-length
     same-length-2
     same-length-3

@@ -9,6 +9,7 @@ use Rattle.integers.specs.Parts.{ints, +-parts}
 use Rattle.signed.specs.Range.{labelIn}
 use Rattle.label_visit.specs.ReadyLaws.{pinmax-at, pins-fit, max-small, max-back, ready-fine}
 use Rattle.label_visit.specs.LabelVisitLaws.{visit-higher}
+use Rattle.label_aim.specs.Aims.{modeOf, riseIn}
 use Rattle.label_visit.specs.LabelVisits.{wiring, topsIn}
 use borrow.Author.Needs.{needs}
 use Rattle.label_visit.proofs.visit.Statement.{statement}
@@ -36,7 +37,7 @@ returns c =
     let start = c .before .before .before .before .before .before .before .before .before .before .before .before .before in
     let f = pins-fit (start .pre .0 .resting .layout) (start .pre .1 .0) (start .args .g) (start .pre .1 .1) in (
       start .pre .0,
-      visit-higher (wiring (start .args .s) (now (start .args .net))) (start .args .a .k) (start .args .a .phi) (topsIn (start .args .s) (now (start .args .net)) (start .args .a .cap)) (now (start .args .labels)) (start .args .g)
+      visit-higher (modeOf (start .args .a .forward)) (riseIn (start .args .s) (start .args .a)) (wiring (start .args .s) (now (start .args .net))) (start .args .a .k) (start .args .a .phi) (topsIn (start .args .s) (now (start .args .net)) (start .args .a .cap)) (now (start .args .labels)) (start .args .g)
           (toZ w64 (ofZ w64 (highest .result)))
           (ready-fine (start .pre .1 .0)) (pinmax-at (max-back f (highest .ensures)) (highest .ensures))
           (let t = c .before .higher .ensures .0 (c .if1 .taken) in omega (arith, ints, t, +-parts (toZ w64 (ofZ w64 (highest .result))) (pos 1))),
