@@ -40,7 +40,7 @@ module _ (net area scratch : List ℕ) (k target : ℕ) (N : Net) (P : Passed N 
       ap (λ (n : ℕ). mapSized long n k target net area scratch) sizes
       ∙ ap (λ (c : Checked k). mapChecked long k target c area scratch) passed
 
-pub wrote-key : {M : Mode} {N : Net} {k φ : ℕ} (P : Passed N k) → WithinLimits long N k → 1 ≤ φ → φ ≤ mostPeriod → (K : KeyIn M N k φ) (area : List ℕ)
+unfoldable pub wrote-key : {M : Mode} {N : Net} {k φ : ℕ} (P : Passed N k) → WithinLimits long N k → 1 ≤ φ → φ ≤ mostPeriod → (K : KeyIn M N k φ) (area : List ℕ)
     → Wrote N k φ area (written (coverBytes long φ (entries K)) area) (length (coverBytes long φ (entries K)))
 wrote-key {M} {N} {k} {φ} P l h h′ K area = record {
   bytes = coverBytes long φ (entries K);
