@@ -3,14 +3,16 @@
 use mathlib.Core.Path.{_≡_, refl, sym, ap, subst, _∙_}
 use mathlib.Core.Bool.{Bool, true, false}
 use mathlib.Core.List.{List, [], _∷_, _++_, append-assoc}
+use mathlib.Core.Logic.{_⊎_, inl, inr}
 use Prim.Native.Nat.{ℕ, zero, suc, _+_, _*_, _≤_, _<_}
 use native.Mathlib.Nat.{mul-le-mul-right, add-mul, suc-mul, zero-mul}
 use native.Mathlib.Decide.{ℕ-discrete}
 use native.Mathlib.Omega.{arith}
 use lib.IntN.{ℤ, pos, _+ℤ_}
-use lib.ListN.{length, length-append}
+use lib.ListN.{length, length-append, take}
+use lib.Seq.{take-at}
 use Rattle.integers.specs.Parts.{up, dn, +-parts, sub-parts, pos-up}
-use Rattle.sequences.specs.Member.{_∈_, here, there, in-getD, not-in-nil}
+use Rattle.sequences.specs.Member.{_∈_, here, there, in-getD, not-in-nil, in-append-cases}
 use Rattle.net_model.specs.Net.{Net}
 use Rattle.net_model.specs.Checks.{Sound, Loopless}
 use Rattle.net_model.specs.Copies.{Copy}
@@ -121,6 +123,118 @@ length-cells : (f : ℕ → Bool) (n : ℕ) → length (cells f n) ≡ n
 unfolding cells
 length-cells f zero = refl
 length-cells f (suc n) = ap suc (length-cells (λ j. f (suc j)) n)
+
+-- as many for any contents
+module _ (N : Net) (K : Cover) (contents contents′ : ℕ → Copy → ℕ → Bool) where
+  leaves-many : (i : ℕ) (L : List Copy) → length (leafCells N K contents i L) ≡ length (leafCells N K contents′ i L)
+  unfolding leafCells
+  leaves-many i [] = refl
+  leaves-many i (y ∷ L) =
+      let n = up (registers N K i y) in
+      omega (
+        arith,
+        length-append (cells (contents i y) n) (leafCells N K contents i L),
+        length-append (cells (contents′ i y) n) (leafCells N K contents′ i L),
+        length-cells (contents i y) n,
+        length-cells (contents′ i y) n,
+        leaves-many i L,
+      )
+
+  luts-many : (n : ℕ) → length (lutCells N K contents n) ≡ length (lutCells N K contents′ n)
+  unfolding lutCells
+  luts-many zero = refl
+  luts-many (suc n) =
+      omega (
+        arith,
+        length-append (lutCells N K contents n) (leafCells N K contents n ((lut K n) .leaves)),
+        length-append (lutCells N K contents′ n) (leafCells N K contents′ n ((lut K n) .leaves)),
+        luts-many n,
+        leaves-many n ((lut K n) .leaves),
+      )
+
+  outputs-many : (last last′ : ℕ → ℕ → Bool) (n : ℕ) → length (outputCells N K last n) ≡ length (outputCells N K last′ n)
+  unfolding outputCells
+  outputs-many last last′ zero = refl
+  outputs-many last last′ (suc n) =
+      let m = up (outputRegisters N K n) in
+      omega (
+        arith,
+        length-append (outputCells N K last n) (cells (last n) m),
+        length-append (outputCells N K last′ n) (cells (last′ n) m),
+        length-cells (last n) m,
+        length-cells (last′ n) m,
+        outputs-many last last′ n,
+      )
+
+  pub bytes-many : (last last′ : ℕ → ℕ → Bool) → length (contentsBytes N K contents last) ≡ length (contentsBytes N K contents′ last′)
+  unfolding contentsBytes
+  bytes-many last last′ =
+      let n = length (K .luts) in
+      let o = length (N .outputs) in
+      omega (
+        arith,
+        length-append (lutCells N K contents n) (outputCells N K last o),
+        length-append (lutCells N K contents′ n) (outputCells N K last′ o),
+        luts-many n,
+        outputs-many last last′ o,
+      )
+
+  -- **so an area that begins with the bytes of some contents begins with no others**
+  pub bytes-front : (last last′ : ℕ → ℕ → Bool) (a b : List ℕ) → contentsBytes N K contents last ++ a ≡ contentsBytes N K contents′ last′ ++ b
+      → contentsBytes N K contents last ≡ contentsBytes N K contents′ last′
+  bytes-front last last′ a b e =
+      let x = contentsBytes N K contents last in
+      let y = contentsBytes N K contents′ last′ in
+      sym (take-at x a (length x) refl) ∙ ap (take (length x)) e ∙ take-at y b (length x) (sym (bytes-many last last′))
+
+-- ---- "a byte 0 or 1 per register"
+
+number-small : (b : Bool) → asNumber b ≤ 1
+number-small true = omega arith
+number-small false = omega arith
+
+-- every byte is 0 or 1
+abbrev Bits : List ℕ → Type 0
+Bits l = (b : ℕ) → b ∈ l → b ≤ 1
+
+bits-nil : Bits []
+bits-nil b m = absurd (not-in-nil m)
+
+bits-both : {l r : List ℕ} → Bits l → Bits r → Bits (l ++ r)
+bits-both {l} {r} f g b m = go (in-append-cases l m)
+  where
+    go : (b ∈ l) ⊎ (b ∈ r) → b ≤ 1
+    go (inl i) = f b i
+    go (inr i) = g b i
+
+cells-bits : (f : ℕ → Bool) (n : ℕ) → Bits (cells f n)
+unfolding cells
+cells-bits f zero b m = absurd (not-in-nil m)
+cells-bits f (suc n) b (here e) = subst (λ (x : ℕ). x ≤ 1) (sym e) (number-small (f 0))
+cells-bits f (suc n) b (there m) = cells-bits (λ j. f (suc j)) n b m
+
+module _ (N : Net) (K : Cover) (contents : ℕ → Copy → ℕ → Bool) where
+  leaves-bits : (i : ℕ) (L : List Copy) → Bits (leafCells N K contents i L)
+  unfolding leafCells
+  leaves-bits i [] = bits-nil
+  leaves-bits i (y ∷ L) = bits-both (cells-bits (contents i y) (up (registers N K i y))) (leaves-bits i L)
+
+  luts-bits : (n : ℕ) → Bits (lutCells N K contents n)
+  unfolding lutCells
+  luts-bits zero = bits-nil
+  luts-bits (suc n) = bits-both (luts-bits n) (leaves-bits n ((lut K n) .leaves))
+
+  outputs-bits : (last : ℕ → ℕ → Bool) (n : ℕ) → Bits (outputCells N K last n)
+  unfolding outputCells
+  outputs-bits last zero = bits-nil
+  outputs-bits last (suc n) = bits-both (outputs-bits last n) (cells-bits (last n) (up (outputRegisters N K n)))
+
+  -- **every byte is 0 or 1**
+  pub bytes-bits : (last : ℕ → ℕ → Bool) (b : ℕ) → b ∈ contentsBytes N K contents last → b ≤ 1
+  unfolding contentsBytes
+  bytes-bits last = bits-both (luts-bits (length (K .luts))) (outputs-bits last (length (N .outputs)))
+
+-- ---- how many at most
 
 module _ {N : Net} {k : ℕ} {K : Cover} (cover : IsCover N k K) (forward : Forward N K) {w : ℕ} (counts : Counts N w) where
   -- **nothing before step −w is asked for**: of a connection from u, place j stands for step −(j + 1) − lag

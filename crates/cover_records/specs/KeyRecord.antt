@@ -1,4 +1,4 @@
--- The record of a key, for limits that give room: its lags fit their signed number, it is within the cover area, and it reads back.
+-- The record of a key, in each mode, for limits that give room: its lags fit their signed number, it is within the cover area, and it reads back.
 use mathlib.Core.Path.{_≡_, refl, sym, ap, ap₂, _∙_, subst}
 use mathlib.Core.Bool.{Bool, true, false, cond}
 use mathlib.Core.List.{List, [], _∷_, _++_, map}
@@ -24,10 +24,11 @@ use Rattle.cone_theory.specs.FewCopies.{gateNumbers, in-gateNumbers, length-gat
 use Rattle.cone_theory.specs.Ranks.{ranked, firstLeaf}
 use Rattle.cone_theory.specs.Reach.{reachOf, reachOf-le, cut-reach-leaf}
 use Rattle.cone_values.specs.Values.{table-small}
+use Rattle.label_theory.specs.Labels.{Mode}
 use Rattle.label_theory.specs.Lower.{leaf-node}
 use Rattle.label_theory.specs.Floor.{floor}
 use Rattle.label_theory.specs.Small.{least-small}
-use Rattle.cover_theory.specs.Key.{Key, Root, source, leaf, RisingNumbers, Entry, entries}
+use Rattle.cover_theory.specs.Key.{KeyIn, Root, source, leaf, RisingNumbers, Entry, entries}
 use Rattle.cover_theory.specs.KeyOf.{entryOf, roots-gate}
 use Rattle.limits.specs.Courses.{Offered, is-long, is-short}
 use Rattle.limits.specs.declared.Rules.{Rules}
@@ -56,7 +57,7 @@ small-lag : (w : Bool) (m : ℕ) → m < halfRange w → (z : ℤ) → negℤ (p
 small-lag w m h (pos n) a b = up {n = n} (omega (arith, ints))
 small-lag w m h (negsuc n) a b = down {n = n} (omega (arith, ints, neg-parts (pos m)))
 
-module _ {R : Rules} {N : Net} {k φ : ℕ} (room : Roomy R) (P : Passed N k) (l : WithinLimits R N k) (pos-φ : 1 ≤ φ) (K : Key N k φ) where
+module _ {R : Rules} {M : Mode} {N : Net} {k φ : ℕ} (room : Roomy R) (P : Passed N k) (l : WithinLimits R N k) (pos-φ : 1 ≤ φ) (K : KeyIn M N k φ) where
   -- **Lags of the written cover**: at least −M and below G.
   pub key-lag-low : (v : ℕ) → IsGate N v → negℤ (pos (reachOf N)) ≤ℤ lag φ (K .label v)
   key-lag-low v g =
@@ -132,7 +133,7 @@ module _ {R : Rules} {N : Net} {k φ : ℕ} (room : Roomy R) (P : Passed N k) (l
   unfolding entries
   length-entries = length-map (K .roots) (entryOf K)
 
-  few-entries : length (entries K) ≤ length (N .gates)
+  pub few-entries : length (entries K) ≤ length (N .gates)
   few-entries =
       let a = pigeonhole (rising-distinct (K .roots) (K .rising)) (λ v m. in-gateNumbers (roots-gate K v m)) in
       let b = length-gateNumbers N in

@@ -24,3 +24,6 @@ pub mod TapLaws
 pub mod LoaderImage
 pub mod LoaderOutcome
 pub mod LoaderLaws
+pub mod Found
+pub mod ForwardOutcome
+pub mod ForwardLaws

@@ -7,8 +7,9 @@ use lib.ListN.{length}
 use Rattle.limits.specs.Limits.{loaderArea}
 use Rattle.limits.specs.declared.Rules.{Rules}
 use Rattle.net_model.specs.Net.{Net}
+use Rattle.label_theory.specs.Labels.{Mode, plain}
 use Rattle.cover_theory.specs.Key.{entries}
-use Rattle.cover_records.specs.Outcomes.{Answer, turnedBack, Checked, passes, fails, checkNet, MapOutcome, Mapped, covered, unreachable, mapped, mapSizes, mapChecked, cleared}
+use Rattle.cover_records.specs.Outcomes.{Answer, turnedBack, Checked, passes, fails, checkNet, MapOutcome, MappedIn, covered, unreachable, mappedIn, mapSizes, mapCheckedIn, cleared}
 use Rattle.cover_records.specs.LoaderImage.{isLent, loaded}
 
 pub record LoaderOutcome : Type 0 where
@@ -25,28 +26,34 @@ beside o loader = record { answer = o .answer; area = o .area; scratch = o .scra
 abbrev pub tooShort : List ℕ → Bool
 tooShort loader = isLent loader && ltb (length loader) loaderArea
 
--- "Map gains, if a loader area is lent ..., an image"; "A refusal leaves the loader area's bytes"
-unfoldable pub loaderWritten : {N : Net} {k : ℕ} → Mapped N k → List ℕ → List ℕ
+-- "Map gains, if a loader area is lent ..., an image", in each mode; "A refusal leaves the loader area's bytes"
+unfoldable pub loaderWritten : {M : Mode} {N : Net} {k : ℕ} → MappedIn M N k → List ℕ → List ℕ
 loaderWritten (covered φ K) loader = loaded (entries K) loader
 loaderWritten unreachable loader = loader
 
-unfoldable pub loaderChecked : (k target : ℕ) → Checked k → List ℕ → List ℕ
-unfolding mapped loaderWritten
-loaderChecked k target (fails n) loader = loader
-loaderChecked k target (passes N p) loader = loaderWritten (mapped N k target p) loader
+unfoldable pub loaderCheckedIn : Mode → (k target : ℕ) → Checked k → List ℕ → List ℕ
+unfolding mappedIn loaderWritten
+loaderCheckedIn M k target (fails n) loader = loader
+loaderCheckedIn M k target (passes N p) loader = loaderWritten (mappedIn M N k target p) loader
+
+abbrev pub loaderChecked : (k target : ℕ) → Checked k → List ℕ → List ℕ
+loaderChecked = loaderCheckedIn plain
 
 -- 20 is "told after 3", before the walk; document 01 keeps the scratch "After 1 to 3" alone
-unfoldable pub loaderFit : Rules → Bool → (k target : ℕ) → Checked k → List ℕ → List ℕ → List ℕ → LoaderOutcome
-unfolding mapChecked loaderChecked
-loaderFit R true k target c area scratch loader = record { answer = turnedBack 20; area = area; scratch = cleared (R .scratch) scratch; loader = loader }
-loaderFit R false k target c area scratch loader = beside (mapChecked R k target c area scratch) (loaderChecked k target c loader)
+unfoldable pub loaderFitIn : Mode → Rules → Bool → (k target : ℕ) → Checked k → List ℕ → List ℕ → List ℕ → LoaderOutcome
+unfolding mapCheckedIn loaderCheckedIn
+loaderFitIn M R true k target c area scratch loader = record { answer = turnedBack 20; area = area; scratch = cleared (R .scratch) scratch; loader = loader }
+loaderFitIn M R false k target c area scratch loader = beside (mapCheckedIn M R k target c area scratch) (loaderCheckedIn M k target c loader)
+
+abbrev pub loaderFit : Rules → Bool → (k target : ℕ) → Checked k → List ℕ → List ℕ → List ℕ → LoaderOutcome
+loaderFit = loaderFitIn plain
 
 unfoldable pub loaderSized : Rules → ℕ → (k target : ℕ) → List ℕ → List ℕ → List ℕ → List ℕ → LoaderOutcome
-unfolding loaderFit checkNet
+unfolding loaderFitIn checkNet
 loaderSized R zero k target net area scratch loader = loaderFit R (tooShort loader) k target (checkNet R k net) area scratch loader
 loaderSized R (suc n) k target net area scratch loader = record { answer = turnedBack (suc n); area = area; scratch = scratch; loader = loader }
 
--- Map under rules R for every input: net, k, target, cover area, scratch and loader area.
+-- Map under rules R for every input, in document 01's mode: net, k, target, cover area, scratch and loader area.
 unfoldable pub loaderOutcome : Rules → List ℕ → (k target : ℕ) → List ℕ → List ℕ → List ℕ → LoaderOutcome
 unfolding loaderSized mapSizes
 loaderOutcome R net k target area scratch loader = loaderSized R (mapSizes R k target area scratch) k target net area scratch loader

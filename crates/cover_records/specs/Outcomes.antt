@@ -9,9 +9,10 @@ use Rattle.net_model.specs.Net.{Net}
 use Rattle.net_model.specs.Checks.{Sound, Fits, Loopless, AllReached, AllLeading, Passed}
 use Rattle.cone_theory.specs.ChecksDecided.{loopless?, reached?, leading?}
 use Rattle.cone_theory.specs.Ranks.{ranked}
-use Rattle.cover_theory.specs.Key.{Key, Entry, entries}
-use Rattle.cover_theory.specs.Joined.{key?}
-use Rattle.cover_theory.specs.Period.{leastPeriod, leastKey}
+use Rattle.label_theory.specs.Labels.{Mode, plain, forward}
+use Rattle.cover_theory.specs.Key.{KeyIn, Entry, entries}
+use Rattle.cover_theory.specs.Joined.{keyIn?}
+use Rattle.cover_theory.specs.Period.{leastPeriod, leastPeriodIn, leastKeyIn}
 use Rattle.limits.specs.Limits.{leastK}
 use Rattle.limits.specs.declared.Rules.{Rules}
 use Rattle.net_bytes.specs.Reading.{Result, got, refused, between}
@@ -69,38 +70,52 @@ mapSizes R k target area scratch =
     cond (not (between leastK (R .most) k)) 1
     (cond (ltb (R .period) target) 2 (cond (ltb (length area) (R .area) || ltb (length scratch) (R .scratch)) 3 0))
 
--- the period and the written cover for a target, or refusal 12
-pub data Mapped (N : Net) (k : ℕ) : Type 0 where
-  covered : (φ : ℕ) → Key N k φ → Mapped N k
-  unreachable : Mapped N k
+-- In each mode (document 02, E6: "Map gains this mode"): the period and the written cover for a target, or none that meets it
+pub data MappedIn (M : Mode) (N : Net) (k : ℕ) : Type 0 where
+  covered : (φ : ℕ) → KeyIn M N k φ → MappedIn M N k
+  unreachable : MappedIn M N k
 
-unfoldable pub forTarget : (N : Net) (k φ : ℕ) → Dec (Key N k φ) → Mapped N k
+abbrev pub Mapped : Net → ℕ → Type 0
+Mapped = MappedIn plain
+
+unfoldable pub forTarget : {M : Mode} (N : Net) (k φ : ℕ) → Dec (KeyIn M N k φ) → MappedIn M N k
 forTarget N k φ (yes K) = covered φ K
 forTarget N k φ (no n) = unreachable
 
-unfoldable pub mapWritten : Rules → {N : Net} {k : ℕ} → Mapped N k → List ℕ → List ℕ → MapOutcome
+-- "12. The target is not 0 and is not reachable." Document 02, E6: "22, in place of 12, no forward cover meets the target."
+abbrev pub unmet : Mode → ℕ
+unmet plain = 12
+unmet forward = 22
+
+unfoldable pub mapWritten : Rules → {M : Mode} {N : Net} {k : ℕ} → MappedIn M N k → List ℕ → List ℕ → MapOutcome
 mapWritten R (covered φ K) area scratch =
     let bytes = coverBytes R φ (entries K) in
     record { answer = accepted (length bytes); area = written bytes area; scratch = cleared (R .scratch) scratch }
-mapWritten R unreachable area scratch = record { answer = turnedBack 12; area = area; scratch = cleared (R .scratch) scratch }
+mapWritten R {M} unreachable area scratch = record { answer = turnedBack (unmet M); area = area; scratch = cleared (R .scratch) scratch }
 
--- "12. The target is not 0 and is not reachable." "(0 means the least period)"
-unfoldable pub mapped : (N : Net) (k target : ℕ) → Passed N k → Mapped N k
+-- "(0 means the least period)"
+unfoldable pub mappedIn : (M : Mode) (N : Net) (k target : ℕ) → Passed N k → MappedIn M N k
 unfolding forTarget
-mapped N k zero p = covered (leastPeriod p) (leastKey p)
-mapped N k (suc t) p = forTarget N k (suc t) (key? p (suc-le-suc zero-le))
+mappedIn M N k zero p = covered (leastPeriodIn p M) (leastKeyIn p M)
+mappedIn M N k (suc t) p = forTarget N k (suc t) (keyIn? p (suc-le-suc zero-le) M)
 
-unfoldable pub mapChecked : Rules → (k target : ℕ) → Checked k → List ℕ → List ℕ → MapOutcome
-unfolding mapped mapWritten
-mapChecked R k target (fails n) area scratch = record { answer = turnedBack n; area = area; scratch = cleared (R .scratch) scratch }
-mapChecked R k target (passes N p) area scratch = mapWritten R (mapped N k target p) area scratch
+abbrev pub mapped : (N : Net) (k target : ℕ) → Passed N k → Mapped N k
+mapped = mappedIn plain
+
+unfoldable pub mapCheckedIn : Mode → Rules → (k target : ℕ) → Checked k → List ℕ → List ℕ → MapOutcome
+unfolding mappedIn mapWritten
+mapCheckedIn M R k target (fails n) area scratch = record { answer = turnedBack n; area = area; scratch = cleared (R .scratch) scratch }
+mapCheckedIn M R k target (passes N p) area scratch = mapWritten R (mappedIn M N k target p) area scratch
+
+abbrev pub mapChecked : Rules → (k target : ℕ) → Checked k → List ℕ → List ℕ → MapOutcome
+mapChecked = mapCheckedIn plain
 
 unfoldable pub mapSized : Rules → ℕ → (k target : ℕ) → List ℕ → List ℕ → List ℕ → MapOutcome
-unfolding mapChecked checkNet
+unfolding mapCheckedIn checkNet
 mapSized R zero k target net area scratch = mapChecked R k target (checkNet R k net) area scratch
 mapSized R (suc n) k target net area scratch = record { answer = turnedBack (suc n); area = area; scratch = scratch }
 
--- Map under rules R for every input: net, k, target, cover area and scratch.
+-- Map under rules R for every input, in document 01's mode: net, k, target, cover area and scratch.
 unfoldable pub mapOutcome : Rules → List ℕ → (k target : ℕ) → List ℕ → List ℕ → MapOutcome
 unfolding mapSized mapSizes
 mapOutcome R net k target area scratch = mapSized R (mapSizes R k target area scratch) k target net area scratch

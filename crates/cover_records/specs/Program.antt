@@ -11,7 +11,7 @@ use Rattle.limits.specs.Limits.{leastK, mostK, mostPeriod, scratchArea}
 use Rattle.net_bytes.specs.Reading.{between}
 use Rattle.net_bytes.specs.Walk.{first, rest}
 use Rattle.cover_records.specs.Listing.{coverText, refusalText, excessText}
-use Rattle.cover_records.specs.Outcomes.{Answer, accepted, turnedBack, Checked, passes, fails, checkNet, Mapped, covered, unreachable, mapped, markOutcome}
+use Rattle.cover_records.specs.Outcomes.{Answer, accepted, turnedBack, Checked, passes, fails, checkNet, Mapped, covered, unreachable, mappedIn, mapped, markOutcome}
 
 -- the cover with its labels, or refusal 12
 unfoldable pub listMapped : {N : Net} {k : ℕ} → Mapped N k → List ℕ
@@ -19,7 +19,7 @@ listMapped {N} (covered φ K) = coverText N φ (K .label) (entries K)
 listMapped unreachable = refusalText 12
 
 unfoldable pub listChecked : (k target : ℕ) → Checked k → List ℕ
-unfolding listMapped mapped
+unfolding listMapped mappedIn
 listChecked k target (fails n) = refusalText n
 listChecked k target (passes N p) = listMapped (mapped N k target p)
 

@@ -19,7 +19,7 @@ use Rattle.net_model.specs.Checks.{Passed, Drives}
 use Rattle.net_model.specs.Copies.{Copy, copy}
 use Rattle.cone_theory.specs.Basics.{isGate?}
 use Rattle.cone_theory.specs.CopyOrder.{Levels, levels}
-use Rattle.label_theory.specs.Labels.{Mode, forward, LeastIn, Least, ReachableIn, Reachable}
+use Rattle.label_theory.specs.Labels.{Mode, plain, forward, LeastIn, Least, ReachableIn, Reachable}
 use Rattle.label_theory.specs.Lower.{input-or-gate}
 use Rattle.label_theory.specs.Bounds.{alone-cut}
 use Rattle.label_theory.specs.LabelDecision.{reachable?, labelling-reaches}
@@ -80,8 +80,12 @@ module _ {N : Net} {k : ℕ} (P : Passed N k) {φ : ℕ} (pos-φ : 1 ≤ φ) whe
   pub joined : Reachable N k φ ↔ Met N k φ
   joined = (reachable-met, met-reachable)
 
-  unfoldable pub key? : Dec (Key N k φ)
-  key? = dec-map (keyOf P) key-reachable (reachable? P φ)
+  -- whether there is a key, in a mode
+  unfoldable pub keyIn? : (M : Mode) → Dec (KeyIn M N k φ)
+  keyIn? M = dec-map (keyOf P) key-reachable (reachable? P φ)
+
+  abbrev pub key? : Dec (Key N k φ)
+  key? = keyIn? plain
 
   unfoldable pub met? : Dec (Met N k φ)
   met? = dec-map reachable-met met-reachable (reachable? P φ)
@@ -100,9 +104,6 @@ module _ {N : Net} {k : ℕ} (P : Passed N k) {φ : ℕ} (pos-φ : 1 ≤ φ) whe
   -- **A target is reachable in forward mode if and only if some forward cover, with copies, meets it.**
   pub forward-joined : ReachableIn forward N k φ ↔ ForwardMet N k φ
   forward-joined = (reachable-forward, forward-reachable)
-
-  unfoldable pub forwardKey? : Dec (KeyIn forward N k φ)
-  forwardKey? = dec-map (keyOf P) key-reachable (reachable? P φ)
 
   pub least-lags : {lab : ℕ → ℤ} → Least N k φ lab → {K : Cover} → IsCover N k K → Meets N K φ → (v i : ℕ) → IsGate N v → RootedAt K v i → lag φ (lab v) ≤ℤ (lut K i) .lag
   least-lags l c m v i g r = least-lags-in l c m (λ j h C ic il x n. tt) v i g r

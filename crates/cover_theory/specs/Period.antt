@@ -23,7 +23,7 @@ use Rattle.label_theory.specs.Bounds.{alone-cut, alone-leaves}
 use Rattle.label_theory.specs.Modes.{Topped}
 use Rattle.label_theory.specs.LabelDecision.{reachable?, labelling-reaches}
 use Rattle.cover_theory.specs.Covers.{Met, LeastPeriod}
-use Rattle.cover_theory.specs.Forward.{LeastForwardPeriod}
+use Rattle.cover_theory.specs.Forward.{ForwardMet, LeastForwardPeriod}
 use Rattle.cover_theory.specs.Key.{KeyIn, Key}
 use Rattle.cover_theory.specs.KeyOf.{keyOf}
 use Rattle.cover_theory.specs.Joined.{reachable-met, met-reachable, reachable-forward, forward-reachable}
@@ -162,11 +162,18 @@ module _ {N : Net} {k : ℕ} (P : Passed N k) where
   pub leastPeriod-bound : 1 ≤ length (N .gates) → leastPeriod ≤ length (N .gates)
   leastPeriod-bound = leastPeriodIn-bound plain
 
--- the least period is one number
-pub leastPeriod-unique : {N : Net} {k φ ψ : ℕ} → LeastPeriod N k φ → LeastPeriod N k ψ → φ ≡ ψ
-leastPeriod-unique {N} {k} {φ} {ψ} a b = go (Rattle.sequences.specs.Rising.ℕ-cmp φ ψ)
+-- the first number that has a property is one
+first-one : (X : ℕ → Type 0) {φ ψ : ℕ} → 1 ≤ φ → X φ → ((χ : ℕ) → 1 ≤ χ → χ < φ → ¬ X χ) → 1 ≤ ψ → X ψ → ((χ : ℕ) → 1 ≤ χ → χ < ψ → ¬ X χ) → φ ≡ ψ
+first-one X {φ} {ψ} p x a q y b = go (Rattle.sequences.specs.Rising.ℕ-cmp φ ψ)
   where
     go : (φ < ψ) ⊎ ((φ ≡ ψ) ⊎ (ψ < φ)) → φ ≡ ψ
-    go (inl lt) = absurd (b .least φ (a .positive) lt (a .met))
+    go (inl lt) = absurd (b φ p lt x)
     go (inr (inl e)) = e
-    go (inr (inr lt)) = absurd (a .least ψ (b .positive) lt (b .met))
+    go (inr (inr lt)) = absurd (a ψ q lt y)
+
+-- the least period is one number, and so is the least forward period
+pub leastPeriod-unique : {N : Net} {k φ ψ : ℕ} → LeastPeriod N k φ → LeastPeriod N k ψ → φ ≡ ψ
+leastPeriod-unique {N} {k} a b = first-one (Met N k) (a .positive) (a .met) (a .least) (b .positive) (b .met) (b .least)
+
+pub leastForwardPeriod-unique : {N : Net} {k φ ψ : ℕ} → LeastForwardPeriod N k φ → LeastForwardPeriod N k ψ → φ ≡ ψ
+leastForwardPeriod-unique {N} {k} a b = first-one (ForwardMet N k) (a .positive) (a .met) (a .least) (b .positive) (b .met) (b .least)

@@ -40,6 +40,8 @@ use Rattle.demands.specs.ShortCourse.{ShortCourse}
 use Rattle.demands.specs.ShortCourseLaws.{short-course}
 use Rattle.demands.specs.BenchRun.{BenchRun}
 use Rattle.demands.specs.BenchRunLaws.{bench-run}
+use Rattle.demands.specs.ForwardMap.{ForwardMap}
+use Rattle.demands.specs.ForwardMapLaws.{forward-map}
 use Rattle.demands.specs.LoaderArea.{LoaderArea}
 use Rattle.demands.specs.LoaderAreaLaws.{loader-area}
 use Rattle.demands.specs.CallLaws as law
@@ -116,6 +118,8 @@ pub record Certificate : Type 0 where
   pub loader : LoaderArea
   -- ---- Document 02, E5: starting values and a bench run, fields in `BenchRun`. The contract of `job_bench: bench` equates what it prints, for all bytes read, with `benchProgram`.
   pub bench : BenchRun
+  -- ---- Document 02, E6: forward covers, fields in `ForwardMap`, over the outcome `forwardOutcome` of every call of that mode.
+  pub forward : ForwardMap
 
 -- **All of it is proved.**
 pub certificate : Certificate
@@ -152,4 +156,5 @@ certificate = record {
   course = short-course;
   loader = loader-area;
   bench = bench-run;
+  forward = forward-map;
 }

@@ -17,7 +17,8 @@ use Rattle.net_model.specs.Runs.{Run}
 use Rattle.cone_theory.specs.Ranks.{ranked}
 use Rattle.cover_theory.specs.Covers.{Lut, lut, output, IsCover, Meets, RootedAt}
 use Rattle.cover_theory.specs.Board.{Satisfied}
-use Rattle.cover_theory.specs.Key.{Key, Entry, HasLut, entries, placeOf, asLut, asCover}
+use Rattle.label_theory.specs.Labels.{Mode}
+use Rattle.cover_theory.specs.Key.{KeyIn, Key, Entry, HasLut, entries, placeOf, asLut, asCover}
 use Rattle.cover_theory.specs.Joined.{key?, key-met}
 use Rattle.cover_theory.specs.KeyOf.{entries-in, roots-gate, entryOf}
 use Rattle.cover_theory.specs.Period.{leastPeriod, leastPeriod-is, leastKey, leastPeriod-bound}
@@ -32,7 +33,7 @@ use Rattle.cover_records.specs.MarkingDecided.{cutsRight?, tablesRight?, allFed
 use Rattle.cover_records.specs.KeyRecord.{roomy, WithinLimits, key-back}
 use Rattle.cover_records.specs.Marking.{CutsRight, TableRight, TablesRight, AllFed, EnoughRegisters, ShortChains}
 use Rattle.cover_records.specs.Accepted.{Covering, covering-cover, excess-is, accepted-runs}
-use Rattle.cover_records.specs.Outcomes.{Answer, accepted, turnedBack, Checked, passes, checkNet, MarkOutcome, MapOutcome, mapSizes, written, forTarget, mapWritten, mapped, mapOutcome, markSizes, judged, markRead, markChecked, markSized, markOutcome}
+use Rattle.cover_records.specs.Outcomes.{Answer, accepted, turnedBack, Checked, passes, checkNet, MarkOutcome, MapOutcome, mapSizes, written, forTarget, mapWritten, mappedIn, mapped, mapOutcome, markSizes, judged, markRead, markChecked, markSized, markOutcome}
 use Rattle.job_sizes.specs.SizeLaws.{fit, mark-sizes-are}
 use Rattle.demands.specs.Right.{RightRecord}
 use Rattle.demands.specs.Demand3.{outcome-is, limits, map-fit}
@@ -164,7 +165,7 @@ right-excess {N} {k} P r h g =
     excess-is P {es = r .entries} h
     (covering-of N k (r .entries) (cover-cuts N k (r .entries) (g .isCover)) (cover-fed N k (r .entries) (g .isCover)) (cover-enough N k (r .entries) (g .isCover))) (g .meets)
 
-module _ {N : Net} {k φ : ℕ} (P : Passed N k) (h : 1 ≤ φ) (K : Key N k φ) where
+module _ {M : Mode} {N : Net} {k φ : ℕ} (P : Passed N k) (h : 1 ≤ φ) (K : KeyIn M N k φ) where
   key-table : (e : Entry) → e ∈ entries K → TableRight N k e
   key-table e m = let t = entries-in K m in subst (TableRight N k) (sym (t .2)) (right (t .0) (roots-gate K (t .0) (t .1)))
     where
@@ -190,12 +191,12 @@ module _ (net area scratch scratch′ : List ℕ) (k : ℕ) (N : Net) (P : Passe
   within = limits net k N P (fit long k 0 coverArea (length scratch′) (sym (mark-sizes-are long k scratch′) ∙ sizes′) .high) passed
 
   -- the record of a key is accepted
-  key-accepted : {φ : ℕ} → 1 ≤ φ → φ ≤ mostPeriod → (K : Key N k φ) → (markOutcome long net k (coverBytes long φ (entries K)) scratch′) .answer ≡ accepted (φ - leastPeriod P)
-  key-accepted {φ} h h′ K =
+  pub key-accepted : {M : Mode} {φ : ℕ} → 1 ≤ φ → φ ≤ mostPeriod → (K : KeyIn M N k φ) → (markOutcome long net k (coverBytes long φ (entries K)) scratch′) .answer ≡ accepted (φ - leastPeriod P)
+  key-accepted {M} {φ} h h′ K =
       accepted-if net (coverBytes long φ (entries K)) scratch′ k N P sizes′ passed (record { period = φ; entries = entries K }) [] (key-back (roomy is-long) P within h K h′) (key-right P h K)
 
   -- the area's first n bytes are the record, where n is its length
-  in-front : (bytes : List ℕ) (n : ℕ) → accepted (length bytes) ≡ accepted n → take n (written bytes area) ≡ bytes
+  pub in-front : (bytes : List ℕ) (n : ℕ) → accepted (length bytes) ≡ accepted n → take n (written bytes area) ≡ bytes
   in-front bytes n e = take-at bytes (drop (length bytes) area) n (same e)
     where
       same : accepted (length bytes) ≡ accepted n → length bytes ≡ n
@@ -204,7 +205,7 @@ module _ (net area scratch scratch′ : List ℕ) (k : ℕ) (N : Net) (P : Passe
   -- **Every record that map writes for a target is accepted**, with excess target less least period.
   pub target-accepted : (t n : ℕ) → mapSizes long k (suc t) area scratch ≡ 0 → (mapOutcome long net k (suc t) area scratch) .answer ≡ accepted n
       → (markOutcome long net k (take n ((mapOutcome long net k (suc t) area scratch) .area)) scratch′) .answer ≡ accepted (suc t - leastPeriod P)
-  unfolding mapWritten mapped forTarget
+  unfolding mapWritten mappedIn forTarget
   target-accepted t n sizes e =
       let o = outcome-is net area scratch k (suc t) N P sizes passed in
       subst (λ (x : MapOutcome). x .answer ≡ accepted n → (markOutcome long net k (take n (x .area)) scratch′) .answer ≡ accepted (suc t - leastPeriod P)) (sym o) (go (key? P (suc-le-suc zero-le))) e
@@ -217,7 +218,7 @@ module _ (net area scratch scratch′ : List ℕ) (k : ℕ) (N : Net) (P : Passe
   -- **With target 0 too**, with excess 0.
   pub least-accepted : (n : ℕ) → mapSizes long k 0 area scratch ≡ 0 → (mapOutcome long net k 0 area scratch) .answer ≡ accepted n
       → (markOutcome long net k (take n ((mapOutcome long net k 0 area scratch) .area)) scratch′) .answer ≡ accepted 0
-  unfolding mapWritten mapped
+  unfolding mapWritten mappedIn
   least-accepted n sizes e =
       let o = outcome-is net area scratch k 0 N P sizes passed in
       subst (λ (x : MapOutcome). x .answer ≡ accepted n → (markOutcome long net k (take n (x .area)) scratch′) .answer ≡ accepted 0) (sym o) right e

@@ -12,7 +12,8 @@ use Rattle.net_model.specs.Net.{Net, Pin, IsGate, gate, pins}
 use Rattle.sequences.specs.Member.{_∈_}
 use Rattle.net_model.specs.Checks.{Passed}
 use Rattle.cover_theory.specs.Covers.{IsCover, Meets, Met, LeastPeriod}
-use Rattle.cover_theory.specs.Key.{Key, Entry, entries, asCover}
+use Rattle.label_theory.specs.Labels.{Mode}
+use Rattle.cover_theory.specs.Key.{KeyIn, Key, Entry, entries, asCover}
 use Rattle.cover_theory.specs.Joined.{key?, key-met, key-meets, met-reachable}
 use Rattle.cover_theory.specs.KeyOf.{keyOf}
 use Rattle.cover_theory.specs.Period.{leastPeriod, leastPeriod-is, leastKey, leastPeriod-bound}
@@ -23,7 +24,7 @@ use Rattle.net_bytes.specs.Walk.{netReader}
 use Rattle.net_bytes.specs.Sound.{walk-facts, walk-gate, NetFacts}
 use Rattle.cover_records.specs.CoverBytes.{Record, coverBytes, coverReader}
 use Rattle.cover_records.specs.KeyRecord.{roomy, WithinLimits, key-back}
-use Rattle.cover_records.specs.Outcomes.{Answer, accepted, turnedBack, Checked, passes, fails, checkGraph, checkRead, checkNet, MapOutcome, mapSizes, cleared, written, Mapped, covered, unreachable, forTarget, mapWritten, mapped, mapChecked, mapSized, mapOutcome}
+use Rattle.cover_records.specs.Outcomes.{Answer, accepted, turnedBack, Checked, passes, fails, checkGraph, checkRead, checkNet, MapOutcome, mapSizes, cleared, written, Mapped, covered, unreachable, forTarget, mapWritten, mappedIn, mapped, mapCheckedIn, mapChecked, mapSized, mapOutcome}
 use Rattle.job_sizes.specs.Sizes.{Fit}
 use Rattle.job_sizes.specs.SizeLaws.{fit, map-sizes-are}
 use Rattle.demands.specs.OrderLaws.{passes-net}
@@ -34,14 +35,14 @@ use Rattle.demands.specs.Right.{Wrote}
 module _ (net area scratch : List ℕ) (k target : ℕ) (N : Net) (P : Passed N k)
     (sizes : mapSizes long k target area scratch ≡ 0) (passed : checkNet long k net ≡ passes N P) where
   pub outcome-is : mapOutcome long net k target area scratch ≡ mapWritten long (mapped N k target P) area scratch
-  unfolding mapOutcome mapSized mapChecked
+  unfolding mapOutcome mapSized mapCheckedIn
   outcome-is =
       ap (λ (n : ℕ). mapSized long n k target net area scratch) sizes
       ∙ ap (λ (c : Checked k). mapChecked long k target c area scratch) passed
 
-pub wrote-key : {N : Net} {k φ : ℕ} (P : Passed N k) → WithinLimits long N k → 1 ≤ φ → φ ≤ mostPeriod → (K : Key N k φ) (area : List ℕ)
+unfoldable pub wrote-key : {M : Mode} {N : Net} {k φ : ℕ} (P : Passed N k) → WithinLimits long N k → 1 ≤ φ → φ ≤ mostPeriod → (K : KeyIn M N k φ) (area : List ℕ)
     → Wrote N k φ area (written (coverBytes long φ (entries K)) area) (length (coverBytes long φ (entries K)))
-wrote-key {N} {k} {φ} P l h h′ K area = record {
+wrote-key {M} {N} {k} {φ} P l h h′ K area = record {
   bytes = coverBytes long φ (entries K);
   size = refl;
   front = refl;
@@ -76,7 +77,7 @@ module _ (net area scratch : List ℕ) (k t : ℕ) (N : Net) (P : Passed N k)
   -- **Where some cover meets it, the record written reads back as a cover that meets the target.**
   pub met-written : Met N k (suc t)
       → (n : ℕ) × ((mapOutcome long net k (suc t) area scratch) .answer ≡ accepted n) × Wrote N k (suc t) area ((mapOutcome long net k (suc t) area scratch) .area) n
-  unfolding mapWritten mapped forTarget
+  unfolding mapWritten mappedIn forTarget
   met-written m =
       subst (λ (o : MapOutcome). (n : ℕ) × (o .answer ≡ accepted n) × Wrote N k (suc t) area (o .area) n) (sym (outcome-is net area scratch k (suc t) N P sizes passed))
       (go (key? P (suc-le-suc zero-le)))
@@ -95,7 +96,7 @@ module _ (net area scratch : List ℕ) (k : ℕ) (N : Net) (P : Passed N k)
     (sizes : mapSizes long k 0 area scratch ≡ 0) (passed : checkNet long k net ≡ passes N P) where
   -- **The period written is met, and no cover meets a smaller one.**
   pub least-written : (φ n : ℕ) × ((mapOutcome long net k 0 area scratch) .answer ≡ accepted n) × Wrote N k φ area ((mapOutcome long net k 0 area scratch) .area) n × LeastPeriod N k φ
-  unfolding mapWritten mapped
+  unfolding mapWritten mappedIn
   least-written =
       let l = limits net k N P (map-fit k 0 area scratch sizes .high) passed in
       subst (λ (o : MapOutcome). (φ n : ℕ) × (o .answer ≡ accepted n) × Wrote N k φ area (o .area) n × LeastPeriod N k φ) (sym (outcome-is net area scratch k 0 N P sizes passed)) (

@@ -18,4 +18,6 @@ pub mod LoaderArea
 pub mod LoaderAreaLaws
 pub mod BenchRun
 pub mod BenchRunLaws
+pub mod ForwardMap
+pub mod ForwardMapLaws
 pub mod Certificate

@@ -32,9 +32,9 @@ use Rattle.cover_records.specs.Accepted.{accepted-runs}
 use Rattle.cover_records.specs.CoverBytes.{coverBytes}
 use Rattle.cover_records.specs.LoaderImage.{imageBytes, loaded}
 use Rattle.cover_records.specs.LoaderLaws.{no-loader}
-use Rattle.cover_records.specs.LoaderOutcome.{LoaderOutcome, beside, tooShort, loaderWritten, loaderChecked, loaderFit, loaderSized, loaderOutcome}
+use Rattle.cover_records.specs.LoaderOutcome.{LoaderOutcome, beside, tooShort, loaderWritten, loaderCheckedIn, loaderChecked, loaderFitIn, loaderFit, loaderSized, loaderOutcome}
 use Rattle.cover_records.specs.Marking.{TablesRight}
-use Rattle.cover_records.specs.Outcomes.{accepted, turnedBack, Checked, passes, fails, checkNet, cleared, written, Mapped, covered, unreachable, forTarget, mapped, mapSizes, MapOutcome, mapWritten, mapChecked, mapSized, mapOutcome}
+use Rattle.cover_records.specs.Outcomes.{accepted, turnedBack, Checked, passes, fails, checkNet, cleared, written, Mapped, covered, unreachable, forTarget, mappedIn, mapped, mapSizes, MapOutcome, mapWritten, mapCheckedIn, mapChecked, mapSized, mapOutcome}
 use Rattle.demands.specs.TurnedBack.{IsNet, MapFails, OfMap}
 use Rattle.demands.specs.Calls.{MapCall, mapDone, MapBad, MapNet, Asked}
 use Rattle.demands.specs.CallLaws.{turned-not, turned-same, accepted-not, map-told, untouched, leaves, keyed}
@@ -92,7 +92,7 @@ module _ (c : MapCall) (loader : List ℕ) where
         → loaderDone c loader ≡ beside (mapDone c) (loaderChecked (c .k) (c .target) checked loader) → Ways
 
   ways : Ways
-  unfolding loaderOutcome loaderSized loaderFit mapOutcome mapSized
+  unfolding loaderOutcome loaderSized loaderFitIn mapOutcome mapSized
   ways = by-size sizes refl
     where
       sized : ℕ → LoaderOutcome
@@ -192,7 +192,7 @@ module _ (c : MapCall) (loader : List ℕ) where
   kept-written unreachable e = refl
 
   kept-checked : (d : Checked (c .k)) {n : ℕ} → (mapChecked long (c .k) (c .target) d (c .area) (c .scratch)) .answer ≡ turnedBack n → loaderChecked (c .k) (c .target) d loader ≡ loader
-  unfolding mapChecked loaderChecked
+  unfolding mapCheckedIn loaderCheckedIn
   kept-checked (fails m) e = refl
   kept-checked (passes N P) e = kept-written (mapped N (c .k) (c .target) P) e
 
@@ -212,7 +212,7 @@ module _ (c : MapCall) (loader : List ℕ) where
 
   -- the image is that of any key for the period asked
   image-mapped : {N : Net} (P : Passed N (c .k)) (φ : ℕ) → Asked c N φ → (K : Key N (c .k) φ) → loaderWritten (mapped N (c .k) (c .target) P) loader ≡ loaded (entries K) loader
-  unfolding mapped loaderWritten forTarget
+  unfolding mappedIn loaderWritten forTarget
   image-mapped {N} P φ asked K = go (c .target) refl
     where
       Written : ℕ → Type 0
@@ -240,7 +240,7 @@ module _ (c : MapCall) (loader : List ℕ) where
   lent-loaded es h = ap (λ (b : Bool). cond b (written (imageBytes es) loader) loader) (lt-ltb 0 (length loader) h)
 
   image-checked : {N : Net} (P : Passed N (c .k)) → checked ≡ passes N P → loaderChecked (c .k) (c .target) checked loader ≡ loaderWritten (mapped N (c .k) (c .target) P) loader
-  unfolding loaderChecked
+  unfolding loaderCheckedIn
   image-checked P e = ap (λ (d : Checked (c .k)). loaderChecked (c .k) (c .target) d loader) e
 
   image-as : (n : ℕ) → (loaderDone c loader) .answer ≡ accepted n → 0 < length loader → (N : Net) → IsNet (c .k) (c .net) N → (φ : ℕ) → Asked c N φ

@@ -14,7 +14,7 @@ use Rattle.cover_theory.specs.Key.{Key}
 use Rattle.cover_theory.specs.Joined.{key?, key-reachable}
 use Rattle.cover_theory.specs.KeyOf.{keyOf}
 use Rattle.cover_theory.specs.Period.{leastPeriod, leastKey}
-use Rattle.cover_records.specs.Outcomes.{turnedBack, Checked, passes, fails, checkNet, cleared, MapOutcome, mapSizes, covered, forTarget, mapWritten, mapped, mapChecked, mapSized, mapOutcome}
+use Rattle.cover_records.specs.Outcomes.{turnedBack, Checked, passes, fails, checkNet, cleared, MapOutcome, mapSizes, covered, forTarget, mapWritten, mappedIn, mapped, mapCheckedIn, mapChecked, mapSized, mapOutcome}
 use Rattle.job_sizes.specs.Sizes.{sizesOf, Fit}
 use Rattle.job_sizes.specs.SizeLaws.{map-sizes-are}
 use Rattle.demands.specs.TurnedBack.{IsNet, NetFails, MapFails, Outside, First, OfMap}
@@ -58,7 +58,7 @@ module _ (net : List ℕ) (k target : ℕ) (area scratch : List ℕ) where
 
     map-passed : (N : Net) (P : Passed N k) → checkNet long k net ≡ passes N P → IsNet k net N → ((m : ℕ) → ¬ NetFails k net m)
         → (t : ℕ) → target ≡ t → MapEnds net k target area scratch (mapWritten long (mapped N k t P) area scratch)
-    unfolding mapped forTarget mapWritten
+    unfolding mappedIn forTarget mapWritten
     map-passed N P p i none zero e =
         MapEnds.wrote N P (leastPeriod P) (leastKey P) sizes p i
         (map-none (map-least 13 (inside 13) (near 13) (wide 13) (λ m f. absurd (none m f)) (λ M j t f. absurd (t e)))) (λ q. refl) (λ q. absurd (q e)) refl
@@ -81,7 +81,7 @@ module _ (net : List ℕ) (k target : ℕ) (area scratch : List ℕ) where
             (map-least 12 (inside 12) (near 12) (wide 12) (λ m f. absurd (none m f)) (λ M j q f. omega arith))) refl
 
     map-netted : NetEnds k net (checkNet long k net) → MapEnds net k target area scratch (mapChecked long k target (checkNet long k net) area scratch)
-    unfolding mapChecked
+    unfolding mapCheckedIn
     map-netted (stops n e f least) =
         let r = net-range k net n f in
         MapEnds.late n (omega arith) (first-of (MapFails.ofNet f) (map-least n (inside n) (near n) (wide n) least (λ M j q g. omega arith)))

@@ -16,7 +16,7 @@ use Rattle.net_bytes.specs.Walk.{Head, headOf, isHead, netReader, drawnReader, 
 use Rattle.net_bytes.specs.Stages.{fromGates, fromHead, fromBody, netOf}
 use Rattle.cover_records.specs.CoverBytes.{Record, coverBytes, coverReader}
 use Rattle.cover_records.specs.CheckLaws.{check-same, check-refused}
-use Rattle.cover_records.specs.Outcomes.{Answer, turnedBack, Checked, passes, fails, checkNet, cleared, MapOutcome, MarkOutcome, Mapped, covered, unreachable, mapSizes, mapWritten, mapped, mapChecked, mapSized, mapOutcome, markSizes, markRead, markChecked, markSized, markOutcome}
+use Rattle.cover_records.specs.Outcomes.{Answer, turnedBack, Checked, passes, fails, checkNet, cleared, MapOutcome, MarkOutcome, Mapped, covered, unreachable, mapSizes, mapWritten, mapped, mapCheckedIn, mapChecked, mapSized, mapOutcome, markSizes, markRead, markChecked, markSized, markOutcome}
 use Rattle.demands.specs.ShortCourse.{gatesSaid, ShortCourse}
 
 -- ---- the walk
@@ -100,7 +100,7 @@ module _ (net : List ℕ) (k target : ℕ) (area scratch : List ℕ) where
   written-same unreachable = refl
 
   checked-same : (c : Checked k) → mapChecked short k target c area scratch ≡ mapChecked long k target c area scratch
-  unfolding mapChecked
+  unfolding mapCheckedIn
   checked-same (fails n) = refl
   checked-same (passes N p) = written-same (mapped N k target p)
 
@@ -121,7 +121,7 @@ module _ (net : List ℕ) (k target : ℕ) (area scratch : List ℕ) where
 
   map-refused : (n : ℕ) → mapSizes short k target area scratch ≡ 0 → netReader short k net ≡ refused n
       → mapOutcome short net k target area scratch ≡ record { answer = turnedBack n; area = area; scratch = cleared scratchArea scratch }
-  unfolding mapOutcome mapSized mapChecked
+  unfolding mapOutcome mapSized mapCheckedIn
   map-refused n s e =
       ap (λ (m : ℕ). mapSized short m k target net area scratch) s ∙ ap (λ (c : Checked k). mapChecked short k target c area scratch) (check-refused short k net n e)
 

@@ -4,4 +4,5 @@ pub mod ByHand
 pub mod Statements
 pub mod Plan
 pub mod Marked
+pub mod ForwardExamples
 pub mod Inhabited

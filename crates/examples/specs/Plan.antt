@@ -48,7 +48,7 @@ use Rattle.net_bytes.specs.Reading.{Result, got, between}
 use Rattle.net_bytes.specs.Walk.{netReader}
 use Rattle.net_bytes.specs.Sound.{walk-sound, walk-fits}
 use Rattle.cover_records.specs.CoverBytes.{coverBytes}
-use Rattle.cover_records.specs.Outcomes.{accepted, turnedBack, passes, checkGraph, checkRead, checkNet, mapSizes, cleared, written, forTarget, mapWritten, mapped, mapOutcome}
+use Rattle.cover_records.specs.Outcomes.{accepted, turnedBack, passes, checkGraph, checkRead, checkNet, mapSizes, cleared, written, forTarget, mapWritten, mappedIn, mapped, mapOutcome}
 use Rattle.demands.specs.Demand3.{outcome-is}
 use Rattle.examples.specs.Statements.{labels, Room, Refuses, Maps}
 
@@ -232,7 +232,7 @@ module _ (bytes : List ℕ) (k : ℕ) (N : Net) (P : Passed N k) (reads : netRea
     pub map-writes : Key N k (suc t) → (es : List Entry) → ((K : Key N k (suc t)) → entries K ≡ es)
         → mapOutcome long bytes k (suc t) area scratch
         ≡ record { answer = accepted (length (coverBytes long (suc t) es)); area = written (coverBytes long (suc t) es) area; scratch = cleared scratchArea scratch }
-    unfolding mapped mapWritten forTarget
+    unfolding mappedIn mapWritten forTarget
     map-writes K es same = outcome-is bytes area scratch k (suc t) N Q sizes (net-passes .1) ∙ go (key? Q (suc-le-suc zero-le))
       where
         Q : Passed N k
@@ -245,7 +245,7 @@ module _ (bytes : List ℕ) (k : ℕ) (N : Net) (P : Passed N k) (reads : netRea
 
     -- **Where there is none, map says 12.**
     pub map-refuses : ¬ Key N k (suc t) → mapOutcome long bytes k (suc t) area scratch ≡ record { answer = turnedBack 12; area = area; scratch = cleared scratchArea scratch }
-    unfolding mapped mapWritten forTarget
+    unfolding mappedIn mapWritten forTarget
     map-refuses n = outcome-is bytes area scratch k (suc t) N Q sizes (net-passes .1) ∙ go (key? Q (suc-le-suc zero-le))
       where
         Q : Passed N k

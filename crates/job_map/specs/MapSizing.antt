@@ -8,7 +8,7 @@ use lib.ListN.{length, drop, replicate}
 use lib.Seq.{drop-at}
 use Rattle.limits.specs.declared.Rules.{Rules}
 use Rattle.cover_records.specs.Outcomes.{Answer, turnedBack, MapOutcome, checkNet, mapOutcome, cleared}
-use Rattle.cover_records.specs.LoaderOutcome.{LoaderOutcome, beside, tooShort, loaderFit, loaderSized, loaderOutcome}
+use Rattle.cover_records.specs.LoaderOutcome.{LoaderOutcome, beside, tooShort, loaderFitIn, loaderFit, loaderSized, loaderOutcome}
 use Rattle.cover_records.specs.LoaderLaws.{no-loader}
 use Rattle.job_sizes.specs.Sizes.{sizesOf, loaderSize}
 use Rattle.job_sizes.specs.SizeLaws.{map-sizes-are, told-short, told-fits}
@@ -37,7 +37,7 @@ module _ (R : Rules) (k target : ℕ) (area scratch loader : List ℕ) where
   -- **refusal 20**: the scratch is cleared
   pub map-short : (net : List ℕ) (r : ℕ) (scratch′ : List ℕ) → sizesOf R k target (length area) (length scratch) ≡ 0 → r ≡ loaderSize (length loader) → 0 < r
       → scratch′ ≡ cleared (R .scratch) scratch → loaderOutcome R net k target area scratch loader ≡ record { answer = turnedBack r; area = area; scratch = scratch′; loader = loader }
-  unfolding loaderFit
+  unfolding loaderFitIn
   map-short net r scratch′ z e h q =
       let t = told-short loader (omega (arith, e, h)) in
       passed net z ∙ ap (λ (b : Bool). loaderFit R b k target (checkNet R k net) area scratch loader) (t .0)
@@ -47,7 +47,7 @@ module _ (R : Rules) (k target : ℕ) (area scratch loader : List ℕ) where
   pub map-rest : (net area′ loader′ work : List ℕ) (answer : Answer) (scratch′ : List ℕ) → sizesOf R k target (length area) (length scratch) ≡ 0 → loaderSize (length loader) ≡ 0
       → MapsTo R k target net area area′ loader loader′ answer → length work ≡ R .scratch → scratch′ ≡ cleared (R .scratch) (work ++ drop (R .scratch) scratch)
       → loaderOutcome R net k target area scratch loader ≡ record { answer = answer; area = area′; scratch = scratch′; loader = loader′ }
-  unfolding loaderFit cleared
+  unfolding loaderFitIn cleared
   map-rest net area′ loader′ work answer scratch′ z y m l e =
       passed net z ∙ ap (λ (b : Bool). loaderFit R b k target (checkNet R k net) area scratch loader) (told-fits loader y .0)
       ∙ ap₂ beside (m .outcome scratch) (m .image)

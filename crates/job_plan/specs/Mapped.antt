@@ -9,7 +9,7 @@ use Rattle.cover_theory.specs.Key.{Key}
 use Rattle.cover_theory.specs.Joined.{key?}
 use Rattle.cover_theory.specs.Period.{leastKey, leastPeriod-is, leastPeriod-unique}
 use Rattle.cover_records.specs.Kept.{Kept}
-use Rattle.cover_records.specs.Outcomes.{Mapped, covered, unreachable, forTarget, mapped}
+use Rattle.cover_records.specs.Outcomes.{Mapped, covered, unreachable, forTarget, mappedIn, mapped}
 use Rattle.job_plan.specs.Planned.{Covered}
 
 module _ {N : Net} {k : ℕ} (P : Passed N k) where
@@ -20,7 +20,7 @@ module _ {N : Net} {k : ℕ} (P : Passed N k) where
   target-none φ (no m) n = refl
 
   pub mapped-none : (target : ℕ) → 1 ≤ target → ¬ Reachable N k target → mapped N k target P ≡ unreachable
-  unfolding mapped
+  unfolding mappedIn
   mapped-none zero h n = absurd (zero-none h)
     where
       zero-none : 1 ≤ 0 → ⊥
@@ -41,7 +41,7 @@ module _ {N : Net} {k : ℕ} (P : Passed N k) where
   moved {φ} e K = pathJ (λ (x : ℕ) (q : φ ≡ x). MappedTo x (covered φ K)) (record { key = K; is = refl }) e
 
   pub mapped-some : (target : ℕ) {a : Kept} → Covered N k target a → MappedTo (a .period) (mapped N k target P)
-  unfolding mapped
+  unfolding mappedIn
   mapped-some zero c = moved (leastPeriod-unique (leastPeriod-is P) (c .least refl)) (leastKey P)
   mapped-some (suc t) {a} c =
       let e : a .period ≡ suc t = c .given (suc-le-suc zero-le) in

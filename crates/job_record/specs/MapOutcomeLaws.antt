@@ -18,9 +18,9 @@ use Rattle.cover_theory.specs.Joined.{key?, key-reachable}
 use Rattle.cover_theory.specs.Period.{leastPeriod, leastKey, leastPeriod-is, leastPeriod-unique}
 use Rattle.cover_records.specs.CoverBytes.{coverBytes}
 use Rattle.cover_records.specs.Kept.{Kept, entriesIn}
-use Rattle.cover_records.specs.Outcomes.{Answer, accepted, turnedBack, MapOutcome, Checked, passes, fails, checkNet, Mapped, covered, unreachable, forTarget, mapped, mapWritten, mapChecked, cleared, written}
+use Rattle.cover_records.specs.Outcomes.{Answer, accepted, turnedBack, MapOutcome, Checked, passes, fails, checkNet, Mapped, covered, unreachable, forTarget, mapped, mapWritten, mapCheckedIn, mapChecked, cleared, written}
 use Rattle.cover_records.specs.LoaderImage.{loaded}
-use Rattle.cover_records.specs.LoaderOutcome.{loaderWritten, loaderChecked}
+use Rattle.cover_records.specs.LoaderOutcome.{loaderWritten, loaderCheckedIn, loaderChecked}
 use Rattle.cover_records.specs.CheckLaws.{check-refused, check-loop, check-unreached, check-unled, check-passes}
 use Rattle.job_plan.specs.Planned.{Covered}
 use Rattle.job_plan.specs.Mapped.{mapped-none, mapped-some}
@@ -43,7 +43,7 @@ offered-bytes is-short φ es = refl
 
 -- a check failed
 pub maps-fails : (R : Rules) (k target n : ℕ) (net area loader : List ℕ) → n < 256 → checkNet R k net ≡ fails n → MapsTo R k target net area area loader loader (turnedBack n)
-unfolding mapChecked loaderChecked
+unfolding mapCheckedIn loaderCheckedIn
 maps-fails R k target n net area loader h e =
     record { small = h; outcome = λ s. ap (λ (c : Checked k). mapChecked R k target c area s) e; image = ap (λ (c : Checked k). loaderChecked k target c loader) e }
 
@@ -80,13 +80,13 @@ module _ {N : Net} {k : ℕ} (P : Passed N k) (target : ℕ) (loader : List ℕ)
 
 -- the loader area for a net that passes
 loader-as : (R : Rules) (k target : ℕ) (net loader : List ℕ) (N : Net) (P : Passed N k) → checkNet R k net ≡ passes N P → loaderChecked k target (checkNet R k net) loader ≡ loaderWritten (mapped N k target P) loader
-unfolding loaderChecked
+unfolding loaderCheckedIn
 loader-as R k target net loader N P e = ap (λ (c : Checked k). loaderChecked k target c loader) e
 
 -- the outcome for a net that passes
 passes-as : (R : Rules) (k target : ℕ) (net area : List ℕ) (N : Net) (P : Passed N k) → checkNet R k net ≡ passes N P → {o : List ℕ → MapOutcome}
     → ((s : List ℕ) → mapWritten R (mapped N k target P) area s ≡ o s) → (s : List ℕ) → mapChecked R k target (checkNet R k net) area s ≡ o s
-unfolding mapChecked
+unfolding mapCheckedIn
 passes-as R k target net area N P e f s = ap (λ (c : Checked k). mapChecked R k target c area s) e ∙ f s
 
 -- a refusal's number may be named by any equal one

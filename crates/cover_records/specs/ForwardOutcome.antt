@@ -1,0 +1,102 @@
+-- Definitions: the outcome of map in forward mode, for every input (document 02, E6): the answer, the cover area, the scratch and the loader area as in document 01's mode, over
+-- forward covers, and the contents area.
+use mathlib.Core.Bool.{Bool, true, false, cond, _&&_}
+use mathlib.Core.List.{List, []}
+use Prim.Native.Nat.{ℕ, zero, suc}
+use lib.Dec.{ltb, eqb}
+use lib.ListN.{length}
+use Rattle.limits.specs.declared.Rules.{Rules}
+use Rattle.net_model.specs.Net.{Net}
+use Rattle.net_bytes.specs.Reading.{Result, got, refused}
+use Rattle.net_bytes.specs.Walk.{Drawn, drawnReader}
+use Rattle.run_theory.specs.BenchBytes.{sectionIn}
+use Rattle.label_theory.specs.Labels.{Mode, forward}
+use Rattle.cover_theory.specs.Key.{entries, asCover}
+use Rattle.board_theory.specs.Contents.{contentsOf}
+use Rattle.cover_records.specs.LoaderImage.{isLent}
+use Rattle.cover_records.specs.LoaderOutcome.{LoaderOutcome, tooShort, loaderFitIn}
+use Rattle.cover_records.specs.Outcomes.{Answer, turnedBack, Checked, passes, fails, checkNet, MappedIn, covered, unreachable, mappedIn, mapSizes, written}
+
+pub record ForwardOutcome : Type 0 where
+  pub answer : Answer
+  pub area : List ℕ
+  pub scratch : List ℕ
+  pub loader : List ℕ
+  pub contents : List ℕ
+
+-- an outcome with a loader area, and the contents area beside it
+abbrev pub withContents : LoaderOutcome → List ℕ → ForwardOutcome
+withContents o contents = record { answer = o .answer; area = o .area; scratch = o .scratch; loader = o .loader; contents = contents }
+
+-- ---- 3
+
+-- "20,592 bytes"; to stand among the limits
+abbrev pub contentsArea : ℕ
+contentsArea = 20592
+
+-- "3, a lent contents area is under 20,592 bytes" "(length 0 counts as none)"
+abbrev pub contentsShort : List ℕ → Bool
+contentsShort contents = isLent contents && ltb (length contents) contentsArea
+
+-- 1, 2 and 3 as map tells them, then 3 for the contents area; 0 if all pass
+abbrev pub sizesWith : Bool → ℕ → ℕ
+sizesWith short zero = cond short 3 0
+sizesWith short (suc n) = suc n
+
+-- ---- 21
+
+-- the section of a net's record; no byte where it has none, or where the walk refuses the record
+abbrev pub sectionFrom : Result Drawn → List ℕ
+sectionFrom (got d rest) = d .section
+sectionFrom (refused n) = []
+
+unfoldable pub sectionOf : Rules → ℕ → List ℕ → List ℕ
+sectionOf R k net = sectionFrom (drawnReader R k net)
+
+-- "21, one is lent and the net has no section"
+abbrev pub lacking : List ℕ → List ℕ → Bool
+lacking contents section = isLent contents && eqb (length section) 0
+
+-- 21 is "told after 11" (E5)
+unfoldable pub sectioned : Bool → {k : ℕ} → Checked k → Checked k
+sectioned lacks (fails n) = fails n
+sectioned true (passes N p) = fails 21
+sectioned false (passes N p) = passes N p
+
+-- ---- contents
+
+-- "If a contents area is lent too (length 0 counts as none), it gets the first contents of each connection's registers"; "A refusal, and the part behind, keep its bytes."
+unfoldable pub contentsWritten : {M : Mode} {N : Net} {k : ℕ} → (ℕ → ℕ → Bool) → MappedIn M N k → List ℕ → List ℕ
+contentsWritten {M} {N} kept (covered φ K) contents = cond (isLent contents) (written (contentsOf N (asCover N (entries K)) kept) contents) contents
+contentsWritten kept unreachable contents = contents
+
+-- `start` gives what is known of the net's nodes before the board's first step
+unfoldable pub contentsChecked : (Net → ℕ → ℕ → Bool) → (k target : ℕ) → Checked k → List ℕ → List ℕ
+unfolding mappedIn contentsWritten
+contentsChecked start k target (fails n) contents = contents
+contentsChecked start k target (passes N p) contents = contentsWritten (start N) (mappedIn forward N k target p) contents
+
+-- ---- the whole
+
+-- 20, then the net: its checks, 21 among them, and 22
+unfoldable pub forwardFit : Rules → Bool → (Net → ℕ → ℕ → Bool) → (k target : ℕ) → Checked k → List ℕ → List ℕ → List ℕ → List ℕ → ForwardOutcome
+unfolding loaderFitIn contentsChecked
+forwardFit R short start k target c area scratch loader contents =
+    withContents (loaderFitIn forward R short k target c area scratch loader) (cond short contents (contentsChecked start k target c contents))
+
+unfoldable pub forwardSized : Rules → ℕ → (Net → ℕ → ℕ → Bool) → (k target : ℕ) → Checked k → List ℕ → List ℕ → List ℕ → List ℕ → ForwardOutcome
+unfolding forwardFit
+forwardSized R zero start k target c area scratch loader contents = forwardFit R (tooShort loader) start k target c area scratch loader contents
+forwardSized R (suc n) start k target c area scratch loader contents = record { answer = turnedBack (suc n); area = area; scratch = scratch; loader = loader; contents = contents }
+
+-- A call whose contents area is told by 3 where `short`, and whose board's first step is known from `start` of the net and its section.
+unfoldable pub forwardFrom : Rules → Bool → (Net → List ℕ → ℕ → ℕ → Bool) → List ℕ → (k target : ℕ) → List ℕ → List ℕ → List ℕ → List ℕ → ForwardOutcome
+unfolding forwardSized mapSizes sectionOf sectioned checkNet
+forwardFrom R short start net k target area scratch loader contents =
+    let section = sectionOf R k net in
+    forwardSized R (sizesWith short (mapSizes R k target area scratch)) (λ N. start N section) k target (sectioned (lacking contents section) (checkNet R k net)) area scratch loader contents
+
+-- Map in forward mode under rules R for every input: net, k, target, cover area, scratch, loader area and contents area. The board starts at step 0, from the net's section.
+unfoldable pub forwardOutcome : Rules → List ℕ → (k target : ℕ) → List ℕ → List ℕ → List ℕ → List ℕ → ForwardOutcome
+unfolding forwardFrom
+forwardOutcome R net k target area scratch loader contents = forwardFrom R (contentsShort contents) (λ N section. sectionIn section) net k target area scratch loader contents
