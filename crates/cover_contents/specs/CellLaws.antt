@@ -50,6 +50,19 @@ module _ (trace : List ℕ) (es : List Entry) where
       let x = cellsBack trace (t .source) (samplesTo (lagIn es (t .source))) (up (t .number)) in
       ap (λ (l : List ℕ). x ++ l) (taps-append a b) ∙ sym (append-assoc x (tapCells trace es a) (tapCells trace es b))
 
+  -- the registers of one connection, by their number and the samples
+  module _ (u : ℕ) {n top : ℕ} (z : ℤ) (e : n ≡ up z) (f : top ≡ samplesTo (lagIn es u)) where
+    connection-is : cellsBack trace u top n ≡ tapCells trace es (tap u z ∷ [])
+    connection-is = ap₂ (cellsBack trace u) f e ∙ taps-one u z
+
+    pub connection-asks : {area : List ℕ} → CellsAsked trace es (tap u z ∷ []) area → ((u < mostNodes) × (n ≤ top) × (mostNodes * top ≤ length trace)) × (n ≤ length area)
+    connection-asks q =
+        let h = q .each (tap u z) (here refl) in
+        ((h .node, omega (arith, h .number), omega (arith, h .samples)), omega (arith, q .room, ap length connection-is, length-cells-back trace u top n))
+
+    pub connection-wrote : {area after : List ℕ} {r : ℕ} → Wrote (cellsBack trace u top n) area after r → Wrote (tapCells trace es (tap u z ∷ [])) area after r
+    connection-wrote {area} {after} {r} w = subst (λ (l : List ℕ). Wrote l area after r) connection-is w
+
   -- the same connections
   pub asked-same : {a b : List Tap} {area : List ℕ} → a ≡ b → CellsAsked trace es a area → CellsAsked trace es b area
   asked-same {a} {b} {area} e q = subst (λ (l : List Tap). CellsAsked trace es l area) e q
