@@ -7,7 +7,7 @@ use native.Mathlib.Nat.{zero-add}
 use native.Mathlib.Omega.{arith}
 use lib.IntN.{ℤ, pos, _-ℤ_}
 use lib.ListN.{length, getD}
-use Rattle.limits.specs.Limits.{mostCount, mostNodes}
+use Rattle.limits.specs.Limits.{mostCount, mostNodes, depthRoom}
 use Rattle.integers.specs.Parts.{up, dn, sub-parts, parts-≤, pos-up}
 use Rattle.sequences.specs.Member.{_∈_, here, there, in-getD, getD-in}
 use Rattle.net_model.specs.Net.{Net, IsNode, size}
@@ -39,7 +39,7 @@ use Rattle.cover_records.specs.Listing.{lagIn, entryTaps}
 use Rattle.cover_registers.specs.Counting.{marking, lagsOf, tapsOf}
 use Rattle.cover_registers.specs.LagLaws.{lags-same, taps-same}
 use Rattle.cover_registers.specs.CoverTaps.{lag-is, taps-are}
-use Rattle.cover_contents.specs.Traces.{Started, Traced, Tracing, samplesTo, MostSamples, cellsBack, tapCells, TapHeld, CellsAsked, traceRoom, Contenting}
+use Rattle.cover_contents.specs.Traces.{Started, Traced, Tracing, samplesTo, MostSamples, cellsBack, tapCells, TapHeld, CellsAsked, RegistersAsked, Contenting}
 use Rattle.cover_contents.specs.TraceLaws.{tracing-traced, most-all}
 use Rattle.cover_contents.specs.CellLaws.{taps-one, taps-append}
 
@@ -195,8 +195,8 @@ module _ {z : NetSizes} {net tables section kept known : List ℕ} (I G φ : ℕ
       ∙ all-written (entriesIn (keptIn I G φ labels rows [])) (q .cover) (q .forward) sound (runnable-counts (q .steps .runnable))
       (subst (λ (x : ℕ). Traced x (sectionIn section) (valueAt (netIn (arraysOf z net tables)) (sectionIn section) quiet) trace n) (sym (size-netIn (arraysOf z net tables))) (tracing-traced (q .steps .runnable) s u)) enough
 
-  pub contents-asked : CellsAsked trace (entriesIn (marking I G φ labels rows)) (tapsOf (keptIn I G φ labels rows []) (outsOf z net) (delaysOf z net) (z .outputs)) contents
-  contents-asked = record { each = each; room = omega (arith, q .contentsRoom, ap length contents-are) }
+  cells-asked : CellsAsked trace (entriesIn (marking I G φ labels rows)) (tapsOf (keptIn I G φ labels rows []) (outsOf z net) (delaysOf z net) (z .outputs)) contents
+  cells-asked = record { each = each; room = omega (arith, q .contentsRoom, ap length contents-are) }
     where
       each : (t : Tap) → t ∈ tapsOf (keptIn I G φ labels rows []) (outsOf z net) (delaysOf z net) (z .outputs) → TapHeld trace (entriesIn (marking I G φ labels rows)) t
       each t l =
@@ -206,3 +206,11 @@ module _ {z : NetSizes} {net tables section kept known : List ℕ} (I G φ : ℕ
             number = subst (λ (x : ℤ). up (t .number) ≤ samplesTo x) (lags-are (t .source)) (h .1);
             samples = omega (arith, most-all m (t .source), m .few, q .workRoom, u .long);
           }
+
+  pub registers-asked : RegistersAsked z net (keptIn I G φ labels rows []) trace contents
+  registers-asked = record {
+    leaves = q .leaves;
+    packed = q .steps .runnable .rooms .packed;
+    delays = record { each = λ o h. let e = ap (λ (i : ℕ). getD (delaysOf z net) i 0) (zero-add o) in omega (arith, q .steps .runnable .outCount o h) };
+    cells = cells-asked;
+  }

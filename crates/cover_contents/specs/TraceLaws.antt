@@ -49,6 +49,9 @@ started-more {section} {kept} {kept′} {n} s h = record { each = each; long = l
         go (yes q) = ap (λ (x : ℕ). getD (set kept′ n (getD section n 0)) x 0) q ∙ getD-set-same kept′ n (getD section n 0) 0 h ∙ ap (λ (x : ℕ). getD section x 0) (sym q)
         go (no m) = getD-set-other kept′ n v (getD section n 0) 0 m ∙ s .each v (omega arith)
 
+pub started-asks : {z : NetSizes} {net tables section kept kept′ known : List ℕ} {n : ℕ} → StepAsked z net tables kept known → Started section kept kept′ n → StepAsked z net tables kept′ known
+started-asks a s = record { runnable = a .runnable; room = omega (arith, a .room, s .long); size = a .size }
+
 -- ---- one sample
 
 pub sampled-none : (kept trace : List ℕ) (at : ℕ) → Sampled kept trace at 0 trace

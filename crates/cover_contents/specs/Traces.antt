@@ -5,13 +5,15 @@ use mathlib.Core.List.{List, [], _∷_, _++_}
 use Prim.Native.Nat.{ℕ, zero, suc, _+_, _-_, _*_, _≤_, _<_}
 use lib.IntN.{ℤ, pos, _-ℤ_}
 use lib.ListN.{length, getD}
-use Rattle.limits.specs.Limits.{mostCount, mostNodes}
+use Rattle.limits.specs.Limits.{mostCount, mostNodes, depthRoom}
 use Rattle.integers.specs.Parts.{up}
 use Rattle.sequences.specs.Member.{_∈_}
 use Rattle.net_model.specs.Arrays.{netIn}
+use Rattle.net_model.specs.PackedNet.{packedRoom}
 use Rattle.net_model.specs.Tables.{bit, asNumber}
 use Rattle.net_reader.specs.ReadAnswer.{arraysOf}
 use Rattle.net_reader.specs.declared.NetSizes.{NetSizes}
+use Rattle.net_checks.specs.Graphs.{outsOf, delaysOf}
 use Rattle.run_theory.specs.Bench.{ago, valueAt}
 use Rattle.run_theory.specs.BenchBytes.{sectionIn, pairsIn}
 use Rattle.run_step.specs.Stepping.{StepAsked, RunTo}
@@ -21,7 +23,8 @@ use Rattle.cover_theory.specs.Key.{Entry, asCover}
 use Rattle.cover_theory.specs.SharedRegisters.{Tap}
 use Rattle.cover_records.specs.Kept.{Kept, entriesIn}
 use Rattle.cover_records.specs.Listing.{lagIn}
-use Rattle.cover_registers.specs.Counting.{LeavesHeld}
+use Rattle.cover_writer.specs.Writing.{Below}
+use Rattle.cover_registers.specs.Counting.{lagsOf, tapsOf, LeavesHeld}
 use Rattle.board_theory.specs.Contents.{contentsOf}
 
 -- ---- the trace
@@ -80,6 +83,13 @@ pub record TapHeld (trace : List ℕ) (es : List Entry) (t : Tap) : Type 0 where
 pub record CellsAsked (trace : List ℕ) (es : List Entry) (taps : List Tap) (area : List ℕ) : Type 0 where
   pub each : (t : Tap) → t ∈ taps → TapHeld trace es t
   pub room : length (tapCells trace es taps) ≤ length area
+
+-- so for all connections of the cover kept and all outputs of the net
+pub record RegistersAsked (z : NetSizes) (net : List ℕ) (a : Kept) (trace area : List ℕ) : Type 0 where
+  pub leaves : LeavesHeld a
+  pub packed : packedRoom (z .inputs) (z .gates) (z .outputs) ≤ length net
+  pub delays : Below depthRoom (delaysOf z net) 0 (z .outputs)
+  pub cells : CellsAsked trace (lagsOf a) (tapsOf a (outsOf z net) (delaysOf z net) (z .outputs)) area
 
 -- ---- the whole
 

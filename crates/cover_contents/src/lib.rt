@@ -22,6 +22,7 @@ ghost use lib.ListN.{length};
 ghost use Rattle.limits.specs.Limits.{depthRoom, mostInputs, mostNodes};
 ghost use Rattle.net_model.specs.Arrays.{netIn, copiesFrom, pinsIn};
 ghost use Rattle.net_reader.specs.ReadAnswer.{arraysOf};
+ghost use Rattle.net_checks.specs.Graphs.{outsOf, delaysOf};
 ghost use Rattle.run_theory.specs.BenchBytes.{sectionIn};
 ghost use Rattle.run_step.specs.Stepping.{StepAsked};
 ghost use Rattle.cover_theory.specs.Key.{asCover};
@@ -31,9 +32,9 @@ ghost use Rattle.cover_records.specs.Rows.{keptIn, rowRoom};
 ghost use Rattle.cover_records.specs.Listing.{lagIn, leafTaps, lutTaps, outputTaps};
 ghost use Rattle.cover_records.specs.Outcomes.{written};
 ghost use Rattle.cover_writer.specs.Writing.{Below, Wrote};
-ghost use Rattle.cover_registers.specs.Counting.{Within, marking, tapsOf, LagsHeld, LeavesHeld};
+ghost use Rattle.cover_registers.specs.Counting.{Within, marking, lagsOf, tapsOf, LagsHeld, LeavesHeld};
 ghost use Rattle.board_theory.specs.Contents.{contentsOf};
-ghost use Rattle.cover_contents.specs.Traces.{samplesTo, Started, Sampled, Tracing, MostSamples, cellsBack, tapCells, CellsAsked, Contenting};
+ghost use Rattle.cover_contents.specs.Traces.{samplesTo, Started, Sampled, Tracing, MostSamples, cellsBack, tapCells, CellsAsked, RegistersAsked, Contenting};
 
 // ---- the trace
 
@@ -257,25 +258,24 @@ fn write_outputs(
     at
 }
 
-// The leaves of all LUTs, then n outputs.
+// The leaves of all LUTs, then all outputs.
 fn write_registers(
+    z: NetSizes,
+    net: &[usize],
     s: CoverHead,
     labels: &[i64],
     rows: &[usize],
-    outs: &[usize],
-    delays: &[usize],
-    n: usize,
     trace: &[u8],
     area: &mut [u8],
 )
-    requires { ⌜ LeavesHeld (keptIn (s .inputs) (s .gates) (s .period) (now labels) (now rows) []) ⌝ }
-    requires { ⌜ (n ≤ length (now outs)) × (n ≤ length (now delays)) × (rowRoom (s .gates) ≤ length (now rows)) ⌝ }
-    requires { ⌜ Below depthRoom (now delays) 0 n ⌝ }
-    requires { ⌜ CellsAsked (now trace) (entriesIn (marking (s .inputs) (s .gates) (s .period) (now labels) (now rows))) (tapsOf (keptIn (s .inputs) (s .gates) (s .period) (now labels) (now rows) []) (now outs) (now delays) n) (now area) ⌝ }
-    ensures { λ _. ⌜ now (area .exit) ≡ written (tapCells (now (trace .entry)) (entriesIn (marking (s .inputs) (s .gates) (s .period) (now (labels .entry)) (now (rows .entry)))) (tapsOf (keptIn (s .inputs) (s .gates) (s .period) (now (labels .entry)) (now (rows .entry)) []) (now (outs .entry)) (now (delays .entry)) n)) (now (area .entry)) ⌝ }
+    requires { ⌜ RegistersAsked z (now net) (keptIn (s .inputs) (s .gates) (s .period) (now labels) (now rows) []) (now trace) (now area) ⌝ }
+    requires { ⌜ rowRoom (s .gates) ≤ length (now rows) ⌝ }
+    ensures { λ _. ⌜ now (area .exit) ≡ written (tapCells (now (trace .entry)) (lagsOf (keptIn (s .inputs) (s .gates) (s .period) (now (labels .entry)) (now (rows .entry)) [])) (tapsOf (keptIn (s .inputs) (s .gates) (s .period) (now (labels .entry)) (now (rows .entry)) []) (outsOf z (now (net .entry))) (delaysOf z (now (net .entry))) (z .outputs))) (now (area .entry)) ⌝ }
 {
+    let a = outs_at(z, net);
+    let b = delays_at(z, net);
     let at = write_luts(s, labels, rows, trace, area);
-    write_outputs(s, labels, rows, outs, delays, n, trace, &mut area[at..]);
+    write_outputs(s, labels, rows, &net[a..], &net[b..], z.outputs, trace, &mut area[at..]);
 }
 
 // The first contents of all registers of the forward cover kept, in front of the contents; the bytes behind them are kept.
@@ -299,16 +299,5 @@ pub fn write_contents(
     start_kept(section, z.inputs + z.gates, kept);
     let n = most_samples(s, labels, rows);
     take_trace(z, net, tables, n, kept, known, work);
-    let a = outs_at(z, net);
-    let b = delays_at(z, net);
-    write_registers(
-        s,
-        labels,
-        rows,
-        &net[a..],
-        &net[b..],
-        z.outputs,
-        work,
-        contents,
-    );
+    write_registers(z, net, s, labels, rows, work, contents);
 }

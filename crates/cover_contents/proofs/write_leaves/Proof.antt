@@ -125,7 +125,7 @@ add-at c =
     let e = ap (λ (z : ℤ). tap u ((pos d +ℤ z) -ℤ lagIn es u) ∷ []) (told (omega arith) (c .before .before .before .before .before .before .before .before .lag-at .ensures)) in
     let v = wrote-same (now (s .trace)) es e (c .before .before .write-connection .ensures) in
     let w = part-within (now (s .trace)) es taken next more q (l .inv .1) (c .before .before .before .before .before .before .loop-test .taken) v in
-    record { fits = omega arith }
+    record { fits = omega (arith, w, c .before .before .before .before .before .before .before .before .before .before .before .before .before .before .good) }
 
 add-j : tie.Need-add-j Inv-loop μ-loop
 add-j c = omega (arith, c .before .before .before .before .before .before .before .before .before .before .before .before .before .before .pre .1 .0, c .before .before .before .before .before .before .loop-test .taken)
