@@ -1,3 +1,25 @@
+-- `cover_contents::write_registers` meets its contract: the registers of the outputs stand behind those of the leaves.
+use mathlib.Core.Path.{sym}
+use mathlib.Core.List.{List, []}
+use Prim.Native.Nat.{ℕ, _-_, _≤_}
+use native.Mathlib.Omega.{arith}
+use denote.Ref.{now}
+use lib.ListN.{length}
+use borrow.Rule.Slice.PartMut.{midOf}
+use Rattle.limits.specs.Limits.{depthRoom}
+use Rattle.net_model.specs.Arrays.{pinsIn}
+use Rattle.net_model.specs.PackedNet.{outsAt, delaysAt}
+use Rattle.net_model.specs.PackedNetLaws.{length-part}
+use Rattle.net_checks.specs.Graphs.{outsOf, delaysOf}
+use Rattle.net_checks.specs.Parts.{two-parts, two-wholes}
+use Rattle.cover_records.specs.Kept.{entriesFrom}
+use Rattle.cover_records.specs.Listing.{lutTaps, outputTaps}
+use Rattle.cover_records.specs.Rows.{keptIn}
+use Rattle.cover_writer.specs.Writing.{Below, Wrote}
+use Rattle.cover_registers.specs.Counting.{lagsOf}
+use Rattle.cover_registers.specs.LagLaws.{all-taps}
+use Rattle.cover_contents.specs.Traces.{tapCells, CellsAsked}
+use Rattle.cover_contents.specs.CellLaws.{asked-same, wrote-same, first-asks, second-asks, second-fits, second-wrote}
 use borrow.Author.Needs.{needs}
 use Rattle.cover_contents.proofs.write_registers.Statement.{statement}
 use Rattle.cover_contents.proofs.write_registers.Tie as tie
@@ -8,73 +30,107 @@ use Rattle.cover_contents.proofs.write_outputs.Reads as write-outputs-r
 use Rattle.net_reader.proofs.delays_at.Reads as delays-at-reads
 use Rattle.net_reader.proofs.outs_at.Reads as outs-at-reads
 
--- src/lib.rt:275:9
 outs-at-requires : tie.Need-outs-at-requires
-outs-at-requires c κs = search needs
+outs-at-requires c κs = c .before .before .before .before .pre .0 .packed
 
--- src/lib.rt:276:9
 delays-at-requires : tie.Need-delays-at-requires
-delays-at-requires c κs = search needs
+delays-at-requires c κs = c .before .before .before .before .before .pre .0 .packed
 
--- src/lib.rt:277:9
 write-luts-requires : tie.Need-write-luts-requires
-write-luts-requires c κs = ?
+write-luts-requires c κs =
+    let s = c .before .before .before .before .before .before .before .args in
+    let p = c .before .before .before .before .before .before .before .pre .0 in
+    let a = keptIn (s .s .inputs) (s .s .gates) (s .s .period) (now (s .labels)) (now (s .rows)) [] in
+    let es = lagsOf a in
+    let luts = lutTaps es (entriesFrom a 0 (s .s .gates)) in
+    let outs = outputTaps es (pinsIn (outsOf (s .z) (now (s .net))) (delaysOf (s .z) (now (s .net))) 0 (s .z .outputs)) in
+    let q = asked-same (now (s .trace)) es (sym (all-taps a (outsOf (s .z) (now (s .net))) (delaysOf (s .z) (now (s .net))) (s .z .outputs))) (p .cells) in
+    (p .leaves, (c .before .before .before .before .before .before .before .pre .1, first-asks (now (s .trace)) es luts outs q))
 
--- src/lib.rt:278:36
 mul-write-outputs : tie.Need-mul-write-outputs
-mul-write-outputs c = search needs
+mul-write-outputs c = omega (arith, c .before .before .before .before .before .before .before .before .before .before .pre .0 .packed, c .before .before .before .before .before .before .before .before .before .before .good, c .before .before .before .before .before .outs-at .ensures, c .before .before .before .before .delays-at .ensures)
 
--- src/lib.rt:278:36
 sub-write-outputs : tie.Need-sub-write-outputs
-sub-write-outputs c = search needs
+sub-write-outputs c = omega (arith, c .before .before .before .before .before .before .before .before .before .before .pre .0 .packed, c .before .before .before .before .before .before .before .before .before .before .good, c .before .before .before .before .before .outs-at .ensures, c .before .before .before .before .delays-at .ensures)
 
--- src/lib.rt:278:36
 part-write-outputs-start : tie.Need-part-write-outputs-start
-part-write-outputs-start c = search needs
+part-write-outputs-start c = omega (arith, c .before .before .before .before .before .before .before .before .before .before .pre .0 .packed, c .before .before .before .before .before .before .before .before .before .before .good, c .before .before .before .before .before .outs-at .ensures, c .before .before .before .before .delays-at .ensures)
 
--- src/lib.rt:278:36
 part-write-outputs-end : tie.Need-part-write-outputs-end
 part-write-outputs-end c = search needs
 
--- src/lib.rt:278:47
 mul-write-outputs-2 : tie.Need-mul-write-outputs-2
-mul-write-outputs-2 c = search needs
+mul-write-outputs-2 c = omega (arith, c .before .before .before .before .before .before .before .before .before .before .before .pre .0 .packed, c .before .before .before .before .before .before .before .before .before .before .before .good, c .before .before .before .before .before .before .outs-at .ensures, c .before .before .before .before .before .delays-at .ensures)
 
--- src/lib.rt:278:47
 sub-write-outputs-2 : tie.Need-sub-write-outputs-2
-sub-write-outputs-2 c = search needs
+sub-write-outputs-2 c = omega (arith, c .before .before .before .before .before .before .before .before .before .before .before .pre .0 .packed, c .before .before .before .before .before .before .before .before .before .before .before .good, c .before .before .before .before .before .before .outs-at .ensures, c .before .before .before .before .before .delays-at .ensures)
 
--- src/lib.rt:278:47
 part-write-outputs-start-2 : tie.Need-part-write-outputs-start-2
-part-write-outputs-start-2 c = search needs
+part-write-outputs-start-2 c = omega (arith, c .before .before .before .before .before .before .before .before .before .before .before .pre .0 .packed, c .before .before .before .before .before .before .before .before .before .before .before .good, c .before .before .before .before .before .before .outs-at .ensures, c .before .before .before .before .before .delays-at .ensures)
 
--- src/lib.rt:278:47
 part-write-outputs-end-2 : tie.Need-part-write-outputs-end-2
 part-write-outputs-end-2 c = search needs
 
--- src/lib.rt:278:76
 sub-write-outputs-3 : tie.Need-sub-write-outputs-3
-sub-write-outputs-3 c = ?
+sub-write-outputs-3 c =
+    let s = c .before .before .before .before .before .before .before .before .before .before .before .before .args in
+    let p = c .before .before .before .before .before .before .before .before .before .before .before .before .pre .0 in
+    let a = keptIn (s .s .inputs) (s .s .gates) (s .s .period) (now (s .labels)) (now (s .rows)) [] in
+    let es = lagsOf a in
+    let luts = lutTaps es (entriesFrom a 0 (s .s .gates)) in
+    let outs = outputTaps es (pinsIn (outsOf (s .z) (now (s .net))) (delaysOf (s .z) (now (s .net))) 0 (s .z .outputs)) in
+    let q = asked-same (now (s .trace)) es (sym (all-taps a (outsOf (s .z) (now (s .net))) (delaysOf (s .z) (now (s .net))) (s .z .outputs))) (p .cells) in
+    second-fits (now (s .trace)) es luts outs q (c .before .before .before .before .write-luts .ensures)
 
--- src/lib.rt:278:76
 part-write-outputs-start-3 : tie.Need-part-write-outputs-start-3
-part-write-outputs-start-3 c = ?
+part-write-outputs-start-3 c =
+    let s = c .before .before .before .before .before .before .before .before .before .before .before .before .args in
+    let p = c .before .before .before .before .before .before .before .before .before .before .before .before .pre .0 in
+    let a = keptIn (s .s .inputs) (s .s .gates) (s .s .period) (now (s .labels)) (now (s .rows)) [] in
+    let es = lagsOf a in
+    let luts = lutTaps es (entriesFrom a 0 (s .s .gates)) in
+    let outs = outputTaps es (pinsIn (outsOf (s .z) (now (s .net))) (delaysOf (s .z) (now (s .net))) 0 (s .z .outputs)) in
+    let q = asked-same (now (s .trace)) es (sym (all-taps a (outsOf (s .z) (now (s .net))) (delaysOf (s .z) (now (s .net))) (s .z .outputs))) (p .cells) in
+    second-fits (now (s .trace)) es luts outs q (c .before .before .before .before .write-luts .ensures)
 
--- src/lib.rt:278:76
 part-write-outputs-end-3 : tie.Need-part-write-outputs-end-3
 part-write-outputs-end-3 c = search needs
 
--- src/lib.rt:278:5
 write-outputs-requires : tie.Need-write-outputs-requires
-write-outputs-requires c κs = ?
+write-outputs-requires c κs =
+    let s = c .before .before .before .before .before .before .before .before .before .before .before .before .before .args in
+    let p = c .before .before .before .before .before .before .before .before .before .before .before .before .before .pre .0 in
+    let a = keptIn (s .s .inputs) (s .s .gates) (s .s .period) (now (s .labels)) (now (s .rows)) [] in
+    let es = lagsOf a in
+    let luts = lutTaps es (entriesFrom a 0 (s .s .gates)) in
+    let outs = outputTaps es (pinsIn (outsOf (s .z) (now (s .net))) (delaysOf (s .z) (now (s .net))) 0 (s .z .outputs)) in
+    let q = asked-same (now (s .trace)) es (sym (all-taps a (outsOf (s .z) (now (s .net))) (delaysOf (s .z) (now (s .net))) (s .z .outputs))) (p .cells) in
+    let n = s .z .outputs in
+    (p .leaves .lags, rw (c .before .before .before .before .before .before .before .before .outs-at .ensures, c .before .before .before .before .before .before .before .delays-at .ensures)
+    (two-parts
+    (λ (os oc : List ℕ). ((n ≤ length os) × (n ≤ length oc)) × (Below depthRoom oc 0 n × CellsAsked (now (s .trace)) es (outputTaps es (pinsIn os oc 0 n)) (midOf (c .before .before .before .before .before .write-luts .result) (length (c .before .before .before .before .before .write-luts .last .1 .1 .1 .1 .0) - c .before .before .before .before .before .write-luts .result) (c .before .before .before .before .before .write-luts .last .1 .1 .1 .1 .0))))
+    (now (s .net)) (outsAt (s .z .inputs) (s .z .gates)) (delaysAt (s .z .inputs) (s .z .gates) n)
+    ((length-part (now (s .net)) (outsAt (s .z .inputs) (s .z .gates)) n (omega (arith, p .packed)), length-part (now (s .net)) (delaysAt (s .z .inputs) (s .z .gates) n) n (p .packed)),
+    (p .delays, second-asks (now (s .trace)) es luts outs q (c .before .before .before .before .before .write-luts .ensures)))))
 
--- src/lib.rt:262:1
 same-length : tie.Need-same-length
 same-length c = search needs
 
--- src/lib.rt:262:1
 returns : tie.Need-returns
-returns c = ?
+returns c =
+    let s = c .before .before .before .before .before .before .before .before .before .before .before .before .before .before .before .before .args in
+    let p = c .before .before .before .before .before .before .before .before .before .before .before .before .before .before .before .before .pre .0 in
+    let a = keptIn (s .s .inputs) (s .s .gates) (s .s .period) (now (s .labels)) (now (s .rows)) [] in
+    let es = lagsOf a in
+    let luts = lutTaps es (entriesFrom a 0 (s .s .gates)) in
+    let outs = outputTaps es (pinsIn (outsOf (s .z) (now (s .net))) (delaysOf (s .z) (now (s .net))) 0 (s .z .outputs)) in
+    let q = asked-same (now (s .trace)) es (sym (all-taps a (outsOf (s .z) (now (s .net))) (delaysOf (s .z) (now (s .net))) (s .z .outputs))) (p .cells) in
+    let n = s .z .outputs in
+    let last = c .before .before .write-outputs in
+    let v = two-wholes
+    (λ (os oc : List ℕ). Wrote (tapCells (now (s .trace)) es (outputTaps es (pinsIn os oc 0 n))) (midOf (c .before .before .before .before .before .before .before .before .write-luts .result) (length (c .before .before .before .before .before .before .before .before .write-luts .last .1 .1 .1 .1 .0) - c .before .before .before .before .before .before .before .before .write-luts .result) (c .before .before .before .before .before .before .before .before .write-luts .last .1 .1 .1 .1 .0)) (last .last .1 .1 .1 .1 .1 .1 .1 .0) (last .result))
+    (now (s .net)) (outsAt (s .z .inputs) (s .z .gates)) (delaysAt (s .z .inputs) (s .z .gates) n) (rw (c .before .before .before .before .before .before .before .before .before .before .before .outs-at .ensures, c .before .before .before .before .before .before .before .before .before .before .delays-at .ensures) at (last .ensures)) in
+    wrote-same (now (s .trace)) es (all-taps a (outsOf (s .z) (now (s .net))) (delaysOf (s .z) (now (s .net))) n) (second-wrote (now (s .trace)) es luts outs q (c .before .before .before .before .before .before .before .before .write-luts .ensures) v) .area
 
 pub write-registers-spec : {M : Type 1} → statement M
 write-registers-spec =
