@@ -9,13 +9,13 @@ use lib.ListN.{length, getD, length-append}
 use borrow.Rule.Slice.PartMut.{midOf, putMid}
 use Rattle.limits.specs.Limits.{mostNodes}
 use Rattle.integers.specs.Parts.{up}
-use Rattle.sequences.specs.Member.{_∈_, here, in-append-left, in-append-right}
+use Rattle.sequences.specs.Member.{here, in-append-left, in-append-right}
 use Rattle.cover_theory.specs.Key.{Entry}
 use Rattle.cover_theory.specs.SharedRegisters.{Tap, tap}
 use Rattle.cover_records.specs.Listing.{lagIn}
 use Rattle.cover_writer.specs.Writing.{Wrote}
-use Rattle.cover_writer.specs.BytesBehind.{wrote-none, wrote-behind, wrote-within, wrote-length, wrote-fits, room-behind}
-use Rattle.cover_contents.specs.Traces.{samplesTo, cellsBack, tapCells, TapHeld, CellsAsked}
+use Rattle.cover_writer.specs.BytesBehind.{wrote-behind, wrote-within, wrote-length, wrote-fits, room-behind}
+use Rattle.cover_contents.specs.Traces.{samplesTo, cellsBack, tapCells, CellsAsked}
 
 -- ---- one connection
 

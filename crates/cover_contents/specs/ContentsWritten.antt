@@ -6,8 +6,8 @@ use Prim.Native.Nat.{ℕ, zero, suc, _+_, _-_, _*_, _≤_, _<_}
 use native.Mathlib.Nat.{zero-add}
 use native.Mathlib.Omega.{arith}
 use lib.IntN.{ℤ, pos, _-ℤ_}
-use lib.ListN.{length, getD}
-use Rattle.limits.specs.Limits.{mostCount, mostNodes, depthRoom}
+use lib.ListN.{length, getD, length-drop}
+use Rattle.limits.specs.Limits.{mostCount, mostNodes, mostPins}
 use Rattle.integers.specs.Parts.{up, dn, sub-parts, parts-≤, pos-up}
 use Rattle.sequences.specs.Member.{_∈_, here, there, in-getD, getD-in}
 use Rattle.net_model.specs.Net.{Net, IsNode, size}
@@ -19,24 +19,24 @@ use Rattle.net_model.specs.Tables.{asNumber}
 use Rattle.net_reader.specs.ReadAnswer.{arraysOf}
 use Rattle.net_reader.specs.declared.NetSizes.{NetSizes}
 use Rattle.net_checks.specs.Graphs.{outsOf, delaysOf}
-use Rattle.run_theory.specs.Bench.{ago, valueAt, Counts}
+use Rattle.run_theory.specs.Bench.{valueAt, Counts}
 use Rattle.run_theory.specs.BenchBytes.{sectionIn}
 use Rattle.run_theory.specs.AgoLaws.{ago-same}
 use Rattle.run_values.specs.SheetLaws.{runnable-sound, runnable-counts}
 use Rattle.label_theory.specs.Lower.{leaf-node}
-use Rattle.cover_theory.specs.Covers.{Lut, Cover, lut, lagOf, registers, output, outputRegisters, IsCover}
+use Rattle.cover_theory.specs.Covers.{Lut, lut, lagOf, registers, output, outputRegisters, IsCover}
 use Rattle.cover_theory.specs.Forward.{Forward}
 use Rattle.cover_theory.specs.Key.{Entry, placeOf, asLut, asCover}
 use Rattle.cover_theory.specs.Written.{noEntry, lut-asCover, luts-asCover}
-use Rattle.cover_theory.specs.SharedRegisters.{Tap, tap, gather, leavesTapped, lutTapped, outputTapped, coverTaps, Reader, leaf, outgoing}
+use Rattle.cover_theory.specs.SharedRegisters.{Tap, gather, leavesTapped, lutTapped, outputTapped, coverTaps, Reader, leaf, outgoing}
 use Rattle.cover_theory.specs.SharedCovers.{tap-reader}
 use Rattle.board_theory.specs.Boards.{held, leafContents, outputContents}
 use Rattle.board_theory.specs.Contents.{cells, leafCells, lutCells, outputCells, contentsBytes, quiet, contentsOf}
 use Rattle.board_theory.specs.ContentsLaws.{leaf-late, output-late}
-use Rattle.cover_records.specs.Kept.{Kept, entriesIn}
-use Rattle.cover_records.specs.Rows.{keptIn, sizesIn, nodesIn, backsIn}
-use Rattle.cover_records.specs.Listing.{lagIn, entryTaps}
-use Rattle.cover_registers.specs.Counting.{marking, lagsOf, tapsOf}
+use Rattle.cover_records.specs.Kept.{entriesIn}
+use Rattle.cover_records.specs.Rows.{keptIn, rowRoom, sizesIn, nodesIn, backsIn}
+use Rattle.cover_records.specs.Listing.{lagIn}
+use Rattle.cover_registers.specs.Counting.{marking, tapsOf, LeavesHeld}
 use Rattle.cover_registers.specs.LagLaws.{lags-same, taps-same}
 use Rattle.cover_registers.specs.CoverTaps.{lag-is, taps-are}
 use Rattle.cover_contents.specs.Traces.{Started, Traced, Tracing, samplesTo, MostSamples, cellsBack, tapCells, TapHeld, CellsAsked, RegistersAsked, Contenting}
@@ -166,6 +166,10 @@ module _ {N : Net} {k : ℕ} (es : List Entry) (cover : IsCover N k (asCover N e
         ∙ ap₂ (λ (a b : List ℕ). a ++ b) (luts-written (length ((asCover N es) .luts)) (omega arith)) (outputs-written (length (N .outputs)) (omega arith))
 
 -- ---- the cover kept
+
+-- its slice is long enough
+pub rows-room : (I G φ : ℕ) (labels : List ℤ) (rows : List ℕ) → LeavesHeld (keptIn I G φ labels rows []) → rowRoom G ≤ length rows
+rows-room I G φ labels rows h = omega (arith, h .backs, length-drop ((2 + mostPins) * G) rows)
 
 module _ {z : NetSizes} {net tables section kept known : List ℕ} (I G φ : ℕ) (labels : List ℤ) (rows : List ℕ) {work contents : List ℕ}
     (q : Contenting z net tables section kept known (keptIn I G φ labels rows []) work contents)

@@ -2,15 +2,13 @@
 use mathlib.Core.Path.{_≡_, refl, sym, ap, subst, _∙_, fun-ext}
 use mathlib.Core.Bool.{Bool, false}
 use mathlib.Core.List.{List, []}
-use Prim.Native.Nat.{ℕ, zero, suc, _+_, _-_, _*_, _/_, _%_, _^_, _≤_, _<_}
+use Prim.Native.Nat.{ℕ, zero, suc, _+_, _-_, _*_, _≤_, _<_}
 use native.Mathlib.Decide.{ℕ-discrete, decLt}
 use native.Mathlib.Omega.{arith}
-use lib.Dec.{eqb}
-use lib.IntN.{ℤ, pos, _-ℤ_}
+use lib.IntN.{ℤ, pos}
 use lib.ListN.{length, getD, set, length-set}
 use lib.Seq.{getD-set-same, getD-set-other}
 use Rattle.limits.specs.Limits.{mostCount, mostNodes}
-use Rattle.integers.specs.Parts.{up}
 use Rattle.net_model.specs.Net.{Net, IsNode}
 use Rattle.net_model.specs.Arrays.{netIn}
 use Rattle.net_model.specs.ArrayLaws.{size-netIn}
@@ -29,7 +27,7 @@ use Rattle.run_step.specs.SteppingLaws.{run-none, run-more, step-asks}
 use Rattle.board_theory.specs.Contents.{quiet}
 use Rattle.cover_records.specs.Kept.{Kept, entriesIn}
 use Rattle.cover_records.specs.Listing.{lagIn}
-use Rattle.cover_registers.specs.Counting.{Within, Counted}
+use Rattle.cover_registers.specs.Counting.{Within}
 use Rattle.cover_registers.specs.RegisterCountLaws.{within-pos, within-minus}
 use Rattle.cover_registers.specs.LagLaws.{lag-input, lag-beyond}
 use Rattle.cover_contents.specs.Traces.{Started, Sampled, Traced, Tracing, samplesTo, MostSamples}

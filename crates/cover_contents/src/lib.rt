@@ -275,7 +275,16 @@ fn write_registers(
     let a = outs_at(z, net);
     let b = delays_at(z, net);
     let at = write_luts(s, labels, rows, trace, area);
-    write_outputs(s, labels, rows, &net[a..], &net[b..], z.outputs, trace, &mut area[at..]);
+    write_outputs(
+        s,
+        labels,
+        rows,
+        &net[a..],
+        &net[b..],
+        z.outputs,
+        trace,
+        &mut area[at..],
+    );
 }
 
 // The first contents of all registers of the forward cover kept, in front of the contents; the bytes behind them are kept.
@@ -293,7 +302,6 @@ pub fn write_contents(
     contents: &mut [u8],
 )
     requires { ⌜ Contenting z (now net) (now tables) (now section) (now kept) (now known) (keptIn (s .inputs) (s .gates) (s .period) (now labels) (now rows) []) (now work) (now contents) ⌝ }
-    requires { ⌜ rowRoom (s .gates) ≤ length (now rows) ⌝ }
     ensures { λ _. ⌜ now (contents .exit) ≡ written (contentsOf (netIn (arraysOf z (now (net .entry)) (now (tables .entry)))) (asCover (netIn (arraysOf z (now (net .entry)) (now (tables .entry)))) (entriesIn (keptIn (s .inputs) (s .gates) (s .period) (now (labels .entry)) (now (rows .entry)) []))) (sectionIn (now (section .entry)))) (now (contents .entry)) ⌝ }
 {
     start_kept(section, z.inputs + z.gates, kept);

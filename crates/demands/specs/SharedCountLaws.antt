@@ -1,10 +1,10 @@
 -- Laws of document 02, E2: the count that the listing prints is that of the cover which the record describes, and it is the right number of registers where readers share a chain.
 use mathlib.Core.Path.{_≡_, refl, ap}
 use mathlib.Core.List.{List}
-use Prim.Native.Nat.{ℕ, _≤_}
+use Prim.Native.Nat.{_≤_}
 use Rattle.sequences.specs.Member.{_∈_}
 use Rattle.net_model.specs.Net.{Net, size}
-use Rattle.cover_theory.specs.Key.{Key, Entry, entries, asCover}
+use Rattle.cover_theory.specs.Key.{Entry, entries, asCover}
 use Rattle.cover_theory.specs.KeyOf.{key-labelled}
 use Rattle.cover_theory.specs.SharedRegisters.{sharedCount, coverTaps, coverRegisters}
 use Rattle.cover_theory.specs.SharedLaws.{longest-serves, shorter-fails, count-least}

@@ -14,10 +14,6 @@ use Rattle.cover_contents.specs.Traces.{samplesTo, MostSamples}
 use Rattle.cover_contents.specs.TraceLaws.{samples-few, most-none, most-more}
 use Rattle.cover_contents.proofs.most_samples.Statement.{statement}
 use Rattle.cover_contents.proofs.most_samples.Tie as tie
-use Rattle.cover_contents.proofs.most_samples.Reads as reads
-use Rattle.cover_contents.proofs.most_samples.Lts as lts
-use Rattle.cover_contents.proofs.samples_to.Reads as samples-to-reads
-use Rattle.cover_registers.proofs.lag_at.Reads as lag-at-reads
 
 abbrev Inv-loop : tie.InvT-loop
 Inv-loop s labels rows gates most₀ g₀ most g = (g ≤ gates) × MostSamples (marking (s .inputs) (s .gates) (s .period) labels rows) g most

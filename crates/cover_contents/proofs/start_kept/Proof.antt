@@ -1,5 +1,4 @@
 -- `cover_contents::start_kept` meets its contract. The loop's invariant: the bytes passed are kept.
-use borrow.Author.Needs.{needs}
 use mathlib.Core.Path.{_≡_}
 use Prim.Native.Nat.{_-_, _≤_, _<_}
 use native.Mathlib.Omega.{arith}
@@ -9,8 +8,6 @@ use Rattle.cover_contents.specs.Traces.{Started}
 use Rattle.cover_contents.specs.TraceLaws.{started-none, started-more}
 use Rattle.cover_contents.proofs.start_kept.Statement.{statement}
 use Rattle.cover_contents.proofs.start_kept.Tie as tie
-use Rattle.cover_contents.proofs.start_kept.Reads as reads
-use Rattle.cover_contents.proofs.start_kept.Lts as lts
 
 abbrev Inv-loop : tie.InvT-loop
 Inv-loop section n kept₀ v₀ kept v = (v ≤ n) × Started section kept₀ kept v

@@ -10,10 +10,6 @@ use Rattle.cover_contents.specs.Traces.{Sampled}
 use Rattle.cover_contents.specs.TraceLaws.{sampled-none, sampled-more}
 use Rattle.cover_contents.proofs.take_sample.Statement.{statement}
 use Rattle.cover_contents.proofs.take_sample.Tie as tie
-use Rattle.cover_contents.proofs.take_sample.Reads as reads
-use Rattle.cover_contents.proofs.take_sample.Lts as lts
-use Rattle.inputs.proofs.narrow.Reads as narrow-reads
-use Rattle.run_values.proofs.told_value.Reads as told-value-reads
 
 abbrev Inv-loop : tie.InvT-loop
 Inv-loop z kept known at trace₀ v₀ trace v = (v ≤ z .inputs + z .gates) × Sampled kept trace₀ at v trace

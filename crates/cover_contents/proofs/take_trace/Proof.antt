@@ -1,17 +1,12 @@
 -- `cover_contents::take_trace` meets its contract. The loop's invariant: t samples are taken and t steps made.
-use borrow.Author.Needs.{needs}
 use mathlib.Core.Path.{_≡_}
-use Prim.Native.Nat.{_+_, _-_, _*_, _≤_}
+use Prim.Native.Nat.{_-_, _≤_}
 use native.Mathlib.Omega.{arith}
 use denote.Ref.{now}
 use Rattle.cover_contents.specs.Traces.{Tracing}
 use Rattle.cover_contents.specs.TraceLaws.{tracing-none, tracing-more, tracing-asks}
 use Rattle.cover_contents.proofs.take_trace.Statement.{statement}
 use Rattle.cover_contents.proofs.take_trace.Tie as tie
-use Rattle.cover_contents.proofs.take_trace.Reads as reads
-use Rattle.cover_contents.proofs.take_trace.Lts as lts
-use Rattle.cover_contents.proofs.take_sample.Reads as take-sample-reads
-use Rattle.run_step.proofs.step.Reads as step-reads
 
 abbrev Inv-loop : tie.InvT-loop
 Inv-loop z net tables n kept₀ known₀ trace₀ t₀ kept known trace t = (t ≤ n) × Tracing z net tables kept₀ known₀ trace₀ kept known trace t

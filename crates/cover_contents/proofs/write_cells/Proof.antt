@@ -11,8 +11,6 @@ use Rattle.cover_contents.specs.Traces.{cellsBack}
 use Rattle.cover_contents.specs.CellLaws.{cells-none, cells-more, length-cells-back}
 use Rattle.cover_contents.proofs.write_cells.Statement.{statement}
 use Rattle.cover_contents.proofs.write_cells.Tie as tie
-use Rattle.cover_contents.proofs.write_cells.Reads as reads
-use Rattle.cover_contents.proofs.write_cells.Lts as lts
 
 abbrev Inv-loop : tie.InvT-loop
 Inv-loop trace u top n area₀ j₀ area j = (j ≤ n) × Wrote (cellsBack trace u top j) area₀ area j

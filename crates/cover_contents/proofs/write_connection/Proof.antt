@@ -1,5 +1,5 @@
 -- `cover_contents::write_connection` meets its contract: its registers after moving are read off the trace.
-use mathlib.Core.Path.{_≡_, ap, _∙_}
+use mathlib.Core.Path.{ap, _∙_}
 use native.Mathlib.Omega.{arith}
 use denote.Ref.{now}
 use lib.IntN.{pos, _+ℤ_, _-ℤ_}
@@ -12,14 +12,6 @@ use Rattle.cover_contents.specs.CellLaws.{connection-asks, connection-wr
 use borrow.Author.Needs.{needs}
 use Rattle.cover_contents.proofs.write_connection.Statement.{statement}
 use Rattle.cover_contents.proofs.write_connection.Tie as tie
-use Rattle.cover_contents.proofs.write_connection.Reads as reads
-use Rattle.cover_contents.proofs.write_connection.Lts as lts
-use Rattle.cover_contents.proofs.samples_to.Reads as samples-to-reads
-use Rattle.cover_contents.proofs.write_cells.Reads as write-cells-reads
-use Rattle.cover_registers.proofs.counted.Reads as counted-reads
-use Rattle.cover_registers.proofs.lag_at.Reads as lag-at-reads
-use Rattle.cover_registers.proofs.moved.Reads as moved-reads
-use Rattle.inputs.proofs.word.Reads as word-reads
 
 lag-at-requires : tie.Need-lag-at-requires
 lag-at-requires c κs = c .before .before .before .pre .0

@@ -1,52 +1,52 @@
+-- `cover_contents::write_contents` meets its contract: the trace of the run from the section, and what is read off it.
+use borrow.Author.Needs.{needs}
+use mathlib.Core.Path.{_∙_, ap}
+use mathlib.Core.List.{List}
+use Prim.Native.Nat.{ℕ}
+use native.Mathlib.Omega.{arith}
+use denote.Ref.{now}
+use Rattle.cover_records.specs.Outcomes.{written}
+use Rattle.cover_contents.specs.TraceLaws.{started-asks}
+use Rattle.cover_contents.specs.ContentsWritten.{rows-room, contents-are, registers-asked}
 use borrow.Author.Needs.{needs}
 use Rattle.cover_contents.proofs.write_contents.Statement.{statement}
 use Rattle.cover_contents.proofs.write_contents.Tie as tie
-use Rattle.cover_contents.proofs.write_contents.Reads as reads
-use Rattle.cover_contents.proofs.write_contents.Lts as lts
-use Rattle.cover_contents.proofs.most_samples.Reads as most-samples-reads
-use Rattle.cover_contents.proofs.start_kept.Reads as start-kept-reads
-use Rattle.cover_contents.proofs.take_trace.Reads as take-trace-reads
-use Rattle.cover_contents.proofs.write_registers.Reads as write-registers-reads
 
--- src/lib.rt:299:25
 add-start-kept : tie.Need-add-start-kept
-add-start-kept c = search needs
+add-start-kept c = omega (arith, c .before .before .before .before .before .before .before .before .before .pre .sectionRoom)
 
--- src/lib.rt:299:5
 start-kept-requires : tie.Need-start-kept-requires
-start-kept-requires c κs = search needs
+start-kept-requires c κs = (c .before .before .before .before .before .before .before .before .before .before .pre .sectionRoom, c .before .before .before .before .before .before .before .before .before .before .pre .steps .room)
 
--- src/lib.rt:300:9
 most-samples-requires : tie.Need-most-samples-requires
-most-samples-requires c κs = search needs
+most-samples-requires c κs = c .before .before .before .before .before .before .before .before .before .before .before .before .before .pre .leaves .lags
 
--- src/lib.rt:301:5
 take-trace-requires : tie.Need-take-trace-requires
-take-trace-requires c κs = ?
+take-trace-requires c κs =
+    let q = c .before .before .before .before .before .before .before .before .before .before .before .before .before .before .before .before .before .pre in
+    (started-asks (q .steps) (c .before .before .before .before .before .before .start-kept .ensures), (omega (arith, q .steps .runnable .inputs, q .leaves .few, q .gates), omega (arith, c .before .before .before .most-samples .ensures .few, q .workRoom)))
 
--- src/lib.rt:302:5
 write-registers-requires : tie.Need-write-registers-requires
-write-registers-requires c κs = ?
+write-registers-requires c κs =
+    let s = c .before .before .before .before .before .before .before .before .before .before .before .before .before .before .before .before .before .before .before .before .before .before .before .before .before .before .args in
+    (registers-asked (s .s .inputs) (s .s .gates) (s .s .period) (now (s .labels)) (now (s .rows)) (c .before .before .before .before .before .before .before .before .before .before .before .before .before .before .before .before .before .before .before .before .before .before .before .before .before .before .pre) (c .before .before .before .before .before .before .before .before .before .before .before .before .before .before .before .start-kept .ensures) (c .before .before .before .before .before .before .before .before .take-trace .ensures) (c .before .before .before .before .before .before .before .before .before .before .before .before .most-samples .ensures), rows-room (s .s .inputs) (s .s .gates) (s .s .period) (now (s .labels)) (now (s .rows)) (c .before .before .before .before .before .before .before .before .before .before .before .before .before .before .before .before .before .before .before .before .before .before .before .before .before .before .pre .leaves))
 
--- src/lib.rt:282:1
 same-length : tie.Need-same-length
 same-length c = search needs
 
--- src/lib.rt:282:1
 same-length-2 : tie.Need-same-length-2
 same-length-2 c = search needs
 
--- src/lib.rt:282:1
 same-length-3 : tie.Need-same-length-3
 same-length-3 c = search needs
 
--- src/lib.rt:282:1
 same-length-4 : tie.Need-same-length-4
 same-length-4 c = search needs
 
--- src/lib.rt:282:1
 returns : tie.Need-returns
-returns c = ?
+returns c =
+    let s = c .before .before .before .before .before .before .before .before .before .before .before .before .before .before .before .before .before .before .before .before .before .before .before .before .before .before .before .before .before .args in
+    c .before .before .write-registers .ensures ∙ ap (λ (bytes : List ℕ). written bytes (now (s .contents))) (contents-are (s .s .inputs) (s .s .gates) (s .s .period) (now (s .labels)) (now (s .rows)) (c .before .before .before .before .before .before .before .before .before .before .before .before .before .before .before .before .before .before .before .before .before .before .before .before .before .before .before .before .before .pre) (c .before .before .before .before .before .before .before .before .before .before .before .before .before .before .before .before .before .before .start-kept .ensures) (c .before .before .before .before .before .before .before .before .before .before .before .take-trace .ensures) (c .before .before .before .before .before .before .before .before .before .before .before .before .before .before .before .most-samples .ensures))
 
 pub write-contents-spec : {M : Type 1} → statement M
 write-contents-spec =

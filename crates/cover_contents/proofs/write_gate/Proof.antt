@@ -19,9 +19,6 @@ use Rattle.cover_contents.specs.CellLaws.{taps-none, asked-same, wrote-s
 use borrow.Author.Needs.{needs}
 use Rattle.cover_contents.proofs.write_gate.Statement.{statement}
 use Rattle.cover_contents.proofs.write_gate.Tie as tie
-use Rattle.cover_contents.proofs.write_gate.Reads as reads
-use Rattle.cover_contents.proofs.write_gate.Lts as lts
-use Rattle.cover_contents.proofs.write_leaves.Reads as write-leaves-reads
 
 mul-if1 : tie.Need-mul-if1
 mul-if1 c = omega (arith, c .before .before .before .pre .0 .few, c .before .before .before .pre .0 .lags .labels, c .before .before .before .pre .1 .0)

@@ -21,10 +21,6 @@ use Rattle.cover_contents.specs.Traces.{tapCells}
 use Rattle.cover_contents.specs.CellLaws.{taps-none, asked-same, wrote-same, part-fits, part-long, part-asks, part-within, part-wrote}
 use Rattle.cover_contents.proofs.write_leaves.Statement.{statement}
 use Rattle.cover_contents.proofs.write_leaves.Tie as tie
-use Rattle.cover_contents.proofs.write_leaves.Reads as reads
-use Rattle.cover_contents.proofs.write_leaves.Lts as lts
-use Rattle.cover_contents.proofs.write_connection.Reads as write-connection-reads
-use Rattle.cover_registers.proofs.lag_at.Reads as lag-at-reads
 
 -- the connections of the first j leaves, and that of the next
 module _ (es : List Entry) (r : ℤ) (nodes backs : List ℕ) (p : ℕ) where

@@ -17,9 +17,6 @@ use Rattle.cover_contents.specs.Traces.{tapCells}
 use Rattle.cover_contents.specs.CellLaws.{taps-none, part-fits, part-long, part-asks, part-within, part-wrote}
 use Rattle.cover_contents.proofs.write_luts.Statement.{statement}
 use Rattle.cover_contents.proofs.write_luts.Tie as tie
-use Rattle.cover_contents.proofs.write_luts.Reads as reads
-use Rattle.cover_contents.proofs.write_luts.Lts as lts
-use Rattle.cover_contents.proofs.write_gate.Reads as write-gate-reads
 
 -- the connections of the LUTs of the gates below g, and those of gate g
 module _ (a : Kept) where

@@ -23,9 +23,6 @@ use Rattle.cover_contents.specs.Traces.{tapCells}
 use Rattle.cover_contents.specs.CellLaws.{taps-none, part-fits, part-long, part-asks, part-within, part-wrote}
 use Rattle.cover_contents.proofs.write_outputs.Statement.{statement}
 use Rattle.cover_contents.proofs.write_outputs.Tie as tie
-use Rattle.cover_contents.proofs.write_outputs.Reads as reads
-use Rattle.cover_contents.proofs.write_outputs.Lts as lts
-use Rattle.cover_contents.proofs.write_connection.Reads as write-connection-reads
 
 -- the first o outputs, and the next
 module _ (es : List Entry) (outs delays : List ℕ) where

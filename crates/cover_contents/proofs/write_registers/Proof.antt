@@ -23,12 +23,6 @@ use Rattle.cover_contents.specs.CellLaws.{asked-same, wrote-same, first-
 use borrow.Author.Needs.{needs}
 use Rattle.cover_contents.proofs.write_registers.Statement.{statement}
 use Rattle.cover_contents.proofs.write_registers.Tie as tie
-use Rattle.cover_contents.proofs.write_registers.Reads as reads
-use Rattle.cover_contents.proofs.write_registers.Lts as lts
-use Rattle.cover_contents.proofs.write_luts.Reads as write-luts-reads
-use Rattle.cover_contents.proofs.write_outputs.Reads as write-outputs-reads
-use Rattle.net_reader.proofs.delays_at.Reads as delays-at-reads
-use Rattle.net_reader.proofs.outs_at.Reads as outs-at-reads
 
 outs-at-requires : tie.Need-outs-at-requires
 outs-at-requires c κs = c .before .before .before .before .pre .0 .packed
@@ -105,13 +99,16 @@ write-outputs-requires c κs =
     let luts = lutTaps es (entriesFrom a 0 (s .s .gates)) in
     let outs = outputTaps es (pinsIn (outsOf (s .z) (now (s .net))) (delaysOf (s .z) (now (s .net))) 0 (s .z .outputs)) in
     let q = asked-same (now (s .trace)) es (sym (all-taps a (outsOf (s .z) (now (s .net))) (delaysOf (s .z) (now (s .net))) (s .z .outputs))) (p .cells) in
-    let n = s .z .outputs in
-    (p .leaves .lags, rw (c .before .before .before .before .before .before .before .before .outs-at .ensures, c .before .before .before .before .before .before .before .delays-at .ensures)
-    (two-parts
-    (λ (os oc : List ℕ). ((n ≤ length os) × (n ≤ length oc)) × (Below depthRoom oc 0 n × CellsAsked (now (s .trace)) es (outputTaps es (pinsIn os oc 0 n)) (midOf (c .before .before .before .before .before .write-luts .result) (length (c .before .before .before .before .before .write-luts .last .1 .1 .1 .1 .0) - c .before .before .before .before .before .write-luts .result) (c .before .before .before .before .before .write-luts .last .1 .1 .1 .1 .0))))
-    (now (s .net)) (outsAt (s .z .inputs) (s .z .gates)) (delaysAt (s .z .inputs) (s .z .gates) n)
-    ((length-part (now (s .net)) (outsAt (s .z .inputs) (s .z .gates)) n (omega (arith, p .packed)), length-part (now (s .net)) (delaysAt (s .z .inputs) (s .z .gates) n) n (p .packed)),
-    (p .delays, second-asks (now (s .trace)) es luts outs q (c .before .before .before .before .before .write-luts .ensures)))))
+    let n = s .z .outputs in (
+      p .leaves .lags,
+      rw (c .before .before .before .before .before .before .before .before .outs-at .ensures, c .before .before .before .before .before .before .before .delays-at .ensures)
+          (two-parts
+          (λ (os oc : List ℕ). ((n ≤ length os) × (n ≤ length oc)) × (Below depthRoom oc 0 n × CellsAsked (now (s .trace)) es (outputTaps es (pinsIn os oc 0 n)) (midOf (c .before .before .before .before .before .write-luts .result) (length (c .before .before .before .before .before .write-luts .last .1 .1 .1 .1 .0) - c .before .before .before .before .before .write-luts .result) (c .before .before .before .before .before .write-luts .last .1 .1 .1 .1 .0))))
+          (now (s .net)) (outsAt (s .z .inputs) (s .z .gates)) (delaysAt (s .z .inputs) (s .z .gates) n) (
+            (length-part (now (s .net)) (outsAt (s .z .inputs) (s .z .gates)) n (omega (arith, p .packed)), length-part (now (s .net)) (delaysAt (s .z .inputs) (s .z .gates) n) n (p .packed)),
+            (p .delays, second-asks (now (s .trace)) es luts outs q (c .before .before .before .before .before .write-luts .ensures)),
+          )),
+    )
 
 same-length : tie.Need-same-length
 same-length c = search needs
