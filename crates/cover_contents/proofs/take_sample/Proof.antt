@@ -18,7 +18,9 @@ abbrev μ-loop : tie.MeasureT-loop
 μ-loop z kept known at trace₀ v₀ trace v = z .inputs + z .gates - v
 
 loop-holds : tie.Need-loop-holds Inv-loop μ-loop
-loop-holds c = (omega arith, sampled-none (now (c .before .before .before .args .kept)) (now (c .before .before .before .args .trace)) (c .before .before .before .args .at))
+loop-holds c =
+    let start = c .before .before .before in
+    (omega arith, sampled-none (now (start .args .kept)) (now (start .args .trace)) (start .args .at))
 
 add-if1 : tie.Need-add-if1 Inv-loop μ-loop
 add-if1 c = omega (arith, c .before .before .before .before .before .pre .0 .1)
@@ -35,8 +37,10 @@ sub-narrow c =
 
 narrow-requires : tie.Need-narrow-requires Inv-loop μ-loop
 narrow-requires c κs =
-    let e : c .told-value .result ≡ suc (asNumber (bit (getD (now (c .before .before .before .before .before .before .before .args .kept)) (c .before .before .before .loop .v) 0) 2)) = c .told-value .ensures in
-    omega (arith, asNumber-small (bit (getD (now (c .before .before .before .before .before .before .before .args .kept)) (c .before .before .before .loop .v) 0) 2))
+    let loop = c .before .before .before .loop in
+    let start = c .before .before .before .before .before .before .before in
+    let e : c .told-value .result ≡ suc (asNumber (bit (getD (now (start .args .kept)) (loop .v) 0) 2)) = c .told-value .ensures in
+    omega (arith, asNumber-small (bit (getD (now (start .args .kept)) (loop .v) 0) 2))
 
 add-trace : tie.Need-add-trace Inv-loop μ-loop
 add-trace c = omega (arith, c .before .before .before .before .before .before .before .before .pre .1, c .before .before .if1 .taken)
@@ -52,11 +56,12 @@ loop-less c = omega (arith, c .before .before .if1 .taken)
 
 loop-again : tie.Need-loop-again Inv-loop μ-loop
 loop-again c =
-    let s = c .before .before .before .before .before .before .before .before .args in
+    let start = c .before .before .before .before .before .before .before .before in
+    let s = start .args in
     let l = c .before .before .before .before .loop in
     let e : c .before .told-value .result ≡ suc (asNumber (bit (getD (now (s .kept)) (l .v) 0) 2)) = c .before .told-value .ensures in
     let f : c .narrow .result ≡ asNumber (bit (getD (now (s .kept)) (l .v) 0) 2) = omega (arith, c .narrow .ensures) in
-    (omega (arith, c .before .before .if1 .taken), sampled-more (c .narrow .result) (l .inv .1) (omega (arith, c .before .before .before .before .before .before .before .before .pre .1, c .before .before .if1 .taken, l .inv .1 .long)) f)
+    (omega (arith, c .before .before .if1 .taken), sampled-more (c .narrow .result) (l .inv .1) (omega (arith, start .pre .1, c .before .before .if1 .taken, l .inv .1 .long)) f)
 
 same-length : tie.Need-same-length Inv-loop μ-loop
 same-length c = c .before .before .loop .inv .1 .long

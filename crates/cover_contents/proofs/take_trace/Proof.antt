@@ -15,16 +15,20 @@ abbrev μ-loop : tie.MeasureT-loop
 μ-loop z net tables n kept₀ known₀ trace₀ t₀ kept known trace t = n - t
 
 loop-holds : tie.Need-loop-holds Inv-loop μ-loop
-loop-holds c = (omega arith, tracing-none (now (c .before .before .before .before .before .args .kept)) (now (c .before .before .before .before .before .args .known)) (now (c .before .before .before .before .before .args .trace)))
+loop-holds c =
+    let start = c .before .before .before .before .before in
+    (omega arith, tracing-none (now (start .args .kept)) (now (start .args .known)) (now (start .args .trace)))
 
 mul-take-sample : tie.Need-mul-take-sample Inv-loop μ-loop
 mul-take-sample c = omega (arith, c .before .before .before .before .before .before .before .before .before .pre .1, c .before .before .loop-test .taken)
 
 take-sample-requires : tie.Need-take-sample-requires Inv-loop μ-loop
 take-sample-requires c κs =
-    let q = tracing-asks (c .before .before .before .before .before .before .before .before .before .before .pre .0) (c .before .before .before .before .loop .inv .1) in
-    let p = c .before .before .before .before .before .before .before .before .before .before .pre .1 in
-    ((q .runnable .inputs, q .room, q .size), omega (arith, p .0, p .1, c .before .before .before .loop-test .taken, c .before .before .before .before .loop .inv .1 .long))
+    let loop = c .before .before .before .before .loop in
+    let start = c .before .before .before .before .before .before .before .before .before .before in
+    let q = tracing-asks (start .pre .0) (loop .inv .1) in
+    let p = start .pre .1 in
+    ((q .runnable .inputs, q .room, q .size), omega (arith, p .0, p .1, c .before .before .before .loop-test .taken, loop .inv .1 .long))
 
 step-requires : tie.Need-step-requires Inv-loop μ-loop
 step-requires c κs = tracing-asks (c .before .before .before .before .before .before .before .before .before .before .before .before .before .before .before .pre .0) (c .before .before .before .before .before .before .before .before .before .loop .inv .1)
@@ -37,8 +41,9 @@ loop-less c = omega (arith, c .before .before .before .before .before .before .b
 
 loop-again : tie.Need-loop-again Inv-loop μ-loop
 loop-again c =
-    let s = c .before .before .before .before .before .before .before .before .before .before .before .before .before .before .before .before .before .before .before .before .args in
-    (omega (arith, c .before .before .before .before .before .before .before .before .before .before .before .before .before .loop-test .taken), tracing-more (now (s .kept)) (now (s .known)) (now (s .trace)) (c .before .before .before .before .before .before .before .before .before .before .before .before .before .before .before .before .before .before .before .before .pre .0 .runnable) (c .before .before .before .before .before .before .before .before .before .before .before .before .before .before .before .before .before .before .before .before .pre .1 .0) (c .before .before .before .before .before .before .before .before .before .before .before .before .before .before .loop .inv .1) (c .before .before .before .before .before .before .before .before .before .take-sample .ensures) (c .before .before .before .before .step .ensures))
+    let start = c .before .before .before .before .before .before .before .before .before .before .before .before .before .before .before .before .before .before .before .before in
+    let s = start .args in
+    (omega (arith, c .before .before .before .before .before .before .before .before .before .before .before .before .before .loop-test .taken), tracing-more (now (s .kept)) (now (s .known)) (now (s .trace)) (start .pre .0 .runnable) (start .pre .1 .0) (c .before .before .before .before .before .before .before .before .before .before .before .before .before .before .loop .inv .1) (c .before .before .before .before .before .before .before .before .before .take-sample .ensures) (c .before .before .before .before .step .ensures))
 
 same-length : tie.Need-same-length Inv-loop μ-loop
 same-length c = c .before .loop .inv .1 .run .long

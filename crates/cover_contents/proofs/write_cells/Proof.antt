@@ -40,10 +40,11 @@ shared-slice-read-area c = omega (arith, c .before .before .before .pre .0, c .b
 
 slice-write-area : tie.Need-slice-write-area Inv-loop μ-loop
 slice-write-area c =
-    let s = c .before .before .before .args in
+    let start = c .before .before .before in
+    let s = start .args in
     let l = c .before .before .loop in
     let e = length-cells-back (now (s .trace)) (s .u) (s .top) (l .j) in
-    let q = c .before .before .before .pre .1 in
+    let q = start .pre .1 in
     omega (arith, q, c .before .loop-test .taken, wrote-length (omega arith) (l .inv .1))
 
 add-j : tie.Need-add-j Inv-loop μ-loop
@@ -54,9 +55,10 @@ loop-less c = omega arith
 
 loop-again : tie.Need-loop-again Inv-loop μ-loop
 loop-again c =
-    let s = c .before .before .before .args in
+    let start = c .before .before .before in
+    let s = start .args in
     let l = c .before .before .loop in
-    let q = c .before .before .before .pre .1 in
+    let q = start .pre .1 in
     let more = wrote-next (getD (now (s .trace)) (mostNodes * (s .top - (l .j + 1)) + s .u) 0) (omega (arith, q, c .before .loop-test .taken)) (l .inv .1) in
     (omega arith, rw (cells-more (now (s .trace)) (s .u) (s .top) (l .j)) at more)
 

@@ -16,7 +16,9 @@ add-start-kept : tie.Need-add-start-kept
 add-start-kept c = omega (arith, c .before .before .before .before .before .before .before .before .before .pre .sectionRoom)
 
 start-kept-requires : tie.Need-start-kept-requires
-start-kept-requires c κs = (c .before .before .before .before .before .before .before .before .before .before .pre .sectionRoom, c .before .before .before .before .before .before .before .before .before .before .pre .steps .room)
+start-kept-requires c κs =
+    let start = c .before .before .before .before .before .before .before .before .before .before in
+    (start .pre .sectionRoom, start .pre .steps .room)
 
 most-samples-requires : tie.Need-most-samples-requires
 most-samples-requires c κs = c .before .before .before .before .before .before .before .before .before .before .before .before .before .pre .leaves .lags
@@ -28,8 +30,9 @@ take-trace-requires c κs =
 
 write-registers-requires : tie.Need-write-registers-requires
 write-registers-requires c κs =
-    let s = c .before .before .before .before .before .before .before .before .before .before .before .before .before .before .before .before .before .before .before .before .before .before .before .before .before .before .args in
-    (registers-asked (s .s .inputs) (s .s .gates) (s .s .period) (now (s .labels)) (now (s .rows)) (c .before .before .before .before .before .before .before .before .before .before .before .before .before .before .before .before .before .before .before .before .before .before .before .before .before .before .pre) (c .before .before .before .before .before .before .before .before .before .before .before .before .before .before .before .start-kept .ensures) (c .before .before .before .before .before .before .before .before .take-trace .ensures) (c .before .before .before .before .before .before .before .before .before .before .before .before .most-samples .ensures), rows-room (s .s .inputs) (s .s .gates) (s .s .period) (now (s .labels)) (now (s .rows)) (c .before .before .before .before .before .before .before .before .before .before .before .before .before .before .before .before .before .before .before .before .before .before .before .before .before .before .pre .leaves))
+    let start = c .before .before .before .before .before .before .before .before .before .before .before .before .before .before .before .before .before .before .before .before .before .before .before .before .before .before in
+    let s = start .args in
+    (registers-asked (s .s .inputs) (s .s .gates) (s .s .period) (now (s .labels)) (now (s .rows)) (start .pre) (c .before .before .before .before .before .before .before .before .before .before .before .before .before .before .before .start-kept .ensures) (c .before .before .before .before .before .before .before .before .take-trace .ensures) (c .before .before .before .before .before .before .before .before .before .before .before .before .most-samples .ensures), rows-room (s .s .inputs) (s .s .gates) (s .s .period) (now (s .labels)) (now (s .rows)) (start .pre .leaves))
 
 same-length : tie.Need-same-length
 same-length c = search needs
@@ -45,8 +48,9 @@ same-length-4 c = search needs
 
 returns : tie.Need-returns
 returns c =
-    let s = c .before .before .before .before .before .before .before .before .before .before .before .before .before .before .before .before .before .before .before .before .before .before .before .before .before .before .before .before .before .args in
-    c .before .before .write-registers .ensures ∙ ap (λ (bytes : List ℕ). written bytes (now (s .contents))) (contents-are (s .s .inputs) (s .s .gates) (s .s .period) (now (s .labels)) (now (s .rows)) (c .before .before .before .before .before .before .before .before .before .before .before .before .before .before .before .before .before .before .before .before .before .before .before .before .before .before .before .before .before .pre) (c .before .before .before .before .before .before .before .before .before .before .before .before .before .before .before .before .before .before .start-kept .ensures) (c .before .before .before .before .before .before .before .before .before .before .before .take-trace .ensures) (c .before .before .before .before .before .before .before .before .before .before .before .before .before .before .before .most-samples .ensures))
+    let start = c .before .before .before .before .before .before .before .before .before .before .before .before .before .before .before .before .before .before .before .before .before .before .before .before .before .before .before .before .before in
+    let s = start .args in
+    c .before .before .write-registers .ensures ∙ ap (λ (bytes : List ℕ). written bytes (now (s .contents))) (contents-are (s .s .inputs) (s .s .gates) (s .s .period) (now (s .labels)) (now (s .rows)) (start .pre) (c .before .before .before .before .before .before .before .before .before .before .before .before .before .before .before .before .before .before .start-kept .ensures) (c .before .before .before .before .before .before .before .before .before .before .before .take-trace .ensures) (c .before .before .before .before .before .before .before .before .before .before .before .before .before .before .before .most-samples .ensures))
 
 pub write-contents-spec : {M : Type 1} → statement M
 write-contents-spec =

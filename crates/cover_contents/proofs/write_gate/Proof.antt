@@ -21,10 +21,14 @@ use Rattle.cover_contents.proofs.write_gate.Statement.{statement}
 use Rattle.cover_contents.proofs.write_gate.Tie as tie
 
 mul-if1 : tie.Need-mul-if1
-mul-if1 c = omega (arith, c .before .before .before .pre .0 .few, c .before .before .before .pre .0 .lags .labels, c .before .before .before .pre .1 .0)
+mul-if1 c =
+    let start = c .before .before .before in
+    omega (arith, start .pre .0 .few, start .pre .0 .lags .labels, start .pre .1 .0)
 
 shared-slice-read-if1 : tie.Need-shared-slice-read-if1
-shared-slice-read-if1 c = omega (arith, c .before .before .before .before .pre .0 .few, c .before .before .before .before .pre .0 .lags .labels, c .before .before .before .before .pre .1 .0)
+shared-slice-read-if1 c =
+    let start = c .before .before .before .before in
+    omega (arith, start .pre .0 .few, start .pre .0 .lags .labels, start .pre .1 .0)
 
 returns : tie.Need-returns
 returns c =
@@ -34,67 +38,100 @@ returns c =
     rw (gate-none a (s .g) (c .if1 .taken)) (rw (taps-none (now (s .trace)) es) (wrote-none (now (s .area))))
 
 mul-a : tie.Need-mul-a
-mul-a c = omega (arith, c .before .before .before .before .before .before .pre .0 .few, c .before .before .before .before .before .before .pre .0 .lags .labels, c .before .before .before .before .before .before .pre .1 .0)
+mul-a c =
+    let start = c .before .before .before .before .before .before in
+    omega (arith, start .pre .0 .few, start .pre .0 .lags .labels, start .pre .1 .0)
 
 add-b : tie.Need-add-b
-add-b c = omega (arith, c .before .before .before .before .before .before .pre .0 .few, c .before .before .before .before .before .before .pre .0 .lags .labels, c .before .before .before .before .before .before .pre .1 .0)
+add-b c =
+    let start = c .before .before .before .before .before .before in
+    omega (arith, start .pre .0 .few, start .pre .0 .lags .labels, start .pre .1 .0)
 
 mul-b : tie.Need-mul-b
-mul-b c = omega (arith, c .before .before .before .before .before .before .before .pre .0 .few, c .before .before .before .before .before .before .before .pre .0 .lags .labels, c .before .before .before .before .before .before .before .pre .1 .0)
+mul-b c =
+    let start = c .before .before .before .before .before .before .before in
+    omega (arith, start .pre .0 .few, start .pre .0 .lags .labels, start .pre .1 .0)
 
 mul-write-leaves : tie.Need-mul-write-leaves
-mul-write-leaves c = omega (arith, c .before .before .before .before .before .before .before .pre .0 .few, c .before .before .before .before .before .before .before .pre .0 .lags .labels, c .before .before .before .before .before .before .before .pre .1 .0)
+mul-write-leaves c =
+    let start = c .before .before .before .before .before .before .before in
+    omega (arith, start .pre .0 .few, start .pre .0 .lags .labels, start .pre .1 .0)
 
 sub-write-leaves : tie.Need-sub-write-leaves
-sub-write-leaves c = omega (arith, c .before .before .before .before .before .before .before .pre .0 .few, c .before .before .before .before .before .before .before .pre .0 .lags .labels, c .before .before .before .before .before .before .before .pre .1 .0)
+sub-write-leaves c =
+    let start = c .before .before .before .before .before .before .before in
+    omega (arith, start .pre .0 .few, start .pre .0 .lags .labels, start .pre .1 .0)
 
 part-write-leaves-start : tie.Need-part-write-leaves-start
-part-write-leaves-start c = omega (arith, c .before .before .before .before .before .before .before .pre .0 .few, c .before .before .before .before .before .before .before .pre .0 .lags .labels, c .before .before .before .before .before .before .before .pre .1 .0)
+part-write-leaves-start c =
+    let start = c .before .before .before .before .before .before .before in
+    omega (arith, start .pre .0 .few, start .pre .0 .lags .labels, start .pre .1 .0)
 
 part-write-leaves-end : tie.Need-part-write-leaves-end
-part-write-leaves-end c = omega (arith, c .before .before .before .before .before .before .before .pre .0 .few, c .before .before .before .before .before .before .before .pre .0 .lags .labels, c .before .before .before .before .before .before .before .pre .1 .0)
+part-write-leaves-end c =
+    let start = c .before .before .before .before .before .before .before in
+    omega (arith, start .pre .0 .few, start .pre .0 .lags .labels, start .pre .1 .0)
 
 mul-write-leaves-2 : tie.Need-mul-write-leaves-2
-mul-write-leaves-2 c = omega (arith, c .before .before .before .before .before .before .before .before .pre .0 .few, c .before .before .before .before .before .before .before .before .pre .0 .lags .labels, c .before .before .before .before .before .before .before .before .pre .1 .0)
+mul-write-leaves-2 c =
+    let start = c .before .before .before .before .before .before .before .before in
+    omega (arith, start .pre .0 .few, start .pre .0 .lags .labels, start .pre .1 .0)
 
 sub-write-leaves-2 : tie.Need-sub-write-leaves-2
-sub-write-leaves-2 c = omega (arith, c .before .before .before .before .before .before .before .before .pre .0 .few, c .before .before .before .before .before .before .before .before .pre .0 .lags .labels, c .before .before .before .before .before .before .before .before .pre .1 .0)
+sub-write-leaves-2 c =
+    let start = c .before .before .before .before .before .before .before .before in
+    omega (arith, start .pre .0 .few, start .pre .0 .lags .labels, start .pre .1 .0)
 
 part-write-leaves-start-2 : tie.Need-part-write-leaves-start-2
-part-write-leaves-start-2 c = omega (arith, c .before .before .before .before .before .before .before .before .pre .0 .few, c .before .before .before .before .before .before .before .before .pre .0 .lags .labels, c .before .before .before .before .before .before .before .before .pre .1 .0)
+part-write-leaves-start-2 c =
+    let start = c .before .before .before .before .before .before .before .before in
+    omega (arith, start .pre .0 .few, start .pre .0 .lags .labels, start .pre .1 .0)
 
 part-write-leaves-end-2 : tie.Need-part-write-leaves-end-2
-part-write-leaves-end-2 c = omega (arith, c .before .before .before .before .before .before .before .before .pre .0 .few, c .before .before .before .before .before .before .before .before .pre .0 .lags .labels, c .before .before .before .before .before .before .before .before .pre .1 .0)
+part-write-leaves-end-2 c =
+    let start = c .before .before .before .before .before .before .before .before in
+    omega (arith, start .pre .0 .few, start .pre .0 .lags .labels, start .pre .1 .0)
 
 add-write-leaves : tie.Need-add-write-leaves
-add-write-leaves c = omega (arith, c .before .before .before .before .before .before .before .before .before .before .pre .0 .few, c .before .before .before .before .before .before .before .before .before .before .pre .0 .lags .labels, c .before .before .before .before .before .before .before .before .before .before .pre .1 .0)
+add-write-leaves c =
+    let start = c .before .before .before .before .before .before .before .before .before .before in
+    omega (arith, start .pre .0 .few, start .pre .0 .lags .labels, start .pre .1 .0)
 
 mul-write-leaves-3 : tie.Need-mul-write-leaves-3
-mul-write-leaves-3 c = omega (arith, c .before .before .before .before .before .before .before .before .before .before .pre .0 .few, c .before .before .before .before .before .before .before .before .before .before .pre .0 .lags .labels, c .before .before .before .before .before .before .before .before .before .before .pre .1 .0)
+mul-write-leaves-3 c =
+    let start = c .before .before .before .before .before .before .before .before .before .before in
+    omega (arith, start .pre .0 .few, start .pre .0 .lags .labels, start .pre .1 .0)
 
 add-write-leaves-2 : tie.Need-add-write-leaves-2
-add-write-leaves-2 c = omega (arith, c .before .before .before .before .before .before .before .before .before .before .before .pre .0 .few, c .before .before .before .before .before .before .before .before .before .before .before .pre .0 .lags .labels, c .before .before .before .before .before .before .before .before .before .before .before .pre .1 .0)
+add-write-leaves-2 c =
+    let start = c .before .before .before .before .before .before .before .before .before .before .before in
+    omega (arith, start .pre .0 .few, start .pre .0 .lags .labels, start .pre .1 .0)
 
 mul-write-leaves-4 : tie.Need-mul-write-leaves-4
-mul-write-leaves-4 c = omega (arith, c .before .before .before .before .before .before .before .before .before .before .before .pre .0 .few, c .before .before .before .before .before .before .before .before .before .before .before .pre .0 .lags .labels, c .before .before .before .before .before .before .before .before .before .before .before .pre .1 .0)
+mul-write-leaves-4 c =
+    let start = c .before .before .before .before .before .before .before .before .before .before .before in
+    omega (arith, start .pre .0 .few, start .pre .0 .lags .labels, start .pre .1 .0)
 
 shared-slice-read-write-leaves : tie.Need-shared-slice-read-write-leaves
-shared-slice-read-write-leaves c = omega (arith, c .before .before .before .before .before .before .before .before .before .before .before .before .pre .0 .few, c .before .before .before .before .before .before .before .before .before .before .before .before .pre .0 .lags .labels, c .before .before .before .before .before .before .before .before .before .before .before .before .pre .1 .0)
+shared-slice-read-write-leaves c =
+    let start = c .before .before .before .before .before .before .before .before .before .before .before .before in
+    omega (arith, start .pre .0 .few, start .pre .0 .lags .labels, start .pre .1 .0)
 
 write-leaves-requires : tie.Need-write-leaves-requires
 write-leaves-requires c κs =
-    let s = c .before .before .before .before .before .before .before .before .before .before .before .before .before .args in
+    let start = c .before .before .before .before .before .before .before .before .before .before .before .before .before in
+    let s = start .args in
     let a = keptIn (s .s .inputs) (s .s .gates) (s .s .period) (now (s .labels)) (now (s .rows)) [] in
     let es = lagsOf a in
-    let p = c .before .before .before .before .before .before .before .before .before .before .before .before .before .pre .0 in
-    let h = c .before .before .before .before .before .before .before .before .before .before .before .before .before .pre .1 .0 .0 in
+    let p = start .pre .0 in
+    let h = start .pre .1 .0 .0 in
     let m = c .before .before .before .before .before .before .before .before .if1 .left in
     let f = p .leaves (s .g) h m in
     let no = p .nodes in
     let ba = p .backs in
     let leaves = row-lent (s .s .gates) (now (s .rows))
     (λ (no ba : List ℕ) (n : ℕ). ((stride * s .g + n ≤ length no) × (stride * s .g + n ≤ length ba)) × (Below depthRoom ba (stride * s .g) n × CellsAsked (now (s .trace)) es (leafTaps es (lagIn es (s .s .inputs + s .g)) (copiesFrom no ba (stride * s .g) n)) (now (s .area)))) (s .g)
-    ((omega arith, omega arith), (p .small (s .g) h m, asked-same (now (s .trace)) es (sym (gate-some a (s .g) h m)) (c .before .before .before .before .before .before .before .before .before .before .before .before .before .pre .1 .1))) in
+    ((omega arith, omega arith), (p .small (s .g) h m, asked-same (now (s .trace)) es (sym (gate-some a (s .g) h m)) (start .pre .1 .1))) in
     (p .lags, leaves)
 
 same-length : tie.Need-same-length
@@ -102,10 +139,11 @@ same-length c = search needs
 
 returns-2 : tie.Need-returns-2
 returns-2 c =
-    let s = c .before .before .before .before .before .before .before .before .before .before .before .before .before .before .before .before .args in
+    let start = c .before .before .before .before .before .before .before .before .before .before .before .before .before .before .before .before in
+    let s = start .args in
     let a = keptIn (s .s .inputs) (s .s .gates) (s .s .period) (now (s .labels)) (now (s .rows)) [] in
     let es = lagsOf a in
-    wrote-same (now (s .trace)) es (gate-some a (s .g) (c .before .before .before .before .before .before .before .before .before .before .before .before .before .before .before .before .pre .1 .0 .0) (c .before .before .before .before .before .before .before .before .before .before .before .if1 .left))
+    wrote-same (now (s .trace)) es (gate-some a (s .g) (start .pre .1 .0 .0) (c .before .before .before .before .before .before .before .before .before .before .before .if1 .left))
     (row-whole (s .s .gates) (now (s .rows)) (λ (no ba : List ℕ) (n : ℕ). Wrote (tapCells (now (s .trace)) es (leafTaps es (lagIn es (s .s .inputs + s .g)) (copiesFrom no ba (stride * s .g) n))) (now (s .area)) (c .before .before .write-leaves .last .1 .1 .1 .1 .1 .1 .1 .1 .1 .0) (c .before .before .write-leaves .result)) (s .g)
     (c .before .before .write-leaves .ensures))
 

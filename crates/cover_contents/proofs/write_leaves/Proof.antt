@@ -65,25 +65,27 @@ shared-slice-read-d c = omega (arith, c .before .before .before .before .before 
 
 sub-write-connection : tie.Need-sub-write-connection Inv-loop μ-loop
 sub-write-connection c =
-    let s = c .before .before .before .before .before .before .before .before .before .before .args in
+    let start = c .before .before .before .before .before .before .before .before .before .before in
+    let s = start .args in
     let es = entriesIn (marking (s .s .inputs) (s .s .gates) (s .s .period) (now (s .labels)) (now (s .rows))) in
     let r = lagIn es (s .root) in
     let taken = taps es r (now (s .nodes)) (now (s .backs)) (s .p) in
     let next = one es r (now (s .nodes)) (now (s .backs)) (s .p) in
     let more = leaf-more es r (now (s .nodes)) (now (s .backs)) (s .p) in
-    let q = c .before .before .before .before .before .before .before .before .before .before .pre .1 .1 .1 in
+    let q = start .pre .1 .1 .1 in
     let l = c .before .before .before .loop in
     part-fits (now (s .trace)) es taken next more q (l .inv .1) (l .inv .0)
 
 part-write-connection-start : tie.Need-part-write-connection-start Inv-loop μ-loop
 part-write-connection-start c =
-    let s = c .before .before .before .before .before .before .before .before .before .before .args in
+    let start = c .before .before .before .before .before .before .before .before .before .before in
+    let s = start .args in
     let es = entriesIn (marking (s .s .inputs) (s .s .gates) (s .s .period) (now (s .labels)) (now (s .rows))) in
     let r = lagIn es (s .root) in
     let taken = taps es r (now (s .nodes)) (now (s .backs)) (s .p) in
     let next = one es r (now (s .nodes)) (now (s .backs)) (s .p) in
     let more = leaf-more es r (now (s .nodes)) (now (s .backs)) (s .p) in
-    let q = c .before .before .before .before .before .before .before .before .before .before .pre .1 .1 .1 in
+    let q = start .pre .1 .1 .1 in
     let l = c .before .before .before .loop in
     part-fits (now (s .trace)) es taken next more q (l .inv .1) (l .inv .0)
 
@@ -92,36 +94,39 @@ part-write-connection-end c = search needs
 
 write-connection-requires : tie.Need-write-connection-requires Inv-loop μ-loop
 write-connection-requires c κs =
-    let s = c .before .before .before .before .before .before .before .before .before .before .before .args in
+    let lag-at = c .before .before .before .before .before .lag-at in
+    let start = c .before .before .before .before .before .before .before .before .before .before .before in
+    let s = start .args in
     let es = entriesIn (marking (s .s .inputs) (s .s .gates) (s .s .period) (now (s .labels)) (now (s .rows))) in
     let r = lagIn es (s .root) in
     let taken = taps es r (now (s .nodes)) (now (s .backs)) (s .p) in
     let next = one es r (now (s .nodes)) (now (s .backs)) (s .p) in
     let more = leaf-more es r (now (s .nodes)) (now (s .backs)) (s .p) in
-    let q = c .before .before .before .before .before .before .before .before .before .before .before .pre .1 .1 .1 in
+    let q = start .pre .1 .1 .1 in
     let l = c .before .before .before .before .loop in
     let u = getD (now (s .nodes)) (s .p + l .j) 0 in
     let d = getD (now (s .backs)) (s .p + l .j) 0 in
-    let e = ap (λ (z : ℤ). tap u ((pos d +ℤ z) -ℤ lagIn es u) ∷ []) (told (omega arith) (c .before .before .before .before .before .lag-at .ensures)) in
+    let e = ap (λ (z : ℤ). tap u ((pos d +ℤ z) -ℤ lagIn es u) ∷ []) (told (omega arith) (lag-at .ensures)) in
     let h = c .before .before .before .loop-test .taken in
-    (c .before .before .before .before .before .before .before .before .before .before .before .pre .0, ((c .before .before .before .before .before .before .before .before .before .before .before .pre .1 .1 .0 .each (l .j) h, within-back (c .before .before .before .before .before .lag-at .result) (omega arith) (c .before .before .before .before .before .lag-at .ensures .within)), asked-same (now (s .trace)) es (sym e) (part-asks (now (s .trace)) es taken next more q (l .inv .1) h)))
+    (start .pre .0, ((start .pre .1 .1 .0 .each (l .j) h, within-back (lag-at .result) (omega arith) (lag-at .ensures .within)), asked-same (now (s .trace)) es (sym e) (part-asks (now (s .trace)) es taken next more q (l .inv .1) h)))
 
 add-at : tie.Need-add-at Inv-loop μ-loop
 add-at c =
-    let s = c .before .before .before .before .before .before .before .before .before .before .before .before .before .before .args in
+    let start = c .before .before .before .before .before .before .before .before .before .before .before .before .before .before in
+    let s = start .args in
     let es = entriesIn (marking (s .s .inputs) (s .s .gates) (s .s .period) (now (s .labels)) (now (s .rows))) in
     let r = lagIn es (s .root) in
     let taken = taps es r (now (s .nodes)) (now (s .backs)) (s .p) in
     let next = one es r (now (s .nodes)) (now (s .backs)) (s .p) in
     let more = leaf-more es r (now (s .nodes)) (now (s .backs)) (s .p) in
-    let q = c .before .before .before .before .before .before .before .before .before .before .before .before .before .before .pre .1 .1 .1 in
+    let q = start .pre .1 .1 .1 in
     let l = c .before .before .before .before .before .before .before .loop in
     let u = getD (now (s .nodes)) (s .p + l .j) 0 in
     let d = getD (now (s .backs)) (s .p + l .j) 0 in
     let e = ap (λ (z : ℤ). tap u ((pos d +ℤ z) -ℤ lagIn es u) ∷ []) (told (omega arith) (c .before .before .before .before .before .before .before .before .lag-at .ensures)) in
     let v = wrote-same (now (s .trace)) es e (c .before .before .write-connection .ensures) in
     let w = part-within (now (s .trace)) es taken next more q (l .inv .1) (c .before .before .before .before .before .before .loop-test .taken) v in
-    record { fits = omega (arith, w, c .before .before .before .before .before .before .before .before .before .before .before .before .before .before .good) }
+    record { fits = omega (arith, w, start .good) }
 
 add-j : tie.Need-add-j Inv-loop μ-loop
 add-j c = omega (arith, c .before .before .before .before .before .before .before .before .before .before .before .before .before .before .pre .1 .0, c .before .before .before .before .before .before .loop-test .taken)
@@ -131,29 +136,32 @@ loop-less c = omega (arith, c .before .before .before .before .before .before .l
 
 loop-again : tie.Need-loop-again Inv-loop μ-loop
 loop-again c =
-    let s = c .before .before .before .before .before .before .before .before .before .before .before .before .before .before .args in
+    let loop-test = c .before .before .before .before .before .before .loop-test in
+    let start = c .before .before .before .before .before .before .before .before .before .before .before .before .before .before in
+    let s = start .args in
     let es = entriesIn (marking (s .s .inputs) (s .s .gates) (s .s .period) (now (s .labels)) (now (s .rows))) in
     let r = lagIn es (s .root) in
     let taken = taps es r (now (s .nodes)) (now (s .backs)) (s .p) in
     let next = one es r (now (s .nodes)) (now (s .backs)) (s .p) in
     let more = leaf-more es r (now (s .nodes)) (now (s .backs)) (s .p) in
-    let q = c .before .before .before .before .before .before .before .before .before .before .before .before .before .before .pre .1 .1 .1 in
+    let q = start .pre .1 .1 .1 in
     let l = c .before .before .before .before .before .before .before .loop in
     let u = getD (now (s .nodes)) (s .p + l .j) 0 in
     let d = getD (now (s .backs)) (s .p + l .j) 0 in
     let e = ap (λ (z : ℤ). tap u ((pos d +ℤ z) -ℤ lagIn es u) ∷ []) (told (omega arith) (c .before .before .before .before .before .before .before .before .lag-at .ensures)) in
     let v = wrote-same (now (s .trace)) es e (c .before .before .write-connection .ensures) in
-    (omega (arith, c .before .before .before .before .before .before .loop-test .taken), part-wrote (now (s .trace)) es taken next more q (l .inv .1) (c .before .before .before .before .before .before .loop-test .taken) v)
+    (omega (arith, loop-test .taken), part-wrote (now (s .trace)) es taken next more q (l .inv .1) (loop-test .taken) v)
 
 same-length : tie.Need-same-length Inv-loop μ-loop
 same-length c =
-    let s = c .before .before .before .before .before .before .before .before .args in
+    let start = c .before .before .before .before .before .before .before .before in
+    let s = start .args in
     let es = entriesIn (marking (s .s .inputs) (s .s .gates) (s .s .period) (now (s .labels)) (now (s .rows))) in
     let r = lagIn es (s .root) in
     let taken = taps es r (now (s .nodes)) (now (s .backs)) (s .p) in
     let next = one es r (now (s .nodes)) (now (s .backs)) (s .p) in
     let more = leaf-more es r (now (s .nodes)) (now (s .backs)) (s .p) in
-    let q = c .before .before .before .before .before .before .before .before .pre .1 .1 .1 in
+    let q = start .pre .1 .1 .1 in
     let l = c .before .loop in
     part-long (now (s .trace)) es taken next more q (l .inv .1) (l .inv .0)
 

@@ -40,23 +40,25 @@ loop-holds c =
 
 sub-write-gate : tie.Need-sub-write-gate Inv-loop μ-loop
 sub-write-gate c =
-    let s = c .before .before .before .before .before .args in
+    let start = c .before .before .before .before .before in
+    let s = start .args in
     let a = keptIn (s .s .inputs) (s .s .gates) (s .s .period) (now (s .labels)) (now (s .rows)) [] in
     let es = lagsOf a in
     let taken = taps a in
     let next = one a in
-    let q = c .before .before .before .before .before .pre .1 .1 in
+    let q = start .pre .1 .1 in
     let l = c .before .loop in
     part-fits (now (s .trace)) es taken next (luts-more es a) q (l .inv .1) (l .inv .0)
 
 part-write-gate-start : tie.Need-part-write-gate-start Inv-loop μ-loop
 part-write-gate-start c =
-    let s = c .before .before .before .before .before .args in
+    let start = c .before .before .before .before .before in
+    let s = start .args in
     let a = keptIn (s .s .inputs) (s .s .gates) (s .s .period) (now (s .labels)) (now (s .rows)) [] in
     let es = lagsOf a in
     let taken = taps a in
     let next = one a in
-    let q = c .before .before .before .before .before .pre .1 .1 in
+    let q = start .pre .1 .1 in
     let l = c .before .loop in
     part-fits (now (s .trace)) es taken next (luts-more es a) q (l .inv .1) (l .inv .0)
 
@@ -65,27 +67,29 @@ part-write-gate-end c = search needs
 
 write-gate-requires : tie.Need-write-gate-requires Inv-loop μ-loop
 write-gate-requires c κs =
-    let s = c .before .before .before .before .before .before .args in
+    let start = c .before .before .before .before .before .before in
+    let s = start .args in
     let a = keptIn (s .s .inputs) (s .s .gates) (s .s .period) (now (s .labels)) (now (s .rows)) [] in
     let es = lagsOf a in
     let taken = taps a in
     let next = one a in
-    let q = c .before .before .before .before .before .before .pre .1 .1 in
+    let q = start .pre .1 .1 in
     let l = c .before .before .loop in
     let h = c .before .loop-test .taken in
-    (c .before .before .before .before .before .before .pre .0, ((h, c .before .before .before .before .before .before .pre .1 .0), part-asks (now (s .trace)) es taken next (luts-more es a) q (l .inv .1) h))
+    (start .pre .0, ((h, start .pre .1 .0), part-asks (now (s .trace)) es taken next (luts-more es a) q (l .inv .1) h))
 
 add-at : tie.Need-add-at Inv-loop μ-loop
 add-at c =
-    let s = c .before .before .before .before .before .before .before .before .before .args in
+    let start = c .before .before .before .before .before .before .before .before .before in
+    let s = start .args in
     let a = keptIn (s .s .inputs) (s .s .gates) (s .s .period) (now (s .labels)) (now (s .rows)) [] in
     let es = lagsOf a in
     let taken = taps a in
     let next = one a in
-    let q = c .before .before .before .before .before .before .before .before .before .pre .1 .1 in
+    let q = start .pre .1 .1 in
     let l = c .before .before .before .before .before .loop in
     let w = part-within (now (s .trace)) es taken next (luts-more es a) q (l .inv .1) (c .before .before .before .before .loop-test .taken) (c .before .before .write-gate .ensures) in
-    record { fits = omega (arith, w, c .before .before .before .before .before .before .before .before .before .good) }
+    record { fits = omega (arith, w, start .good) }
 
 add-g : tie.Need-add-g Inv-loop μ-loop
 add-g c = omega (arith, c .before .before .before .before .before .before .before .before .before .pre .0 .few, c .before .before .before .before .loop-test .taken)
@@ -95,23 +99,26 @@ loop-less c = omega (arith, c .before .before .before .before .loop-test .taken)
 
 loop-again : tie.Need-loop-again Inv-loop μ-loop
 loop-again c =
-    let s = c .before .before .before .before .before .before .before .before .before .args in
+    let loop-test = c .before .before .before .before .loop-test in
+    let start = c .before .before .before .before .before .before .before .before .before in
+    let s = start .args in
     let a = keptIn (s .s .inputs) (s .s .gates) (s .s .period) (now (s .labels)) (now (s .rows)) [] in
     let es = lagsOf a in
     let taken = taps a in
     let next = one a in
-    let q = c .before .before .before .before .before .before .before .before .before .pre .1 .1 in
+    let q = start .pre .1 .1 in
     let l = c .before .before .before .before .before .loop in
-    (omega (arith, c .before .before .before .before .loop-test .taken), part-wrote (now (s .trace)) es taken next (luts-more es a) q (l .inv .1) (c .before .before .before .before .loop-test .taken) (c .before .before .write-gate .ensures))
+    (omega (arith, loop-test .taken), part-wrote (now (s .trace)) es taken next (luts-more es a) q (l .inv .1) (loop-test .taken) (c .before .before .write-gate .ensures))
 
 same-length : tie.Need-same-length Inv-loop μ-loop
 same-length c =
-    let s = c .before .before .before .before .before .args in
+    let start = c .before .before .before .before .before in
+    let s = start .args in
     let a = keptIn (s .s .inputs) (s .s .gates) (s .s .period) (now (s .labels)) (now (s .rows)) [] in
     let es = lagsOf a in
     let taken = taps a in
     let next = one a in
-    let q = c .before .before .before .before .before .pre .1 .1 in
+    let q = start .pre .1 .1 in
     let l = c .before .loop in
     part-long (now (s .trace)) es taken next (luts-more es a) q (l .inv .1) (l .inv .0)
 

@@ -58,23 +58,25 @@ shared-slice-read-d c = omega (arith, c .before .before .before .before .before 
 
 sub-write-connection : tie.Need-sub-write-connection Inv-loop μ-loop
 sub-write-connection c =
-    let s = c .before .before .before .before .before .before .before .before .before .args in
+    let start = c .before .before .before .before .before .before .before .before .before in
+    let s = start .args in
     let es = entriesIn (marking (s .s .inputs) (s .s .gates) (s .s .period) (now (s .labels)) (now (s .rows))) in
     let taken = taps es (now (s .outs)) (now (s .delays)) in
     let next = one es (now (s .outs)) (now (s .delays)) in
     let more = output-more es (now (s .outs)) (now (s .delays)) in
-    let q = c .before .before .before .before .before .before .before .before .before .pre .1 .1 .1 in
+    let q = start .pre .1 .1 .1 in
     let l = c .before .before .before .loop in
     part-fits (now (s .trace)) es taken next more q (l .inv .1) (l .inv .0)
 
 part-write-connection-start : tie.Need-part-write-connection-start Inv-loop μ-loop
 part-write-connection-start c =
-    let s = c .before .before .before .before .before .before .before .before .before .args in
+    let start = c .before .before .before .before .before .before .before .before .before in
+    let s = start .args in
     let es = entriesIn (marking (s .s .inputs) (s .s .gates) (s .s .period) (now (s .labels)) (now (s .rows))) in
     let taken = taps es (now (s .outs)) (now (s .delays)) in
     let next = one es (now (s .outs)) (now (s .delays)) in
     let more = output-more es (now (s .outs)) (now (s .delays)) in
-    let q = c .before .before .before .before .before .before .before .before .before .pre .1 .1 .1 in
+    let q = start .pre .1 .1 .1 in
     let l = c .before .before .before .loop in
     part-fits (now (s .trace)) es taken next more q (l .inv .1) (l .inv .0)
 
@@ -83,26 +85,28 @@ part-write-connection-end c = search needs
 
 write-connection-requires : tie.Need-write-connection-requires Inv-loop μ-loop
 write-connection-requires c κs =
-    let s = c .before .before .before .before .before .before .before .before .before .before .args in
+    let start = c .before .before .before .before .before .before .before .before .before .before in
+    let s = start .args in
     let es = entriesIn (marking (s .s .inputs) (s .s .gates) (s .s .period) (now (s .labels)) (now (s .rows))) in
     let taken = taps es (now (s .outs)) (now (s .delays)) in
     let next = one es (now (s .outs)) (now (s .delays)) in
     let more = output-more es (now (s .outs)) (now (s .delays)) in
-    let q = c .before .before .before .before .before .before .before .before .before .before .pre .1 .1 .1 in
+    let q = start .pre .1 .1 .1 in
     let l = c .before .before .before .before .loop in
     let h = c .before .before .before .loop-test .taken in
-    let b : getD (now (s .delays)) (0 + l .o) 0 < depthRoom = c .before .before .before .before .before .before .before .before .before .before .pre .1 .1 .0 .each (l .o) h in
+    let b : getD (now (s .delays)) (0 + l .o) 0 < depthRoom = start .pre .1 .1 .0 .each (l .o) h in
     let e = ap (λ (i : ℕ). getD (now (s .delays)) i 0) (zero-add (l .o)) in
-    (c .before .before .before .before .before .before .before .before .before .before .pre .0, ((omega arith, within-pos 0 128 (omega arith)), part-asks (now (s .trace)) es taken next more q (l .inv .1) h))
+    (start .pre .0, ((omega arith, within-pos 0 128 (omega arith)), part-asks (now (s .trace)) es taken next more q (l .inv .1) h))
 
 add-at : tie.Need-add-at Inv-loop μ-loop
 add-at c =
-    let s = c .before .before .before .before .before .before .before .before .before .before .before .before .before .args in
+    let start = c .before .before .before .before .before .before .before .before .before .before .before .before .before in
+    let s = start .args in
     let es = entriesIn (marking (s .s .inputs) (s .s .gates) (s .s .period) (now (s .labels)) (now (s .rows))) in
     let taken = taps es (now (s .outs)) (now (s .delays)) in
     let next = one es (now (s .outs)) (now (s .delays)) in
     let more = output-more es (now (s .outs)) (now (s .delays)) in
-    let q = c .before .before .before .before .before .before .before .before .before .before .before .before .before .pre .1 .1 .1 in
+    let q = start .pre .1 .1 .1 in
     let l = c .before .before .before .before .before .before .before .loop in
     let w = part-within (now (s .trace)) es taken next more q (l .inv .1) (c .before .before .before .before .before .before .loop-test .taken) (c .before .before .write-connection .ensures) in
     record { fits = omega arith }
@@ -115,23 +119,26 @@ loop-less c = omega (arith, c .before .before .before .before .before .before .l
 
 loop-again : tie.Need-loop-again Inv-loop μ-loop
 loop-again c =
-    let s = c .before .before .before .before .before .before .before .before .before .before .before .before .before .args in
+    let loop-test = c .before .before .before .before .before .before .loop-test in
+    let start = c .before .before .before .before .before .before .before .before .before .before .before .before .before in
+    let s = start .args in
     let es = entriesIn (marking (s .s .inputs) (s .s .gates) (s .s .period) (now (s .labels)) (now (s .rows))) in
     let taken = taps es (now (s .outs)) (now (s .delays)) in
     let next = one es (now (s .outs)) (now (s .delays)) in
     let more = output-more es (now (s .outs)) (now (s .delays)) in
-    let q = c .before .before .before .before .before .before .before .before .before .before .before .before .before .pre .1 .1 .1 in
+    let q = start .pre .1 .1 .1 in
     let l = c .before .before .before .before .before .before .before .loop in
-    (omega (arith, c .before .before .before .before .before .before .loop-test .taken), part-wrote (now (s .trace)) es taken next more q (l .inv .1) (c .before .before .before .before .before .before .loop-test .taken) (c .before .before .write-connection .ensures))
+    (omega (arith, loop-test .taken), part-wrote (now (s .trace)) es taken next more q (l .inv .1) (loop-test .taken) (c .before .before .write-connection .ensures))
 
 same-length : tie.Need-same-length Inv-loop μ-loop
 same-length c =
-    let s = c .before .before .before .before .before .before .before .args in
+    let start = c .before .before .before .before .before .before .before in
+    let s = start .args in
     let es = entriesIn (marking (s .s .inputs) (s .s .gates) (s .s .period) (now (s .labels)) (now (s .rows))) in
     let taken = taps es (now (s .outs)) (now (s .delays)) in
     let next = one es (now (s .outs)) (now (s .delays)) in
     let more = output-more es (now (s .outs)) (now (s .delays)) in
-    let q = c .before .before .before .before .before .before .before .pre .1 .1 .1 in
+    let q = start .pre .1 .1 .1 in
     let l = c .before .loop in
     part-long (now (s .trace)) es taken next more q (l .inv .1) (l .inv .0)
 

@@ -32,43 +32,57 @@ delays-at-requires c κs = c .before .before .before .before .before .pre .0 .pa
 
 write-luts-requires : tie.Need-write-luts-requires
 write-luts-requires c κs =
-    let s = c .before .before .before .before .before .before .before .args in
-    let p = c .before .before .before .before .before .before .before .pre .0 in
+    let start = c .before .before .before .before .before .before .before in
+    let s = start .args in
+    let p = start .pre .0 in
     let a = keptIn (s .s .inputs) (s .s .gates) (s .s .period) (now (s .labels)) (now (s .rows)) [] in
     let es = lagsOf a in
     let luts = lutTaps es (entriesFrom a 0 (s .s .gates)) in
     let outs = outputTaps es (pinsIn (outsOf (s .z) (now (s .net))) (delaysOf (s .z) (now (s .net))) 0 (s .z .outputs)) in
     let q = asked-same (now (s .trace)) es (sym (all-taps a (outsOf (s .z) (now (s .net))) (delaysOf (s .z) (now (s .net))) (s .z .outputs))) (p .cells) in
-    (p .leaves, (c .before .before .before .before .before .before .before .pre .1, first-asks (now (s .trace)) es luts outs q))
+    (p .leaves, (start .pre .1, first-asks (now (s .trace)) es luts outs q))
 
 mul-write-outputs : tie.Need-mul-write-outputs
-mul-write-outputs c = omega (arith, c .before .before .before .before .before .before .before .before .before .before .pre .0 .packed, c .before .before .before .before .before .before .before .before .before .before .good, c .before .before .before .before .before .outs-at .ensures, c .before .before .before .before .delays-at .ensures)
+mul-write-outputs c =
+    let start = c .before .before .before .before .before .before .before .before .before .before in
+    omega (arith, start .pre .0 .packed, start .good, c .before .before .before .before .before .outs-at .ensures, c .before .before .before .before .delays-at .ensures)
 
 sub-write-outputs : tie.Need-sub-write-outputs
-sub-write-outputs c = omega (arith, c .before .before .before .before .before .before .before .before .before .before .pre .0 .packed, c .before .before .before .before .before .before .before .before .before .before .good, c .before .before .before .before .before .outs-at .ensures, c .before .before .before .before .delays-at .ensures)
+sub-write-outputs c =
+    let start = c .before .before .before .before .before .before .before .before .before .before in
+    omega (arith, start .pre .0 .packed, start .good, c .before .before .before .before .before .outs-at .ensures, c .before .before .before .before .delays-at .ensures)
 
 part-write-outputs-start : tie.Need-part-write-outputs-start
-part-write-outputs-start c = omega (arith, c .before .before .before .before .before .before .before .before .before .before .pre .0 .packed, c .before .before .before .before .before .before .before .before .before .before .good, c .before .before .before .before .before .outs-at .ensures, c .before .before .before .before .delays-at .ensures)
+part-write-outputs-start c =
+    let start = c .before .before .before .before .before .before .before .before .before .before in
+    omega (arith, start .pre .0 .packed, start .good, c .before .before .before .before .before .outs-at .ensures, c .before .before .before .before .delays-at .ensures)
 
 part-write-outputs-end : tie.Need-part-write-outputs-end
 part-write-outputs-end c = search needs
 
 mul-write-outputs-2 : tie.Need-mul-write-outputs-2
-mul-write-outputs-2 c = omega (arith, c .before .before .before .before .before .before .before .before .before .before .before .pre .0 .packed, c .before .before .before .before .before .before .before .before .before .before .before .good, c .before .before .before .before .before .before .outs-at .ensures, c .before .before .before .before .before .delays-at .ensures)
+mul-write-outputs-2 c =
+    let start = c .before .before .before .before .before .before .before .before .before .before .before in
+    omega (arith, start .pre .0 .packed, start .good, c .before .before .before .before .before .before .outs-at .ensures, c .before .before .before .before .before .delays-at .ensures)
 
 sub-write-outputs-2 : tie.Need-sub-write-outputs-2
-sub-write-outputs-2 c = omega (arith, c .before .before .before .before .before .before .before .before .before .before .before .pre .0 .packed, c .before .before .before .before .before .before .before .before .before .before .before .good, c .before .before .before .before .before .before .outs-at .ensures, c .before .before .before .before .before .delays-at .ensures)
+sub-write-outputs-2 c =
+    let start = c .before .before .before .before .before .before .before .before .before .before .before in
+    omega (arith, start .pre .0 .packed, start .good, c .before .before .before .before .before .before .outs-at .ensures, c .before .before .before .before .before .delays-at .ensures)
 
 part-write-outputs-start-2 : tie.Need-part-write-outputs-start-2
-part-write-outputs-start-2 c = omega (arith, c .before .before .before .before .before .before .before .before .before .before .before .pre .0 .packed, c .before .before .before .before .before .before .before .before .before .before .before .good, c .before .before .before .before .before .before .outs-at .ensures, c .before .before .before .before .before .delays-at .ensures)
+part-write-outputs-start-2 c =
+    let start = c .before .before .before .before .before .before .before .before .before .before .before in
+    omega (arith, start .pre .0 .packed, start .good, c .before .before .before .before .before .before .outs-at .ensures, c .before .before .before .before .before .delays-at .ensures)
 
 part-write-outputs-end-2 : tie.Need-part-write-outputs-end-2
 part-write-outputs-end-2 c = search needs
 
 sub-write-outputs-3 : tie.Need-sub-write-outputs-3
 sub-write-outputs-3 c =
-    let s = c .before .before .before .before .before .before .before .before .before .before .before .before .args in
-    let p = c .before .before .before .before .before .before .before .before .before .before .before .before .pre .0 in
+    let start = c .before .before .before .before .before .before .before .before .before .before .before .before in
+    let s = start .args in
+    let p = start .pre .0 in
     let a = keptIn (s .s .inputs) (s .s .gates) (s .s .period) (now (s .labels)) (now (s .rows)) [] in
     let es = lagsOf a in
     let luts = lutTaps es (entriesFrom a 0 (s .s .gates)) in
@@ -78,8 +92,9 @@ sub-write-outputs-3 c =
 
 part-write-outputs-start-3 : tie.Need-part-write-outputs-start-3
 part-write-outputs-start-3 c =
-    let s = c .before .before .before .before .before .before .before .before .before .before .before .before .args in
-    let p = c .before .before .before .before .before .before .before .before .before .before .before .before .pre .0 in
+    let start = c .before .before .before .before .before .before .before .before .before .before .before .before in
+    let s = start .args in
+    let p = start .pre .0 in
     let a = keptIn (s .s .inputs) (s .s .gates) (s .s .period) (now (s .labels)) (now (s .rows)) [] in
     let es = lagsOf a in
     let luts = lutTaps es (entriesFrom a 0 (s .s .gates)) in
@@ -92,8 +107,10 @@ part-write-outputs-end-3 c = search needs
 
 write-outputs-requires : tie.Need-write-outputs-requires
 write-outputs-requires c κs =
-    let s = c .before .before .before .before .before .before .before .before .before .before .before .before .before .args in
-    let p = c .before .before .before .before .before .before .before .before .before .before .before .before .before .pre .0 in
+    let write-luts = c .before .before .before .before .before .write-luts in
+    let start = c .before .before .before .before .before .before .before .before .before .before .before .before .before in
+    let s = start .args in
+    let p = start .pre .0 in
     let a = keptIn (s .s .inputs) (s .s .gates) (s .s .period) (now (s .labels)) (now (s .rows)) [] in
     let es = lagsOf a in
     let luts = lutTaps es (entriesFrom a 0 (s .s .gates)) in
@@ -103,10 +120,10 @@ write-outputs-requires c κs =
       p .leaves .lags,
       rw (c .before .before .before .before .before .before .before .before .outs-at .ensures, c .before .before .before .before .before .before .before .delays-at .ensures)
           (two-parts
-          (λ (os oc : List ℕ). ((n ≤ length os) × (n ≤ length oc)) × (Below depthRoom oc 0 n × CellsAsked (now (s .trace)) es (outputTaps es (pinsIn os oc 0 n)) (midOf (c .before .before .before .before .before .write-luts .result) (length (c .before .before .before .before .before .write-luts .last .1 .1 .1 .1 .0) - c .before .before .before .before .before .write-luts .result) (c .before .before .before .before .before .write-luts .last .1 .1 .1 .1 .0))))
+          (λ (os oc : List ℕ). ((n ≤ length os) × (n ≤ length oc)) × (Below depthRoom oc 0 n × CellsAsked (now (s .trace)) es (outputTaps es (pinsIn os oc 0 n)) (midOf (write-luts .result) (length (write-luts .last .1 .1 .1 .1 .0) - write-luts .result) (write-luts .last .1 .1 .1 .1 .0))))
           (now (s .net)) (outsAt (s .z .inputs) (s .z .gates)) (delaysAt (s .z .inputs) (s .z .gates) n) (
             (length-part (now (s .net)) (outsAt (s .z .inputs) (s .z .gates)) n (omega (arith, p .packed)), length-part (now (s .net)) (delaysAt (s .z .inputs) (s .z .gates) n) n (p .packed)),
-            (p .delays, second-asks (now (s .trace)) es luts outs q (c .before .before .before .before .before .write-luts .ensures)),
+            (p .delays, second-asks (now (s .trace)) es luts outs q (write-luts .ensures)),
           )),
     )
 
@@ -115,8 +132,10 @@ same-length c = search needs
 
 returns : tie.Need-returns
 returns c =
-    let s = c .before .before .before .before .before .before .before .before .before .before .before .before .before .before .before .before .args in
-    let p = c .before .before .before .before .before .before .before .before .before .before .before .before .before .before .before .before .pre .0 in
+    let write-luts = c .before .before .before .before .before .before .before .before .write-luts in
+    let start = c .before .before .before .before .before .before .before .before .before .before .before .before .before .before .before .before in
+    let s = start .args in
+    let p = start .pre .0 in
     let a = keptIn (s .s .inputs) (s .s .gates) (s .s .period) (now (s .labels)) (now (s .rows)) [] in
     let es = lagsOf a in
     let luts = lutTaps es (entriesFrom a 0 (s .s .gates)) in
@@ -125,9 +144,9 @@ returns c =
     let n = s .z .outputs in
     let last = c .before .before .write-outputs in
     let v = two-wholes
-    (λ (os oc : List ℕ). Wrote (tapCells (now (s .trace)) es (outputTaps es (pinsIn os oc 0 n))) (midOf (c .before .before .before .before .before .before .before .before .write-luts .result) (length (c .before .before .before .before .before .before .before .before .write-luts .last .1 .1 .1 .1 .0) - c .before .before .before .before .before .before .before .before .write-luts .result) (c .before .before .before .before .before .before .before .before .write-luts .last .1 .1 .1 .1 .0)) (last .last .1 .1 .1 .1 .1 .1 .1 .0) (last .result))
+    (λ (os oc : List ℕ). Wrote (tapCells (now (s .trace)) es (outputTaps es (pinsIn os oc 0 n))) (midOf (write-luts .result) (length (write-luts .last .1 .1 .1 .1 .0) - write-luts .result) (write-luts .last .1 .1 .1 .1 .0)) (last .last .1 .1 .1 .1 .1 .1 .1 .0) (last .result))
     (now (s .net)) (outsAt (s .z .inputs) (s .z .gates)) (delaysAt (s .z .inputs) (s .z .gates) n) (rw (c .before .before .before .before .before .before .before .before .before .before .before .outs-at .ensures, c .before .before .before .before .before .before .before .before .before .before .delays-at .ensures) at (last .ensures)) in
-    wrote-same (now (s .trace)) es (all-taps a (outsOf (s .z) (now (s .net))) (delaysOf (s .z) (now (s .net))) n) (second-wrote (now (s .trace)) es luts outs q (c .before .before .before .before .before .before .before .before .write-luts .ensures) v) .area
+    wrote-same (now (s .trace)) es (all-taps a (outsOf (s .z) (now (s .net))) (delaysOf (s .z) (now (s .net))) n) (second-wrote (now (s .trace)) es luts outs q (write-luts .ensures) v) .area
 
 pub write-registers-spec : {M : Type 1} → statement M
 write-registers-spec =
