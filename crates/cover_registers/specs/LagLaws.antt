@@ -184,6 +184,11 @@ module _ (inputs gates period : ℕ) (labels : List ℤ) (marks sizes nodes back
       go true h = h
       go false h = ap (λ (z : ℤ). cond (eqb (inputs + g) u) (lag period (getD labels (inputs + g) (pos 0))) z) h
 
+  -- the lags need no leaves
+  pub lags-same : (u : ℕ) → lagIn (entriesIn (kept inputs gates period labels marks sizes nodes backs tables)) u ≡ lagIn (entriesIn (marking inputs gates period labels marks)) u
+  unfolding entriesIn
+  lags-same u = lags-from 0 gates u
+
   luts-from : (es : List Entry) (g n : ℕ)
       → lutTaps es (entriesFrom (kept inputs gates period labels marks sizes nodes backs tables) g n) ≡ lutTaps es (entriesFrom (kept inputs gates period labels marks sizes nodes backs []) g n)
   unfolding entriesFrom entryAt lutTaps
@@ -202,7 +207,7 @@ module _ (inputs gates period : ℕ) (labels : List ℤ) (marks sizes nodes back
       go false h = ap (λ (l : List Tap). leafTaps es (lag period (getD labels (inputs + g) (pos 0))) (copiesFrom nodes backs (stride * g) (getD sizes g 0)) ++ l) h
 
   -- the connections and outputs, by lags that need no leaves and leaves that need no tables
-  taps-same : (N : Net) (os oc : List ℕ) (n : ℕ) → N .outputs ≡ pinsIn os oc 0 n
+  pub taps-same : (N : Net) (os oc : List ℕ) (n : ℕ) → N .outputs ≡ pinsIn os oc 0 n
       → entryTaps N (entriesIn (kept inputs gates period labels marks sizes nodes backs tables)) ≡ tapsOf (kept inputs gates period labels marks sizes nodes backs []) os oc n
   unfolding entryTaps tapsOf entriesIn Same
   taps-same N os oc n e =

@@ -1,3 +1,4 @@
 pub mod Counting
 pub mod LagLaws
 pub mod RegisterCountLaws
+pub mod CoverTaps

@@ -21,7 +21,7 @@ ghost use Rattle.limits.specs.Limits.{depthRoom};
 ghost use Rattle.cover_registers.specs.Counting.{Within, Counted, marking, registersOf, LagsHeld, LeavesHeld};
 
 // The registers of a connection after moving.
-fn moved(d: usize, own: i64, other: i64) -> i64
+pub fn moved(d: usize, own: i64, other: i64) -> i64
     requires { ⌜ (d < depthRoom) × Within 128 own × Within 128 other ⌝ }
     ensures { λ r. ⌜ r ≡ ((pos d +ℤ own) -ℤ other) ⌝ }
 {
@@ -30,7 +30,7 @@ fn moved(d: usize, own: i64, other: i64) -> i64
 }
 
 // Them as a count.
-fn counted(z: i64) -> u32
+pub fn counted(z: i64) -> u32
     requires { ⌜ Within 65792 z ⌝ }
     ensures { λ r. ⌜ r ≡ up z ⌝ }
 {
@@ -38,7 +38,7 @@ fn counted(z: i64) -> u32
 }
 
 // The lag of a node: 0 for an input.
-fn lag_at(s: CoverHead, labels: &[i64], rows: &[usize], u: usize) -> i64
+pub fn lag_at(s: CoverHead, labels: &[i64], rows: &[usize], u: usize) -> i64
     requires { ⌜ LagsHeld (marking (s .inputs) (s .gates) (s .period) (now labels) (now rows)) ⌝ }
     ensures { λ r. ⌜ Counted 128 (lagIn (entriesIn (marking (s .inputs) (s .gates) (s .period) (now (labels .entry)) (now (rows .entry)))) u) r ⌝ }
 {

@@ -1,0 +1,4 @@
+pub mod Traces
+pub mod TraceLaws
+pub mod CellLaws
+pub mod ContentsWritten
