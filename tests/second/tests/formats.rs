@@ -4,7 +4,7 @@
 use second::bytes::table_bytes;
 use second::loader::image;
 use second::programs::{bench, listing, map, mark};
-use second::{read_net, solve, Cover, Limits, Lut, NodeCopy};
+use second::{read_net, solve, Cover, Limits, Lut, Mode, NodeCopy};
 use std::fs;
 use std::path::Path;
 use std::process::Command;
@@ -89,7 +89,7 @@ fn bench_of_net_c() {
 fn loader_image() {
     let heading = "The loader image";
     let net = read_net(&file("examples/net-a.bin")[2..], 2).expect("net A");
-    let (cover, _) = solve(&net, 2, 0, Limits::default()).expect("a cover");
+    let (cover, _) = solve(&net, Mode::Plain, 2, 0, Limits::default()).expect("a cover");
     assert_eq!(column(heading), image(&cover));
     // A row for each number of leaves: a table as the record has it, then its image, if that is another.
     let text = section(heading);

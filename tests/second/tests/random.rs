@@ -10,7 +10,7 @@ use second::jobs::{COVER_BYTES, LONG, SCRATCH_BYTES};
 use second::loader::LOADER_BYTES;
 use second::run::cover_runs_as_net;
 use second::{
-    check_net, parse_net, read_net, read_record, write_record, Answer, Areas, Limits, Random,
+    check_net, parse_net, read_net, read_record, write_record, Answer, Areas, Limits, Mode, Random,
 };
 
 #[test]
@@ -148,8 +148,9 @@ fn giving_up_is_no_refusal() {
             cover: &mut cover,
             scratch: &mut scratch,
             loader: &mut loader,
+            contents: &mut [],
         };
-        let answer = second::map_within(LONG, limits, &bytes, 4, 0, areas);
+        let answer = second::map_within(LONG, Mode::Plain, limits, &bytes, 4, 0, areas);
         let record = map(&bytes, 4, 0).unwrap();
         if answer == Answer::GaveUp {
             gave_up += 1;
