@@ -27,6 +27,7 @@ pub mod mark;
 pub mod net;
 pub mod programs;
 pub mod random;
+pub mod rare;
 pub mod run;
 pub mod solve;
 
