@@ -400,11 +400,10 @@ impl Sides {
         self.some_maps(random, net, |random| Call::Loader(some_loader(random)));
     }
 
-    /// The same in forward mode; most nets have a section.
+    /// The same in forward mode.
     pub fn random_forwards(&mut self, random: &mut Random) {
-        let (net, pins) = some_net(random);
-        let net = mostly_sectioned(random, net);
-        self.some_maps(random, (net, pins), |random| Call::Forward {
+        let net = some_forward_net(random);
+        self.some_maps(random, net, |random| Call::Forward {
             loader: some_loader(random),
             contents: some_contents(random),
         });
@@ -632,6 +631,23 @@ pub fn some_section(random: &mut Random, net: Vec<u8>) -> Vec<u8> {
         _ => {}
     }
     with_section(&net, &section)
+}
+
+/// Net bytes of all kinds, most of them with a section. Half have registers at their outputs, which no forward
+/// cover moves into the net.
+pub fn some_forward_net(random: &mut Random) -> (Vec<u8>, usize) {
+    let (mut bytes, mut pins) = some_net(random);
+    if random.chance(50) {
+        pins = random.within(2, 4);
+        let gates = random.pick(&[4, 8, 8, 16, 32]);
+        let shape = deep(random, gates, pins);
+        let mut net = random_net(random, &shape);
+        for output in &mut net.outputs {
+            output.count = random.within(1, 3) as u32;
+        }
+        bytes = encode_with_holes(&net, random);
+    }
+    (mostly_sectioned(random, bytes), pins)
 }
 
 /// Nine of ten nets that are read and have no section get one.
