@@ -99,6 +99,20 @@ impl Areas {
         })
     }
 
+    /// Map of a mode, without contents.
+    fn by_mode(
+        &mut self,
+        mode: Mode,
+        net: &[u8],
+        k: u32,
+        target: u32,
+    ) -> (Result<usize, u8>, Duration) {
+        match mode {
+            Mode::Plain => self.map(net, k, target),
+            Mode::Forward => self.forward(net, k, target, 0),
+        }
+    }
+
     /// The excess of a record, and the time.
     fn mark(&mut self, net: &[u8], k: u32, record: &[u8]) -> (Result<usize, u8>, Duration) {
         self.best(|areas| kamfelu::mark(net, k, record, &mut areas.scratch))
@@ -278,42 +292,51 @@ fn random_cases(random: &mut Random, nets: usize) -> Vec<Case> {
     cases
 }
 
-/// The slowest call of a family at so many gates, over k, the least period and the targets near it.
+/// The slowest call of a family at so many gates, over k, the least period and the targets near it, in both modes.
 fn slow_family(areas: &mut Areas, random: &mut Random, family: usize, gates: usize, nets: usize) {
-    let mut times = Times::default();
-    let mut slowest = (0, 0, Vec::new());
+    let mut cases = Vec::new();
     for _ in 0..nets {
         let pins = random.within(2, 6);
         let net = encode(&of_family(family, random, gates, pins));
-        for k in pins as u32..=6 {
-            let (answer, time) = areas.map(&net, k, 0);
-            let least = match answer {
-                Ok(_) => u32::from(areas.cover[0]),
-                Err(_) => 1,
-            };
-            let mut tried = vec![(0, time)];
-            for target in [1, least - 1, least, 32] {
-                if target > 0 {
-                    tried.push((target, areas.map(&net, k, target).1));
-                }
-            }
-            for (target, time) in tried {
-                if time > times.most {
-                    slowest = (k, target, net.clone());
-                }
-                times.add(time);
-            }
+        cases.extend((pins as u32..=6).map(|k| (net.clone(), k)));
+    }
+    for (mode, name) in [
+        (Mode::Plain, FAMILIES[family]),
+        (Mode::Forward, "  forward"),
+    ] {
+        let (times, (k, target, net)) = slowest(areas, mode, &cases);
+        let text = times.text();
+        println!("{name:14} {gates:5} {text} at k {k}, target {target}");
+        if gates == 32 {
+            println!("               net {}", hex(&net));
         }
     }
-    let (k, target, net) = slowest;
-    println!(
-        "{:14} {gates:5} {} at k {k}, target {target}",
-        FAMILIES[family],
-        times.text()
-    );
-    if gates == 32 {
-        println!("               net {}", hex(&net));
+}
+
+/// The times of a mode, and k, target and net of its slowest call.
+fn slowest(areas: &mut Areas, mode: Mode, cases: &[Case]) -> (Times, (u32, u32, Vec<u8>)) {
+    let mut times = Times::default();
+    let mut slowest = (0, 0, Vec::new());
+    for (net, k) in cases {
+        let (answer, time) = areas.by_mode(mode, net, *k, 0);
+        let mut tried = vec![(0, time)];
+        let least = match answer {
+            Ok(_) => u32::from(areas.cover[0]),
+            Err(_) => 1,
+        };
+        for target in [1, least - 1, least, 32] {
+            if target > 0 {
+                tried.push((target, areas.by_mode(mode, net, *k, target).1));
+            }
+        }
+        for (target, time) in tried {
+            if time > times.most {
+                slowest = (*k, target, net.clone());
+            }
+            times.add(time);
+        }
     }
+    (times, slowest)
 }
 
 fn hex(bytes: &[u8]) -> String {
@@ -481,7 +504,7 @@ fn run(nets: usize, seed: u64) {
         &own.into_iter().flat_map(cases).collect::<Vec<_>>(),
     )
     .print();
-    println!("slow families, map alone");
+    println!("slow families, map and forward map alone");
     println!("               gates {COLUMNS}");
     for family in 0..FAMILIES.len() {
         for gates in [8, 16, 24, 32] {
