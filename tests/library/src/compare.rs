@@ -633,21 +633,46 @@ pub fn some_section(random: &mut Random, net: Vec<u8>) -> Vec<u8> {
     with_section(&net, &section)
 }
 
-/// Net bytes of all kinds, most of them with a section. Half have registers at their outputs, which no forward
-/// cover moves into the net.
+/// Net bytes of all kinds, most of them with a section.
 pub fn some_forward_net(random: &mut Random) -> (Vec<u8>, usize) {
-    let (mut bytes, mut pins) = some_net(random);
-    if random.chance(50) {
-        pins = random.within(2, 4);
-        let gates = random.pick(&[4, 8, 8, 16, 32]);
-        let shape = deep(random, gates, pins);
-        let mut net = random_net(random, &shape);
-        for output in &mut net.outputs {
-            output.count = random.within(1, 3) as u32;
+    let pins = random.within(2, 4);
+    let (bytes, pins) = match random.below(10) {
+        0..=3 => some_net(random),
+        4..=6 => (encode_with_holes(&late_outputs(random, pins), random), pins),
+        7 | 8 => (encode_with_holes(&tangled(random, pins), random), pins),
+        _ => {
+            let (family, gates) = (random.below(FAMILIES.len()), random.within(4, 16));
+            (encode(&of_family(family, random, gates, pins)), pins)
         }
-        bytes = encode_with_holes(&net, random);
-    }
+    };
     (mostly_sectioned(random, bytes), pins)
+}
+
+/// Registers at the outputs, which no forward cover moves into the net.
+fn late_outputs(random: &mut Random, pins: usize) -> Net {
+    let gates = random.pick(&[4, 8, 8, 16, 32]);
+    let shape = deep(random, gates, pins);
+    let mut net = random_net(random, &shape);
+    for output in &mut net.outputs {
+        output.count = random.within(1, 3) as u32;
+    }
+    net
+}
+
+/// Few inputs, many registers and loops: labels climb from far below, and members have many different d.
+fn tangled(random: &mut Random, pins: usize) -> Net {
+    let shape = Shape {
+        inputs: (1, 2),
+        gates: (4, random.pick(&[6, 8, 12])),
+        outputs: (1, 2),
+        pins: (random.within(1, 2), pins),
+        count: 3,
+        registers: random.pick(&[40, 60]),
+        back: random.pick(&[30, 50]),
+        twin: 0,
+        input: random.pick(&[10, 30]),
+    };
+    random_net(random, &shape)
 }
 
 /// Nine of ten nets that are read and have no section get one.

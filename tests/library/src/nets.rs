@@ -456,10 +456,10 @@ pub fn for_forward() -> Vec<Vec<u8>> {
         longest_connection(),
         longest_outputs(),
     ];
-    for net in [rare::kept_cut(), rare::smaller_period()] {
-        let nodes = usize::from(net[0] + net[1]);
-        nets.push(with_section(&net, &vec![6; nodes]));
-        nets.push(net);
+    for rare in rare::all() {
+        let nodes = usize::from(rare.net[0] + rare.net[1]);
+        nets.push(with_section(&rare.net, &vec![6; nodes]));
+        nets.push(rare.net);
     }
     nets
 }

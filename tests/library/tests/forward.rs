@@ -72,12 +72,21 @@ fn by_hand() {
     assert_eq!(contents(&long, 2, 0), Ok(bits.collect()));
     let most = contents(&longest_outputs(), 2, 0);
     assert_eq!(most.map(|contents| contents.len()), Ok(16 * 99));
-    // The least period is 2, not 1.
-    let rare = with_section(&rare::kept_cut(), &[3; 6]);
-    assert_eq!(contents(&rare, 3, 1), Err(22));
-    let mut areas = Areas::new();
-    assert!(areas.forward(&rare, 3, 0).is_ok());
-    assert_eq!(areas.cover[0], 2);
+}
+
+/// Nets on which a shortcut goes wrong: the least period, and nothing below it.
+#[test]
+fn rare_nets() {
+    for rare in rare::all() {
+        let nodes = usize::from(rare.net[0] + rare.net[1]);
+        let net = with_section(&rare.net, &vec![3; nodes]);
+        let mut areas = Areas::new();
+        assert!(areas.forward(&net, rare.k, 0).is_ok());
+        assert_eq!(u32::from(areas.cover[0]), rare.least);
+        for below in 1..rare.least {
+            assert_eq!(areas.forward(&net, rare.k, below), Err(22));
+        }
+    }
 }
 
 #[test]

@@ -139,21 +139,34 @@ fn the_longest_connection() {
 
 #[test]
 fn rare_nets() {
-    let net = read_net(&rare::kept_cut(), 3).expect("a net");
-    assert_eq!(forward(&net, 3, 1), Err(Stop::Refused(22)));
-    assert_eq!(least_period(&net, Mode::Forward, 3), Some(2));
     let mut random = Random::new(72);
-    let section = random_section(net.nodes(), &mut random);
-    let cover = forward(&net, 3, 0).expect("a cover");
-    let contents = first_contents(&net, &section, &cover);
-    assert!(board_runs_as_net(
-        &net,
-        &section,
-        &cover,
-        &contents,
-        300,
-        &mut random
-    ));
+    for rare in rare::all() {
+        let (net, k) = (read_net(&rare.net, rare.k).expect("a net"), rare.k);
+        assert_eq!(least_period(&net, Mode::Forward, k), Some(rare.least));
+        for target in 1..=rare.least + 1 {
+            let Ok(cover) = forward(&net, k, target) else {
+                assert!(target < rare.least);
+                continue;
+            };
+            assert!(target >= rare.least && is_forward(&net, &cover));
+            let section = random_section(net.nodes(), &mut random);
+            let contents = first_contents(&net, &section, &cover);
+            assert!(board_runs_as_net(
+                &net,
+                &section,
+                &cover,
+                &contents,
+                300,
+                &mut random
+            ));
+        }
+    }
+}
+
+#[test]
+fn labels_of_rare_nets() {
+    let net = read_net(&rare::kept_cut().net, 3).expect("a net");
+    assert_eq!(forward(&net, 3, 1), Err(Stop::Refused(22)));
     // By heights alone these labels may stand; by the members none may.
     let cuts = CutSets::new(&net, 3, Limits::default()).expect("cuts");
     let wrong = vec![0, 0, 1, 1, 0, 1];
@@ -161,7 +174,7 @@ fn rare_nets() {
     assert_eq!(stays(Mode::Plain), Some(wrong.clone()));
     assert_eq!(stays(Mode::Forward), None);
 
-    let net = read_net(&rare::smaller_period(), 2).expect("a net");
+    let net = read_net(&rare::smaller_period().net, 2).expect("a net");
     let labels = |phi| match least_labels(&net, Mode::Forward, 2, phi) {
         Outcome::Labels(labels) => labels,
         other => panic!("{other:?}"),
