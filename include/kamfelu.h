@@ -109,8 +109,8 @@ int64_t kamfelu_map_loader(const uint8_t *net, size_t net_length, uint32_t k, ui
    connection, and of one connection the newest register first. Connections are the leaves of the record's LUTs, in its
    order, then the net's outputs, in their order, those that read an input too. A leaf u:d of a LUT with lag r has
    d + r - q registers and as many bytes, where q is the lag of the LUT with root u, or 0 if u is an input; an output that
-   reads u through w registers in the net has w - q. Bytes behind them are kept. Register i of a connection, 1 the newest,
-   holds what u has in the net i + q steps before step 0, or -i - q steps after it.
+   reads u through w registers in the net has w - q. Register i of a connection, 1 the newest, holds the value that u has
+   in the net at step -i - q; below step 0 that is the section's. Bytes behind the contents are kept.
 
    A board that starts with these contents has at every step from 0 on, for all inputs, the outputs of the net that starts
    from its section. */

@@ -10,11 +10,11 @@ use second::generate::{random_net, wild_net, Shape};
 use second::jobs::{Course, COVER_BYTES, LONG, SCRATCH_BYTES, SHORT};
 use second::listing::{listing_within, GAVE_UP};
 use second::loader::{image, LOADER_BYTES};
-use second::mark::check_cover;
+use second::mark::{check_cover, is_forward};
 use second::solve::unreachable;
 use second::{
-    cone_of, first_contents, parse_net, parse_with_section, read_record, read_with_section, Answer,
-    Areas, Cover, Limits, Mode, Net, Random,
+    first_contents, parse_net, parse_with_section, read_record, read_with_section, Answer, Areas,
+    Limits, Mode, Net, Random,
 };
 use std::collections::BTreeMap;
 use std::thread::Builder;
@@ -517,14 +517,6 @@ fn fits(
         areas.contents[..first.len()].copy_from_slice(&first);
     }
     good && (target == 0 || read.period == target)
-}
-
-/// Whether lag and largest d of the members together are at most 0 for each LUT of a good cover.
-pub fn is_forward(net: &Net, cover: &Cover) -> bool {
-    cover.luts.iter().all(|lut| {
-        let cone = cone_of(net, lut.root, &lut.leaves).expect("a cone");
-        cone.iter().all(|copy| lut.lag + i64::from(copy.d) <= 0)
-    })
 }
 
 /// Mostly a contents area that is long enough; none and short ones among them.

@@ -3,18 +3,20 @@
 
 use kamfelu::{connections, Connection, Reader, CONTENTS_AREA, COVER_AREA, LOADER_AREA, SCRATCH};
 use library::compare::{
-    all_maps, cases, each_thread, is_forward, on_threads, random_calls, seed, some_forward_net,
-    some_k, some_net, Call, Lengths, Sides,
+    all_maps, cases, each_thread, on_threads, random_calls, seed, some_forward_net, some_k,
+    some_net, Call, Lengths, Sides,
 };
 use library::nets::{
     c_with_section, c_with_two_outputs, for_forward, hand_made, largest_record, longest_connection,
     longest_outputs, net, net_a, net_b, net_c, real,
 };
+use second::board::board_runs_as_net;
 use second::contents::CONTENTS_BYTES;
 use second::damage::damaged;
 use second::encode::{encode, random_section, with_section};
 use second::jobs::LONG;
-use second::{parse_net, rare, read_record, read_with_section, Bench, Board, Cover, Net, Random};
+use second::mark::is_forward;
+use second::{parse_net, rare, read_record, read_with_section, Cover, Net, Random};
 
 /// Areas that are long enough, and what forward map left in them.
 struct Areas {
@@ -178,22 +180,6 @@ fn areas_around_the_limits() {
     tally.fail_on_differences();
 }
 
-/// Board and net on the same random inputs.
-fn same_outputs(
-    net: &Net,
-    section: &[u8],
-    cover: &Cover,
-    contents: &[u8],
-    random: &mut Random,
-) -> bool {
-    let mut board = Board::new(net, cover, contents);
-    let mut bench = Bench::new(net, section);
-    (0..300).all(|_| {
-        let inputs = random.word() as u16;
-        board.step(inputs) == bench.step(inputs)
-    })
-}
-
 /// The crate's connections are those of the second mapper, and their parts are the contents, one after the other.
 fn same_connections(net: &Net, cover: &Cover, all: &[Connection], contents: &[u8]) -> bool {
     let mut readers = Vec::new();
@@ -247,7 +233,7 @@ fn boards_run_as_their_nets() {
             let registers = all.iter().map(|connection| connection.registers.len());
             let contents = &areas.contents[..registers.sum()];
             assert!(
-                same_outputs(&net, &section, &cover, contents, &mut random),
+                board_runs_as_net(&net, &section, &cover, contents, 300, &mut random),
                 "net {bytes:?} k {k} target {target}"
             );
             moved += u64::from(cover.luts.iter().any(|lut| lut.lag < 0));

@@ -1,7 +1,9 @@
 //! A board: the LUTs of a cover with their tables, and registers that shift at each step.
 
+use crate::bench::Bench;
 use crate::cover::{Cover, Lut};
 use crate::net::Net;
+use crate::random::Random;
 use std::collections::VecDeque;
 
 /// A connection: the node that feeds it, and its registers, newest first.
@@ -86,6 +88,24 @@ impl Board {
         }
         shown
     }
+}
+
+/// Whether a board with these contents and the net from its section show the same outputs, step by step, on the same
+/// random inputs.
+pub fn board_runs_as_net(
+    net: &Net,
+    section: &[u8],
+    cover: &Cover,
+    contents: &[u8],
+    steps: usize,
+    random: &mut Random,
+) -> bool {
+    let mut board = Board::new(net, cover, contents);
+    let mut bench = Bench::new(net, section);
+    (0..steps).all(|_| {
+        let inputs = random.word() as u16;
+        board.step(inputs) == bench.step(inputs)
+    })
 }
 
 fn in_order(inputs: usize, mut left: Vec<(Lut, Vec<Wire>)>) -> Vec<(Lut, Vec<Wire>)> {

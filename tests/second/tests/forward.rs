@@ -5,6 +5,7 @@ mod common;
 
 use common::covers::{all_small_nets, count_covers, Tally};
 use common::{mark, net, net_a, net_b, net_bytes, net_c, tiny_net, GateText, AND};
+use second::board::board_runs_as_net;
 use second::contents::{first_contents_with, CONTENTS_BYTES};
 use second::damage::damaged_net;
 use second::encode::{encode, encode_with_holes, random_section, with_section};
@@ -12,10 +13,11 @@ use second::generate::{random_net, Shape};
 use second::jobs::{COVER_BYTES, SCRATCH_BYTES};
 use second::labels::rise;
 use second::loader::{image, LOADER_BYTES};
+use second::mark::is_forward;
 use second::run::cover_runs_as_net;
 use second::{
-    cone_of, first_contents, least_labels, least_period, map_forward, rare, read_net, read_record,
-    solve, Answer, Bench, Board, Cover, CutSets, Limits, Mode, Net, Outcome, Random, Stop,
+    first_contents, least_labels, least_period, map_forward, rare, read_net, read_record, solve,
+    Answer, Board, Cover, CutSets, Limits, Mode, Net, Outcome, Random, Stop,
 };
 
 const SAME: u64 = 2;
@@ -24,32 +26,6 @@ const NOT: u64 = 1;
 fn forward(net: &Net, k: u32, target: u32) -> Result<Cover, Stop> {
     let solved = solve(net, Mode::Forward, k, target, Limits::default());
     solved.map(|(cover, _)| cover)
-}
-
-/// Lag plus the largest d of the cone's members is at most 0 for each LUT.
-fn is_forward(net: &Net, cover: &Cover) -> bool {
-    cover.luts.iter().all(|lut| {
-        let cone = cone_of(net, lut.root, &lut.leaves).expect("a cone");
-        let deepest = cone.iter().map(|copy| i64::from(copy.d)).max();
-        lut.lag + deepest.expect("the root") <= 0
-    })
-}
-
-/// Board and net agree on random inputs, step by step.
-fn board_runs_as_net(
-    net: &Net,
-    section: &[u8],
-    cover: &Cover,
-    contents: &[u8],
-    steps: usize,
-    random: &mut Random,
-) -> bool {
-    let mut board = Board::new(net, cover, contents);
-    let mut bench = Bench::new(net, section);
-    (0..steps).all(|_| {
-        let inputs = random.word() as u16;
-        board.step(inputs) == bench.step(inputs)
-    })
 }
 
 /// The contents that map writes for a record of a net without its section, and the cover.
