@@ -175,6 +175,36 @@ fn targets_met_by_forward_covers_are_those_reached_by_labels() {
     assert!(tally.met > 10_000 && tally.unmet > 1000, "{tally:?}");
 }
 
+/// The rare nets, where their cones are not too many, and random nets with many registers.
+#[test]
+fn larger_nets() {
+    let mut tally = Tally::default();
+    for rare in rare::all() {
+        let net = read_net(&rare.net, rare.k).expect("a net");
+        tally.compare_within(&net, Mode::Forward, rare.k, 40_000);
+    }
+    assert!(
+        tally.met > 30 && tally.unmet > 1 && tally.left <= 6,
+        "{tally:?}"
+    );
+    let mut random = Random::new(79);
+    for _ in 0..1500 {
+        let shape = Shape {
+            inputs: (1, 3),
+            gates: (4, 6),
+            outputs: (1, 2),
+            pins: (1, 2),
+            count: random.pick(&[1, 2, 3]),
+            registers: 50,
+            back: random.pick(&[10, 30]),
+            twin: 0,
+            input: 20,
+        };
+        tally.compare(&random_net(&mut random, &shape), Mode::Forward, 2);
+    }
+    assert!(tally.met > 5000 && tally.unmet > 200, "{tally:?}");
+}
+
 #[test]
 fn all_small_nets_of_two_and_three_gates() {
     all_small_nets(Mode::Forward);

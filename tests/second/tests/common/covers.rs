@@ -1,4 +1,4 @@
-//! Covers of nets of at most three gates, enumerated outright, and held against labels.
+//! Covers of small nets, enumerated outright, and held against labels.
 
 use super::{grown_cuts, ConeAndLeaves};
 use second::mark::{check_cover, longest_chain};
@@ -8,10 +8,13 @@ use std::ops::RangeInclusive;
 
 pub type Sets = Vec<Vec<ConeAndLeaves>>;
 
-/// The k-cuts of every gate; none if a gate has too many cones.
-pub fn sets(net: &Net, k: u32) -> Option<Sets> {
+/// The most cones of a gate that are grown.
+const MOST_CONES: usize = 3000;
+
+/// The k-cuts of every gate; none if a gate has more than so many cones.
+pub fn sets(net: &Net, k: u32, most: usize) -> Option<Sets> {
     net.gate_nodes()
-        .map(|v| grown_cuts(net, v, k as usize, k as usize, 3000))
+        .map(|v| grown_cuts(net, v, k as usize, k as usize, most))
         .collect()
 }
 
@@ -97,7 +100,12 @@ pub struct Tally {
 impl Tally {
     /// Some cover of the mode meets a period exactly if labels reach it, and the labels' lags are the least.
     pub fn compare(&mut self, net: &Net, mode: Mode, k: u32) {
-        let Some(sets) = sets(net, k) else {
+        self.compare_within(net, mode, k, MOST_CONES);
+    }
+
+    /// The same where a gate may have so many cones.
+    pub fn compare_within(&mut self, net: &Net, mode: Mode, k: u32, most: usize) {
+        let Some(sets) = sets(net, k, most) else {
             self.left += 1;
             return;
         };
@@ -221,7 +229,7 @@ fn each_cover(
 /// The number of covers of the mode that the marker accepts, where they are few enough to be tried; the
 /// shortest period among them is the least one.
 pub fn count_covers(net: &Net, mode: Mode, k: u32) -> Option<usize> {
-    let sets = sets(net, k)?;
+    let sets = sets(net, k, MOST_CONES)?;
     let lags = -(net.most_registers().min(3) as i64)..=2;
     let width = (lags.end() - lags.start() + 1) as usize;
     let number: usize = sets.iter().map(|set| set.len() * width + 1).product();
