@@ -16,20 +16,22 @@ extern "C" {
      contents of any argument.
    - Each pointer points to as many bytes as the length behind it says, for the whole call. A pointer may be NULL where
      its length is 0.
-   - Areas that are written (cover, scratch, loader) overlap no other area, and no other thread uses them during the
-     call. Net and record are only read.
+   - Areas that are written (cover, scratch, loader, contents) overlap no other area, and no other thread uses them
+     during the call. Net and record are only read.
    - A call takes less than 256 KiB of the calling thread's stack.
    - The library keeps nothing between calls; calls on different areas may run at the same time.
    - A net record has at most 803 bytes. It may end with a section, the nodes' values before step 0, from which the bench
-     program starts; bit 7 of its first byte says so. Answers and areas are then those for the net without it.
+     program starts and forward map's contents come; bit 7 of its first byte says so. All other answers and areas are then
+     those for the net without it.
 
-   Refusals. Map checks 1 to 12, and 20 between 3 and 4 where a loader area is lent; mark 1, 3 to 11 and 13 to 18, find
-   root 19, align 23; the bench program 1, 4 to 11, then 21. The first that fails is told, of 4 to 8 the first met in one
-   walk over the net's bytes.
+   Refusals. Map checks 1 to 12, and 20 between 3 and 4 where a loader area is lent; forward map 1 to 11, 20 in the same
+   way, then 21 where a contents area is lent, then 22; mark 1, 3 to 11 and 13 to 18, find root 19, align 23; the bench
+   program 1, 4 to 11, then 21. The first that fails is told, of 4 to 8 the first met in one walk over the net's bytes.
 
     1  k is not 2 to 6.
     2  The target is above 32.
-    3  The cover area has fewer than 962 bytes (map only), or the scratch fewer than 65,536.
+    3  The cover area has fewer than 962 bytes (map only), the scratch fewer than 65,536, or a contents area is lent that
+       has fewer than 20,592 (forward map only).
     4  The net ends where a byte is still due.
     5  The number of inputs is not 1 to 16, that of gates not 1 to 32, or that of outputs not 1 to 16.
     6  A byte of the net has a value that its place forbids: a pin map that is 0 or above 63, a register map with a
@@ -53,8 +55,9 @@ extern "C" {
    18  Some chain of LUTs without a register between them is longer than the period.
    19  The record ends or breaks its layout before a root that is not below the gate, or before its last LUT's end (find
        root only).
-   20  A loader area is lent that has fewer than 256 bytes (map with a loader area only).
-   21  A run is wanted of a net without a section (bench only).
+   20  A loader area is lent that has fewer than 256 bytes (map with a loader area and forward map only).
+   21  A run or first contents are wanted of a net without a section (bench and forward map only).
+   22  No forward cover meets the target (forward map only).
    23  A capture has more than 4,096 words (align only). */
 
 /* Map: a cover of a net for LUTs with k inputs that meets the target, or the least period for target 0.
@@ -88,6 +91,33 @@ int64_t kamfelu_map_loader(const uint8_t *net, size_t net_length, uint32_t k, ui
                            size_t cover_length, uint8_t *scratch, size_t scratch_length, uint8_t *loader,
                            size_t loader_length);
 
+/* Forward map: a forward cover of a net for LUTs with k inputs that meets the target, and what the registers of its board
+   hold at first. A cover is forward if for each LUT its lag and the largest d of the gates inside it together are at most
+   0: registers have moved forward only.
+
+   net, k, cover, scratch   as for kamfelu_map
+   target                   as for kamfelu_map; 0 asks for the least period that a forward cover meets
+   loader                   as for kamfelu_map_loader; with length 0 none is lent
+   contents                 the contents area, at least 20,592 bytes, else refusal 3; with length 0 none is lent. The net
+                            then needs a section, else refusal 21
+
+   Returns the length of the cover record, and leaves record, image and scratch as kamfelu_map_loader does; or minus the
+   number of the refusal, and cover area, loader area and contents area are as they were. -22 says that no forward cover
+   meets the target; it stands in place of -12, and 21 is told before it.
+
+   If a contents area is lent, the first contents then stand in front of it: a byte 0 or 1 for each register, connection by
+   connection, and of one connection the newest register first. Connections are the leaves of the record's LUTs, in its
+   order, then the net's outputs, in their order, those that read an input too. A leaf u:d of a LUT with lag r has
+   d + r - q registers and as many bytes, where q is the lag of the LUT with root u, or 0 if u is an input; an output that
+   reads u through w registers in the net has w - q. Register i of a connection, 1 the newest, holds the value that u has
+   in the net at step -i - q; below step 0 that is the section's. Bytes behind the contents are kept.
+
+   A board that starts with these contents has at every step from 0 on, for all inputs, the outputs of the net that starts
+   from its section. */
+int64_t kamfelu_map_forward(const uint8_t *net, size_t net_length, uint32_t k, uint32_t target, uint8_t *cover,
+                            size_t cover_length, uint8_t *scratch, size_t scratch_length, uint8_t *loader,
+                            size_t loader_length, uint8_t *contents, size_t contents_length);
+
 /* Mark: whether a record is that of a cover of a net for LUTs with k inputs that meets the period it states, and by how
    much that period is above the least one.
 
@@ -98,8 +128,8 @@ int64_t kamfelu_map_loader(const uint8_t *net, size_t net_length, uint32_t k, ui
 
    Returns the excess, the stated period minus the least period, 0 or more; or minus the number of the refusal: 4 to 11
    for the net, 13 to 18 for the record. After refusals 1 and 3 the scratch is as it was; after every other outcome its
-   first 65,536 bytes are 0 and the rest is kept. Every record that kamfelu_map writes is accepted for the same net and
-   k. */
+   first 65,536 bytes are 0 and the rest is kept. Every record that kamfelu_map or kamfelu_map_forward writes is accepted
+   for the same net and k. */
 int64_t kamfelu_mark(const uint8_t *net, size_t net_length, uint32_t k, const uint8_t *record, size_t record_length,
                      uint8_t *scratch, size_t scratch_length);
 

@@ -1,6 +1,7 @@
 //! Kamfelu's proved jobs, called through their static library: [`map`] and [`mark`] for LUT covers
 //! with moved registers, [`map_loader`] for a cover and its tables as a chip's loader takes them,
-//! [`short_map`] and [`short_mark`] for the short course, [`find_root`] for a stored cover, [`class`]
+//! [`map_forward`] for a forward cover and what its registers hold at first, [`connections`] for the
+//! registers of each connection, [`short_map`] and [`short_mark`] for the short course, [`find_root`] for a stored cover, [`class`]
 //! for three-input tables, [`align`] for two captures of one unit.
 //!
 //! `make library` in the repository writes `target/staticlib/libkamfelu.a`, which the build script
@@ -17,7 +18,8 @@
 //! - Nothing is assumed of the contents of any argument. docs/FORMATS.md explains net records and
 //!   cover records.
 //! - A net record has at most 803 bytes. It may end with a section, the nodes' values before step 0,
-//!   from which the bench program starts; answers and areas are then those for the net without it.
+//!   from which the bench program starts and the first contents of [`map_forward`] come; all other
+//!   answers and areas are then those for the net without it.
 //! - A call takes less than 256 KiB of the calling thread's stack.
 //!   See [`STACK`].
 //! - Nothing is kept between calls; threads may call at the same time.
@@ -31,6 +33,10 @@ pub const SCRATCH: usize = 65_536;
 /// The least length of a loader area that is not empty, in bytes: no image is longer.
 pub const LOADER_AREA: usize = 256;
 
+/// The least length of a contents area that is not empty, in bytes: no forward cover has more
+/// registers.
+pub const CONTENTS_AREA: usize = 20_592;
+
 /// More than the stack that a call takes, in bytes. A thread may have so little:
 ///
 /// ```
@@ -39,6 +45,10 @@ pub const LOADER_AREA: usize = 256;
 /// assert_eq!(class.join().unwrap(), 23);
 /// ```
 pub const STACK: usize = 256 << 10;
+
+mod contents;
+
+pub use contents::{connections, Connection, Reader};
 
 type Map = unsafe extern "C" fn(*const u8, usize, u32, u32, *mut u8, usize, *mut u8, usize) -> i64;
 type Mark = unsafe extern "C" fn(*const u8, usize, u32, *const u8, usize, *mut u8, usize) -> i64;
@@ -66,6 +76,21 @@ extern "C" {
         scratch_len: usize,
         loader: *mut u8,
         loader_len: usize,
+    ) -> i64;
+
+    fn kamfelu_map_forward(
+        net: *const u8,
+        net_len: usize,
+        k: u32,
+        target: u32,
+        cover: *mut u8,
+        cover_len: usize,
+        scratch: *mut u8,
+        scratch_len: usize,
+        loader: *mut u8,
+        loader_len: usize,
+        contents: *mut u8,
+        contents_len: usize,
     ) -> i64;
 
     fn kamfelu_mark(
@@ -243,6 +268,72 @@ pub fn map_loader(
     })
 }
 
+/// A forward cover of a net for LUTs with k inputs that meets the target, and what the registers of
+/// its board hold at first, so that board and net agree from step 0 on.
+///
+/// A cover is forward if for each LUT its lag and the largest d of the gates inside it together are
+/// at most 0: registers have moved forward only.
+///
+/// - `net`, `k`, `cover`, `scratch`: as for [`map`].
+/// - `target`: as for [`map`]; 0 asks for the least period that a forward cover meets.
+/// - `loader`: as for [`map_loader`]; where it is empty none is lent.
+/// - `contents`: the contents area, at least [`CONTENTS_AREA`] bytes. Where it is empty none is lent.
+///   The net then needs a section.
+///
+/// `Ok` has the length of the cover record, as for [`map`]; the image is as for [`map_loader`]. The
+/// first contents then stand in front of the contents area, if one is lent: a byte 0 or 1 for each
+/// register, connection by connection in the record's order, leaves, then outputs, the newest
+/// register first. [`connections`] gives each connection its own. A board that starts with them has
+/// the outputs of the net that starts from its section, at every step from 0 on and for all inputs.
+/// Bytes behind them are kept.
+///
+/// `Err` has the number of the refusal: 3 for a contents area that is too short too, 20 as for
+/// [`map_loader`], 21 where a contents area is lent and the net has no section, told after 11, then
+/// 22, in place of 12, where no forward cover meets the target; else as for [`map`]. Cover area,
+/// loader area and contents area are then as they were; the scratch is left as by [`map_loader`].
+///
+/// ```
+/// use kamfelu::{map_forward, CONTENTS_AREA, COVER_AREA, SCRATCH};
+///
+/// // Net C with a section: gate 2 = and(0:1, 1:1); one step before step 0 both inputs were 1.
+/// let net = [0x82, 1, 1, 3, 3, 0, 1, 1, 1, 8, 0, 2, 1, 1, 0];
+/// let (mut cover, mut scratch) = ([0; COVER_AREA], vec![0; SCRATCH]);
+/// let mut contents = vec![7; CONTENTS_AREA];
+/// let answer = map_forward(&net, 2, 1, &mut cover, &mut scratch, &mut [], &mut contents);
+/// assert_eq!((answer, cover[11]), (Ok(13), 0xff)); // the lag is -1
+/// assert_eq!(contents[..2], [1, 7]); // the output's register: gate 2 at step 0, and no more
+/// let bare = [2, 1, 1, 3, 3, 0, 1, 1, 1, 8, 0, 2];
+/// let answer = map_forward(&bare, 2, 1, &mut cover, &mut scratch, &mut [], &mut contents);
+/// assert_eq!(answer, Err(21)); // no section
+/// ```
+pub fn map_forward(
+    net: &[u8],
+    k: u32,
+    target: u32,
+    cover: &mut [u8],
+    scratch: &mut [u8],
+    loader: &mut [u8],
+    contents: &mut [u8],
+) -> Result<usize, u8> {
+    // SAFETY: each pointer goes with its slice's length, and the slices are apart.
+    told(unsafe {
+        kamfelu_map_forward(
+            net.as_ptr(),
+            net.len(),
+            k,
+            target,
+            cover.as_mut_ptr(),
+            cover.len(),
+            scratch.as_mut_ptr(),
+            scratch.len(),
+            loader.as_mut_ptr(),
+            loader.len(),
+            contents.as_mut_ptr(),
+            contents.len(),
+        )
+    })
+}
+
 /// Whether a record is that of a cover of a net for LUTs with k inputs that meets the period it
 /// states, and by how much that period is above the least one.
 ///
@@ -255,7 +346,7 @@ pub fn map_loader(
 ///
 /// `Err` has the number of the refusal: 1 for k, 3 for a scratch that is too short, 4 to 11 for the
 /// net, as in [`map`], 13 for a record that breaks the layout, 14 to 18 for one that is no such
-/// cover. A record that [`map`] wrote is accepted for the same net and k.
+/// cover. A record that [`map`] or [`map_forward`] wrote is accepted for the same net and k.
 ///
 /// After 1 and 3 the scratch is as it was; after every other outcome its first [`SCRATCH`] bytes
 /// are 0 and the rest is kept.

@@ -1,9 +1,14 @@
 //! The areas' least lengths, in a thread with the stack that the crate names.
 
-use kamfelu::{map, map_loader, mark, COVER_AREA, LOADER_AREA, SCRATCH, STACK};
+use kamfelu::{map, map_forward, map_loader, mark};
+use kamfelu::{CONTENTS_AREA, COVER_AREA, LOADER_AREA, SCRATCH, STACK};
 
 const NET_A: [u8; 20] = [2, 3, 1, 3, 0, 0, 1, 8, 3, 2, 2, 4, 1, 6, 1, 0, 3, 1, 0, 4];
 const RECORD_A: [u8; 16] = [2, 2, 2, 2, 0, 0, 1, 8, 4, 2, 2, 2, 4, 1, 0, 9];
+
+/// Net C with a section, and its forward cover for k 2 and period 1.
+const NET_C: [u8; 15] = [0x82, 1, 1, 3, 3, 0, 1, 1, 1, 8, 0, 2, 1, 1, 0];
+const RECORD_C: [u8; 13] = [1, 1, 2, 2, 0x43, 0, 1, 1, 0, 1, 0, 0xff, 8];
 
 /// In a thread with so little stack.
 fn in_thread<T: Send + 'static>(work: impl FnOnce() -> T + Send + 'static) -> T {
@@ -45,6 +50,29 @@ fn loaded(cover: usize, scratch: usize, loader: usize) -> Result<usize, u8> {
     })
 }
 
+/// Forward map of net C at k 2 for period 1, with areas of these lengths.
+fn forward(lengths: [usize; 4]) -> Result<usize, u8> {
+    in_thread(move || {
+        let [mut cover, mut scratch, mut loader, mut contents] =
+            [(0, 7), (1, 9), (2, 5), (3, 3)].map(|(area, byte)| vec![byte; lengths[area]]);
+        let areas = (&mut cover, &mut scratch, &mut loader, &mut contents);
+        let mapped = map_forward(&NET_C, 2, 1, areas.0, areas.1, areas.2, areas.3);
+        let written = |area: &[u8], bytes: usize| {
+            if mapped.is_ok() && !area.is_empty() {
+                bytes
+            } else {
+                0
+            }
+        };
+        assert!(has(&cover, &RECORD_C[..mapped.unwrap_or(0)], 7));
+        assert!(has(&loader, &[0x88; 8][..written(&loader, 8)], 5));
+        assert!(has(&contents, &[1][..written(&contents, 1)], 3));
+        let left = if mapped == Err(3) { 9 } else { 0 };
+        assert!(scratch.iter().all(|&byte| byte == left));
+        mapped
+    })
+}
+
 #[test]
 fn least_lengths() {
     assert_eq!(answers(COVER_AREA, SCRATCH), [Ok(16), Ok(0)]);
@@ -64,5 +92,29 @@ fn least_lengths_with_a_loader() {
     for loader in [0, 1, LOADER_AREA - 1, LOADER_AREA] {
         assert_eq!(loaded(COVER_AREA - 1, SCRATCH, loader), Err(3));
         assert_eq!(loaded(COVER_AREA, SCRATCH - 1, loader), Err(3));
+    }
+}
+
+#[test]
+fn least_lengths_of_forward_map() {
+    for loader in [0, LOADER_AREA, LOADER_AREA + 1] {
+        for contents in [0, CONTENTS_AREA, CONTENTS_AREA + 1] {
+            assert_eq!(forward([COVER_AREA, SCRATCH, loader, contents]), Ok(13));
+        }
+    }
+    for loader in [0, 1, LOADER_AREA - 1, LOADER_AREA] {
+        for contents in [1, CONTENTS_AREA - 1] {
+            assert_eq!(forward([COVER_AREA, SCRATCH, loader, contents]), Err(3));
+        }
+        for contents in [0, CONTENTS_AREA] {
+            assert_eq!(forward([COVER_AREA - 1, SCRATCH, loader, contents]), Err(3));
+            assert_eq!(forward([COVER_AREA, SCRATCH - 1, loader, contents]), Err(3));
+        }
+    }
+    for loader in [1, LOADER_AREA - 1] {
+        assert_eq!(
+            forward([COVER_AREA, SCRATCH, loader, CONTENTS_AREA]),
+            Err(20)
+        );
     }
 }

@@ -1,11 +1,12 @@
-/* A pointer may be NULL where its length is 0: each area of map with and without a loader area, mark, find root and
-   align in turn, then all of them. */
+/* A pointer may be NULL where its length is 0: each area of map with and without a loader area, forward map, mark, find
+   root and align in turn, then all of them. */
 #include "kamfelu.h"
 #include <stdio.h>
 
 static const uint8_t net[] = {2, 3, 1, 3, 0, 0, 1, 8, 3, 2, 2, 4, 1, 6, 1, 0, 3, 1, 0, 4}; /* net A */
 static const uint8_t record[] = {2, 2, 2, 2, 0, 0, 1, 8, 4, 2, 2, 2, 4, 1, 0, 9};           /* its cover, k 2 */
-static uint8_t cover[962], scratch[65536], loader[256];
+static const uint8_t net_c[] = {0x82, 1, 1, 3, 3, 0, 1, 1, 1, 8, 0, 2, 1, 1, 0};            /* net C, with a section */
+static uint8_t cover[962], scratch[65536], loader[256], contents[20592];
 static const uint16_t words[16];
 static int wrong;
 
@@ -67,6 +68,30 @@ int main(void)
     expect("loader, nothing", kamfelu_map_loader(NULL, 0, 2, 0, NULL, 0, NULL, 0, NULL, 0), -3);
     expect("loader, nothing, target 33", kamfelu_map_loader(NULL, 0, 2, 33, NULL, 0, NULL, 0, NULL, 0), -2);
     expect("loader, nothing, k 7", kamfelu_map_loader(NULL, 0, 7, 33, NULL, 0, NULL, 0, NULL, 0), -1);
+
+    fill();
+    expect("forward, no other area", kamfelu_map_forward(net, 20, 2, 0, cover, 962, scratch, 65536, NULL, 0, NULL, 0), 16);
+    expect_scratch("forward, no other area", 0);
+    expect("forward, no loader area", kamfelu_map_forward(net_c, 15, 2, 1, cover, 962, scratch, 65536, NULL, 0, contents, 20592), 13);
+    expect("forward, no loader area, contents", contents[0], 1);
+    expect("forward, no contents area", kamfelu_map_forward(net_c, 15, 2, 1, cover, 962, scratch, 65536, loader, 256, NULL, 0), 13);
+    expect("forward, no contents area, loader", loader[7], 0x88);
+    fill();
+    expect("forward, no net", kamfelu_map_forward(NULL, 0, 2, 0, cover, 962, scratch, 65536, loader, 256, contents, 20592), -4);
+    expect_scratch("forward, no net", 0);
+    fill();
+    expect("forward, no net, short loader", kamfelu_map_forward(NULL, 0, 2, 0, cover, 962, scratch, 65536, loader, 255, NULL, 0), -20);
+    expect_scratch("forward, no net, short loader", 0);
+    fill();
+    expect("forward, no net, short contents", kamfelu_map_forward(NULL, 0, 2, 0, cover, 962, scratch, 65536, NULL, 0, contents, 20591), -3);
+    expect("forward, no cover area", kamfelu_map_forward(net, 20, 2, 0, NULL, 0, scratch, 65536, NULL, 0, NULL, 0), -3);
+    expect_scratch("forward, no cover area", 7);
+    expect("forward, no scratch", kamfelu_map_forward(net, 20, 2, 0, cover, 962, NULL, 0, NULL, 0, NULL, 0), -3);
+    expect("forward, no section", kamfelu_map_forward(net, 20, 2, 1, cover, 962, scratch, 65536, NULL, 0, contents, 20592), -21);
+    expect("forward, out of reach", kamfelu_map_forward(net, 20, 2, 1, cover, 962, scratch, 65536, NULL, 0, NULL, 0), -22);
+    expect("forward, nothing", kamfelu_map_forward(NULL, 0, 2, 0, NULL, 0, NULL, 0, NULL, 0, NULL, 0), -3);
+    expect("forward, nothing, target 33", kamfelu_map_forward(NULL, 0, 2, 33, NULL, 0, NULL, 0, NULL, 0, NULL, 0), -2);
+    expect("forward, nothing, k 7", kamfelu_map_forward(NULL, 0, 7, 33, NULL, 0, NULL, 0, NULL, 0, NULL, 0), -1);
 
     fill();
     expect("mark, no net", kamfelu_mark(NULL, 0, 2, record, 16, scratch, 65536), -4);

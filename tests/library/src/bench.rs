@@ -2,12 +2,12 @@
 //! it is given at the gate.
 
 use crate::batch::case;
-use crate::compare::{some_k, some_net, Tally};
+use crate::compare::{mostly_sectioned, some_k, some_net, Tally};
 use crate::programs::printed;
 use second::damage::damaged;
 use second::encode::{encode, random_section, with_section};
 use second::generate::{random_net, Shape};
-use second::{parse_with_section, programs, Answer, Net, Random};
+use second::{programs, Answer, Random};
 
 /// k, the net's length, the net and the bytes behind it.
 pub fn input(k: u8, net: &[u8], behind: &[u8]) -> Vec<u8> {
@@ -17,11 +17,6 @@ pub fn input(k: u8, net: &[u8], behind: &[u8]) -> Vec<u8> {
 /// The second mapper's text.
 pub fn expected(given: &[u8]) -> String {
     String::from_utf8(programs::bench(given)).expect("text")
-}
-
-/// A net's record with any section.
-fn sectioned(random: &mut Random, net: &Net) -> Vec<u8> {
-    with_section(&encode(net), &random_section(net.nodes(), random))
 }
 
 /// A net of 32 gates with registers on half of its pins, and a section.
@@ -38,7 +33,7 @@ pub fn of_32_gates(random: &mut Random) -> Vec<u8> {
         input: 20,
     };
     let net = random_net(random, &shape);
-    sectioned(random, &net)
+    with_section(&encode(&net), &random_section(net.nodes(), random))
 }
 
 fn some_bytes(random: &mut Random, number: usize) -> Vec<u8> {
@@ -55,12 +50,8 @@ pub fn stored() -> Vec<u8> {
 
 /// Mostly a net with a section, and up to 40 steps; some inputs are cut off or damaged.
 fn some_input(random: &mut Random) -> Vec<u8> {
-    let (mut net, pins) = some_net(random);
-    if let Ok((read, None)) = parse_with_section(&net, 6) {
-        if random.chance(90) {
-            net = sectioned(random, &read);
-        }
-    }
+    let (net, pins) = some_net(random);
+    let net = mostly_sectioned(random, net);
     let k = some_k(random, pins) as u8;
     let bytes = 2 * random.pick(&[0, 1, 2, 5, 10, 40]) + random.below(2);
     let mut given = input(k, &net, &some_bytes(random, bytes));

@@ -1,16 +1,21 @@
 //! The library against the second mapper on random nets and candidates: answers, cover
-//! areas, loader areas and scratch, whole.
+//! areas, loader areas, contents areas and scratch, whole.
 
 use crate::nets::{net_a, net_b, net_c, of_family, FAMILIES};
 use crate::programs::printed;
+use second::contents::CONTENTS_BYTES;
 use second::damage::{candidate, damaged, damaged_net};
 use second::encode::{encode, encode_with_holes, random_section, with_section};
 use second::generate::{random_net, wild_net, Shape};
 use second::jobs::{Course, COVER_BYTES, LONG, SCRATCH_BYTES, SHORT};
 use second::listing::{listing_within, GAVE_UP};
 use second::loader::{image, LOADER_BYTES};
-use second::mark::check_cover;
-use second::{parse_net, read_net, read_record, Answer, Areas, Limits, Net, Random};
+use second::mark::{check_cover, is_forward};
+use second::solve::unreachable;
+use second::{
+    first_contents, parse_net, parse_with_section, read_record, read_with_section, Answer, Areas,
+    Limits, Mode, Net, Random,
+};
 use std::collections::BTreeMap;
 use std::thread::Builder;
 
@@ -57,7 +62,7 @@ pub struct Tally {
     /// The second mapper gave up.
     pub skipped: u64,
     /// Answers by refusal, 0 where there was none.
-    pub seen: [u64; 22],
+    pub seen: [u64; 23],
     /// Answers without refusal by length or excess.
     pub done: BTreeMap<u32, u64>,
     /// Pairs whose least period is above 1.
@@ -173,20 +178,20 @@ pub fn random_calls(
     tally
 }
 
-/// Map of some nets: every k from 0 to 8 and the huge ones, with these targets and the huge ones;
-/// with loader areas of these lengths, or without.
-pub fn all_maps(course: Course, nets: &[Vec<u8>], targets: &[u32], loaders: &[Option<usize>]) {
+/// Map of some nets by each of these calls: every k from 0 to 8 and the huge ones, with these targets and the
+/// huge ones.
+pub fn all_maps(course: Course, nets: &[Vec<u8>], targets: &[u32], calls: &[Call]) {
     let tally = on_threads(|thread, threads| {
         let mut random = Random::new(thread);
         let mut sides = Sides::of(course, &mut random);
         for net in nets.iter().skip(thread as usize).step_by(threads as usize) {
             for k in (0..=8).chain(HUGE) {
                 for target in targets.iter().copied().chain(HUGE) {
-                    for &loader in loaders {
+                    for &call in calls {
                         let lengths = Lengths {
                             cover: COVER_BYTES + 1,
                             scratch: SCRATCH_BYTES + 1,
-                            loader,
+                            call,
                         };
                         sides.map(&mut random, net, k, target, lengths);
                     }
@@ -199,12 +204,38 @@ pub fn all_maps(course: Course, nets: &[Vec<u8>], targets: &[u32], loaders: &[Op
     tally.fail_on_differences();
 }
 
-/// The lengths of the areas lent to map; without a loader area it is the call that takes none.
+/// The library's calls of map, with the lengths of the areas that each takes beside cover area and scratch.
+#[derive(Clone, Copy, Debug)]
+pub enum Call {
+    Plain,
+    Loader(usize),
+    Forward { loader: usize, contents: usize },
+}
+
+impl Call {
+    fn mode(self) -> Mode {
+        match self {
+            Call::Forward { .. } => Mode::Forward,
+            _ => Mode::Plain,
+        }
+    }
+
+    /// The lengths of loader area and contents area.
+    fn lent(self) -> [usize; 2] {
+        match self {
+            Call::Plain => [0, 0],
+            Call::Loader(loader) => [loader, 0],
+            Call::Forward { loader, contents } => [loader, contents],
+        }
+    }
+}
+
+/// A call of map, and the lengths of the areas.
 #[derive(Clone, Copy, Debug)]
 pub struct Lengths {
     pub cover: usize,
     pub scratch: usize,
-    pub loader: Option<usize>,
+    pub call: Call,
 }
 
 /// The areas of both mappers, filled with the same bytes before each call.
@@ -215,6 +246,7 @@ pub struct Sides {
     pub cover: [Vec<u8>; 2],
     pub scratch: [Vec<u8>; 2],
     pub loader: [Vec<u8>; 2],
+    pub contents: [Vec<u8>; 2],
     pub tally: Tally,
 }
 
@@ -232,94 +264,87 @@ impl Sides {
             cover: areas(),
             scratch: areas(),
             loader: areas(),
+            contents: areas(),
             tally: Tally::default(),
         }
     }
 
-    fn fill(area: &mut [Vec<u8>; 2], noise: &[u8]) {
+    /// An area of both sides with some part of the noise.
+    fn fill(area: &mut [Vec<u8>; 2], noise: &[u8], random: &mut Random, length: usize) {
+        let at = random.below(100_000);
         for side in area {
             side.clear();
-            side.extend_from_slice(noise);
+            side.extend_from_slice(&noise[at..at + length]);
         }
-    }
-
-    fn fill_scratch(&mut self, random: &mut Random, length: usize) {
-        let at = random.below(100_000);
-        Sides::fill(&mut self.scratch, &self.noise[at..at + length]);
     }
 
     /// Map of one pair of net and target.
     pub fn map(&mut self, random: &mut Random, net: &[u8], k: u32, target: u32, lengths: Lengths) {
-        let at = random.below(100_000);
-        Sides::fill(&mut self.cover, &self.noise[at..at + lengths.cover]);
-        let length = lengths.loader.unwrap_or(0);
-        if length > 0 {
-            let at = random.below(100_000);
-            Sides::fill(&mut self.loader, &self.noise[at..at + length]);
-        } else {
-            Sides::fill(&mut self.loader, &[]);
+        let [loader, contents] = lengths.call.lent();
+        for (area, length) in [
+            (&mut self.cover, lengths.cover),
+            (&mut self.scratch, lengths.scratch),
+            (&mut self.loader, loader),
+            (&mut self.contents, contents),
+        ] {
+            Sides::fill(area, &self.noise, random, length);
         }
-        self.fill_scratch(random, lengths.scratch);
-        let [cover, other_cover] = &mut self.cover;
-        let [scratch, other_scratch] = &mut self.scratch;
-        let [loader, other_loader] = &mut self.loader;
-        let course = self.course;
-        let areas = Areas {
-            cover: other_cover,
-            scratch: other_scratch,
-            loader: other_loader,
-        };
-        let expected = second::map_within(course, LIMITS, net, k, target, areas);
-        let found = match (lengths.loader, course) {
-            (None, SHORT) => kamfelu::short_map(net, k, target, cover, scratch),
-            (None, _) => kamfelu::map(net, k, target, cover, scratch),
-            (Some(_), _) => kamfelu::map_loader(net, k, target, cover, scratch, loader),
-        };
+        let (course, mode) = (self.course, lengths.call.mode());
+        let expected =
+            second::map_within(course, mode, LIMITS, net, k, target, self.second_areas());
+        let found = self.found(net, k, target, lengths.call);
         self.tally.count(expected);
-        if expected == Answer::GaveUp {
-            // What can be said without listing cuts.
-            let fits = match found {
-                Ok(length) => {
-                    let checked = read_net(net, k).expect("a good net");
-                    let read = read_record(&checked, k, &cover[..length]);
-                    other_cover[..length].copy_from_slice(&cover[..length]);
-                    read.is_ok_and(|read| {
-                        if !other_loader.is_empty() {
-                            let image = image(&read);
-                            other_loader[..image.len()].copy_from_slice(&image);
-                        }
-                        check_cover(&checked, &read).is_ok()
-                    }) && (target == 0 || u32::from(cover[0]) == target)
-                }
-                Err(number) => number == 12 && target != 0,
-            };
-            other_scratch[..SCRATCH_BYTES].fill(0);
-            let same =
-                fits && cover == other_cover && scratch == other_scratch && loader == other_loader;
-            let told = || {
-                format!("net {net:?} k {k} target {target} lengths {lengths:?}: found {found:?}")
-            };
-            self.tally.check(same, told);
-            return;
-        }
-        let done = matches!(expected, Answer::Done(_));
-        self.tally.deep += u64::from(done && target == 0 && other_cover[0] > 1);
-        let answered = answer(found);
-        let same = answered == expected
-            && cover == other_cover
-            && scratch == other_scratch
-            && loader == other_loader;
+        let right = if expected == Answer::GaveUp {
+            let record = self.cover[0].clone();
+            fits(found, net, k, target, mode, self.second_areas(), &record)
+        } else {
+            let done = matches!(expected, Answer::Done(_));
+            self.tally.deep += u64::from(done && target == 0 && self.cover[1][0] > 1);
+            answer(found) == expected
+        };
+        let Sides {
+            cover,
+            scratch,
+            loader,
+            contents,
+            tally,
+            ..
+        } = self;
+        let areas = [cover, scratch, loader, contents];
+        let same = right && areas.iter().all(|[own, other]| own == other);
         let told = || {
-            let differs = |a: &[u8], b: &[u8]| a.iter().zip(b).position(|(a, b)| a != b);
+            let differs = |[a, b]: &[Vec<u8>; 2]| a.iter().zip(b).position(|(a, b)| a != b);
+            let places = areas.each_ref().map(|area| differs(area));
             format!(
                 "net {net:?} k {k} target {target} {lengths:?}: expected {expected:?}, \
-                 found {answered:?}, first other byte of cover {:?}, of scratch {:?}, of loader {:?}",
-                differs(cover, other_cover),
-                differs(scratch, other_scratch),
-                differs(loader, other_loader)
+                 found {found:?}, first other byte of cover, scratch, loader, contents {places:?}"
             )
         };
-        self.tally.check(same, told);
+        tally.check(same, told);
+    }
+
+    /// The areas of the second mapper.
+    fn second_areas(&mut self) -> Areas<'_> {
+        Areas {
+            cover: &mut self.cover[1],
+            scratch: &mut self.scratch[1],
+            loader: &mut self.loader[1],
+            contents: &mut self.contents[1],
+        }
+    }
+
+    /// The library's answer.
+    fn found(&mut self, net: &[u8], k: u32, target: u32, call: Call) -> Result<usize, u8> {
+        let (cover, scratch) = (&mut self.cover[0], &mut self.scratch[0]);
+        let (loader, contents) = (&mut self.loader[0], &mut self.contents[0]);
+        match (call, self.course) {
+            (Call::Plain, SHORT) => kamfelu::short_map(net, k, target, cover, scratch),
+            (Call::Plain, _) => kamfelu::map(net, k, target, cover, scratch),
+            (Call::Loader(_), _) => kamfelu::map_loader(net, k, target, cover, scratch, loader),
+            (Call::Forward { .. }, _) => {
+                kamfelu::map_forward(net, k, target, cover, scratch, loader, contents)
+            }
+        }
     }
 
     /// Mark of one record. The answer expected is given, for a scratch that is long enough,
@@ -333,7 +358,7 @@ impl Sides {
         length: usize,
         expected: Option<Answer>,
     ) {
-        self.fill_scratch(random, length);
+        Sides::fill(&mut self.scratch, &self.noise, random, length);
         let [scratch, other] = &mut self.scratch;
         let expected = match expected {
             Some(expected) => {
@@ -365,21 +390,36 @@ impl Sides {
 
     /// Map of a random net at its least period and at some targets.
     pub fn random_maps(&mut self, random: &mut Random) {
-        self.some_maps(random, |_| None);
+        let net = some_net(random);
+        self.some_maps(random, net, |_| Call::Plain);
     }
 
     /// The same with a loader area.
     pub fn random_loads(&mut self, random: &mut Random) {
-        self.some_maps(random, |random| Some(some_loader(random)));
+        let net = some_net(random);
+        self.some_maps(random, net, |random| Call::Loader(some_loader(random)));
     }
 
-    fn some_maps(&mut self, random: &mut Random, loader: fn(&mut Random) -> Option<usize>) {
-        let (net, pins) = some_net(random);
+    /// The same in forward mode.
+    pub fn random_forwards(&mut self, random: &mut Random) {
+        let net = some_forward_net(random);
+        self.some_maps(random, net, |random| Call::Forward {
+            loader: some_loader(random),
+            contents: some_contents(random),
+        });
+    }
+
+    fn some_maps(
+        &mut self,
+        random: &mut Random,
+        (net, pins): (Vec<u8>, usize),
+        call: fn(&mut Random) -> Call,
+    ) {
         let k = some_k(random, pins);
         let lengths = Lengths {
             cover: COVER_BYTES,
             scratch: SCRATCH_BYTES,
-            loader: loader(random),
+            call: call(random),
         };
         self.map(random, &net, k, 0, lengths);
         // The record's first byte, the least period where there was one.
@@ -387,11 +427,11 @@ impl Sides {
         for _ in 0..random.within(1, 4) {
             let target = some_target(random, least);
             let (cover, scratch) = some_lengths(random);
-            let loader = loader(random);
+            let call = call(random);
             let lengths = Lengths {
                 cover,
                 scratch,
-                loader,
+                call,
             };
             self.map(random, &net, k, target, lengths);
         }
@@ -443,6 +483,49 @@ fn answer(found: Result<usize, u8>) -> Answer {
     match found {
         Ok(number) => Answer::Done(number as u32),
         Err(number) => Answer::Refused(number),
+    }
+}
+
+/// What can be said of an answer without listing cuts. What its record asks for is written to the second
+/// mapper's areas.
+fn fits(
+    found: Result<usize, u8>,
+    net: &[u8],
+    k: u32,
+    target: u32,
+    mode: Mode,
+    areas: Areas,
+    record: &[u8],
+) -> bool {
+    areas.scratch[..SCRATCH_BYTES].fill(0);
+    let (net, section) = read_with_section(net, k).expect("a good net");
+    let length = match found {
+        Ok(length) => length,
+        Err(number) => return number == unreachable(mode) && target != 0,
+    };
+    let Ok(read) = read_record(&net, k, &record[..length]) else {
+        return false;
+    };
+    areas.cover[..length].copy_from_slice(&record[..length]);
+    if !areas.loader.is_empty() {
+        let image = image(&read);
+        areas.loader[..image.len()].copy_from_slice(&image);
+    }
+    let good = check_cover(&net, &read).is_ok() && (mode == Mode::Plain || is_forward(&net, &read));
+    if good && !areas.contents.is_empty() {
+        let first = first_contents(&net, &section.expect("a section"), &read);
+        areas.contents[..first.len()].copy_from_slice(&first);
+    }
+    good && (target == 0 || read.period == target)
+}
+
+/// Mostly a contents area that is long enough; none and short ones among them.
+fn some_contents(random: &mut Random) -> usize {
+    match random.below(10) {
+        0 | 1 => 0,
+        2 => random.pick(&[1, 99, 961, 20_000, 20_591, 20_591]),
+        3 => random.pick(&[20_600, 65_536, 99_999]),
+        _ => random.within(CONTENTS_BYTES, CONTENTS_BYTES + 1),
     }
 }
 
@@ -540,6 +623,58 @@ pub fn some_section(random: &mut Random, net: Vec<u8>) -> Vec<u8> {
         _ => {}
     }
     with_section(&net, &section)
+}
+
+/// Net bytes of all kinds, most of them with a section.
+pub fn some_forward_net(random: &mut Random) -> (Vec<u8>, usize) {
+    let pins = random.within(2, 4);
+    let (bytes, pins) = match random.below(10) {
+        0..=3 => some_net(random),
+        4..=6 => (encode_with_holes(&late_outputs(random, pins), random), pins),
+        7 | 8 => (encode_with_holes(&tangled(random, pins), random), pins),
+        _ => {
+            let (family, gates) = (random.below(FAMILIES.len()), random.within(4, 16));
+            (encode(&of_family(family, random, gates, pins)), pins)
+        }
+    };
+    (mostly_sectioned(random, bytes), pins)
+}
+
+/// Registers at the outputs, which no forward cover moves into the net.
+fn late_outputs(random: &mut Random, pins: usize) -> Net {
+    let gates = random.pick(&[4, 8, 8, 16, 32]);
+    let shape = deep(random, gates, pins);
+    let mut net = random_net(random, &shape);
+    for output in &mut net.outputs {
+        output.count = random.within(1, 3) as u32;
+    }
+    net
+}
+
+/// Few inputs, many registers and loops: labels climb from far below, and members have many different d.
+fn tangled(random: &mut Random, pins: usize) -> Net {
+    let shape = Shape {
+        inputs: (1, 2),
+        gates: (4, random.pick(&[6, 8, 12])),
+        outputs: (1, 2),
+        pins: (random.within(1, 2), pins),
+        count: 3,
+        registers: random.pick(&[40, 60]),
+        back: random.pick(&[30, 50]),
+        twin: 0,
+        input: random.pick(&[10, 30]),
+    };
+    random_net(random, &shape)
+}
+
+/// Nine of ten nets that are read and have no section get one.
+pub fn mostly_sectioned(random: &mut Random, net: Vec<u8>) -> Vec<u8> {
+    match parse_with_section(&net, 6) {
+        Ok((read, None)) if random.chance(90) => {
+            with_section(&net, &random_section(read.nodes(), random))
+        }
+        _ => net,
+    }
 }
 
 /// The listing program on a random net, against the second mapper's text.

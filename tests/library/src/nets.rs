@@ -2,6 +2,7 @@
 
 use second::encode::{encode, with_section};
 use second::generate::{random_net, Shape};
+use second::rare;
 use second::{lut_table, Cover, Gate, Lut, Net, NodeCopy, Pin, Random};
 
 pub const AND: u64 = 8;
@@ -419,8 +420,52 @@ pub fn with_sections() -> Vec<Vec<u8>> {
     nets
 }
 
-/// Document 01's nets, lines around the limits, the largest record, one net of each family and nets with a
-/// section, as records.
+/// Net C with a second output, which reads input 0 through two registers, and a section, as a record.
+pub fn c_with_two_outputs() -> Vec<u8> {
+    let two = net(2, &[(&[(0, 1), (1, 1)], AND)], &[(2, 0), (0, 2)]);
+    with_section(&encode(&two), &[1, 3, 7])
+}
+
+/// A line of 32 gates behind three registers each, and three at the output, with a section: one LUT with lag -96
+/// and 99 registers behind it.
+pub fn longest_connection() -> Vec<u8> {
+    let mut line = line(32, 3);
+    line.outputs[0].count = 3;
+    let section: Vec<u8> = (0..33).map(|node| node * 5 % 8).collect();
+    with_section(&encode(&line), &section)
+}
+
+/// 16 outputs behind 99 registers each: as many as outputs can have.
+pub fn longest_outputs() -> Vec<u8> {
+    let mut line = line(32, 3);
+    line.outputs = vec![
+        Pin {
+            source: 32,
+            count: 3
+        };
+        16
+    ];
+    with_section(&encode(&line), &[5; 33])
+}
+
+/// Nets for forward covers, as records: those whose boards have most registers, and those on which a shortcut
+/// goes wrong, with a section and without.
+pub fn for_forward() -> Vec<Vec<u8>> {
+    let mut nets = vec![
+        c_with_two_outputs(),
+        longest_connection(),
+        longest_outputs(),
+    ];
+    for rare in rare::all() {
+        let nodes = usize::from(rare.net[0] + rare.net[1]);
+        nets.push(with_section(&rare.net, &vec![6; nodes]));
+        nets.push(rare.net);
+    }
+    nets
+}
+
+/// Document 01's nets, lines around the limits, the largest record, one net of each family, nets with a section
+/// and nets for forward covers, as records.
 pub fn hand_made() -> Vec<Vec<u8>> {
     let mut nets = vec![
         net_a(),
@@ -437,5 +482,6 @@ pub fn hand_made() -> Vec<Vec<u8>> {
         nets.push(encode(&of_family(family, &mut Random::new(7), 6, 2)));
     }
     nets.extend(with_sections());
+    nets.extend(for_forward());
     nets
 }

@@ -5,11 +5,16 @@ use std::path::{Path, PathBuf};
 use std::process::Command;
 
 /// The examples, and what each prints.
-const PRINTED: [(&str, &str); 5] = [
+const PRINTED: [(&str, &str); 6] = [
     ("map_and_mark", "map: 16 bytes, period 2\nmark: excess 1\n"),
     (
         "loader",
         "map: 16 bytes, 2 LUTs\n88 88 88 88 88 88 88 88\n99 99 99 99 99 99 99 99\n",
+    ),
+    (
+        "forward",
+        "map: 13 bytes, period 1\nleaf 0:1 of LUT 2, registers 0\nleaf 1:1 of LUT 2, registers 0\n\
+         output 0, registers 1: 1\noutput 1, registers 2: 1 0\n",
     ),
     ("class", "class of 232: 23\n"),
     ("align", "align: shift 3\n"),

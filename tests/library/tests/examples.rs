@@ -84,7 +84,9 @@ fn lags_at_period_2() {
         let record = map_net(net, 2, 2).expect("a record");
         let checked = second::read_net(&encode(net), 2).expect("a net");
         let cover = second::read_record(&checked, 2, &record).expect("a cover");
-        let second::Outcome::Labels(labels) = second::least_labels(&checked, 2, 2) else {
+        let second::Outcome::Labels(labels) =
+            second::least_labels(&checked, second::Mode::Plain, 2, 2)
+        else {
             panic!("not reachable");
         };
         let last = cover.luts.last().expect("a LUT");

@@ -3,7 +3,8 @@
 
 use kamfelu::{COVER_AREA, LOADER_AREA, SCRATCH};
 use library::compare::{
-    all_maps, cases, each_thread, on_threads, random_calls, seed, some_k, some_net, Lengths, Sides,
+    all_maps, cases, each_thread, on_threads, random_calls, seed, some_k, some_net, Call, Lengths,
+    Sides,
 };
 use library::nets::{hand_made, largest_record, net, net_a, net_b, net_c, real, Read};
 use second::encode::encode;
@@ -67,13 +68,13 @@ fn random_and_damaged_nets() {
 /// Every k from 0 to 8 and the huge ones with the small targets, the limits and the huge ones.
 #[test]
 fn hand_made_nets_with_all_k() {
-    let loaders = [0, 1, 255, 256, 257].map(Some);
+    let loaders = [0, 1, 255, 256, 257].map(Call::Loader);
     all_maps(LONG, &hand_made(), &[0, 1, 2, 3, 31, 32, 33], &loaders);
 }
 
 #[test]
 fn real_nets() {
-    all_maps(LONG, &real(), &[0, 2, 32], &[Some(255), Some(256)]);
+    all_maps(LONG, &real(), &[0, 2, 32], &[255, 256].map(Call::Loader));
 }
 
 /// All lengths around the limits, for nets that are mapped and some that are refused: 20 comes behind 3 and
@@ -97,7 +98,7 @@ fn areas_around_the_limits() {
                         let lengths = Lengths {
                             cover,
                             scratch,
-                            loader: Some(loader),
+                            call: Call::Loader(loader),
                         };
                         for (k, target) in [(2, 0), (6, 0), (2, 1), (1, 0), (2, 33), (7, 33)] {
                             sides.map(&mut random, net, k, target, lengths);

@@ -1,6 +1,6 @@
 //! The library's map against the second mapper's: answers, cover areas and scratch, whole.
 
-use library::compare::{all_maps, cases, on_threads, random_calls, Lengths, Sides};
+use library::compare::{all_maps, cases, on_threads, random_calls, Call, Lengths, Sides};
 use library::nets::{hand_made, largest_record, net_a, real};
 use second::encode::encode;
 use second::jobs::LONG;
@@ -21,13 +21,13 @@ fn random_and_damaged_nets() {
 #[test]
 fn hand_made_nets_with_all_k_and_targets() {
     let targets: Vec<u32> = (0..=40).collect();
-    all_maps(LONG, &hand_made(), &targets, &[None]);
+    all_maps(LONG, &hand_made(), &targets, &[Call::Plain]);
 }
 
 /// The nets of real designs, with the small targets and the largest.
 #[test]
 fn real_nets() {
-    all_maps(LONG, &real(), &[0, 1, 2, 3, 4, 32], &[None]);
+    all_maps(LONG, &real(), &[0, 1, 2, 3, 4, 32], &[Call::Plain]);
 }
 
 /// All lengths around the limits, for a net that is mapped and some that are refused.
@@ -43,7 +43,7 @@ fn areas_around_the_limits() {
                     let lengths = Lengths {
                         cover,
                         scratch,
-                        loader: None,
+                        call: Call::Plain,
                     };
                     for (k, target) in [(2, 0), (6, 0), (2, 1), (1, 0), (2, 33), (7, 33)] {
                         sides.map(&mut random, net, k, target, lengths);

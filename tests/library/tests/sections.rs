@@ -1,5 +1,6 @@
-//! A section changes no cover (document 02, E5): map, with a loader area and without, mark and both of the
-//! short course on a net with a section and on the same net without it; answers and areas, whole.
+//! A section changes no cover (document 02, E5): map, with a loader area and without, forward map without
+//! contents, mark and both of the short course on a net with a section and on the same net without it; answers
+//! and areas, whole.
 
 use kamfelu::{COVER_AREA, LOADER_AREA, SCRATCH};
 use library::compare::{cases, each_thread, seed, some_k, some_net, LIMITS};
@@ -11,10 +12,13 @@ use second::{parse_net, Random};
 /// A job over a net, k, a target, a cover area or record, a scratch and a loader area.
 type Job = fn(&[u8], u32, u32, &mut [u8], &mut [u8], &mut [u8]) -> Result<usize, u8>;
 
-const MAPS: [Job; 3] = [
+const MAPS: [Job; 4] = [
     |net, k, target, cover, scratch, _| kamfelu::map(net, k, target, cover, scratch),
     |net, k, target, cover, scratch, _| kamfelu::short_map(net, k, target, cover, scratch),
     kamfelu::map_loader,
+    |net, k, target, cover, scratch, loader| {
+        kamfelu::map_forward(net, k, target, cover, scratch, loader, &mut [])
+    },
 ];
 const MARKS: [Job; 2] = [
     |net, k, _, record, scratch, _| kamfelu::mark(net, k, record, scratch),

@@ -1,7 +1,9 @@
 //! Map and mark of the short course against the second mapper's, and against those of the long course
 //! on the same inputs: answers, cover areas and scratch, whole.
 
-use library::compare::{all_maps, cases, on_threads, random_calls, seed, some_k, some_net, Sides};
+use library::compare::{
+    all_maps, cases, on_threads, random_calls, seed, some_k, some_net, Call, Sides,
+};
 use library::nets::hand_made;
 use second::jobs::{SCRATCH_BYTES, SHORT};
 use second::Random;
@@ -26,7 +28,7 @@ fn random_candidates() {
 #[test]
 fn hand_made_nets_with_all_k() {
     let targets: Vec<u32> = (0..=9).chain(31..=34).collect();
-    all_maps(SHORT, &hand_made(), &targets, &[None]);
+    all_maps(SHORT, &hand_made(), &targets, &[Call::Plain]);
 }
 
 /// Both courses on the same inputs: the same within both, and beyond 1, then 5.

@@ -2,7 +2,7 @@
 //! registers reads an earlier gate, with the last three values of each node kept.
 
 use crate::jobs::LONG;
-use crate::net::{check_net, parse_with_section, Gate, Net, Pin};
+use crate::net::{read_with_section, Gate, Net, Pin};
 
 /// The most steps that are run.
 pub const MOST_STEPS: usize = 65_535;
@@ -49,6 +49,11 @@ impl<'a> Bench<'a> {
             .collect()
     }
 
+    /// Each node's value at the last step.
+    pub fn now(&self) -> Vec<bool> {
+        self.values.iter().map(|values| values[0]).collect()
+    }
+
     fn read(&self, pin: &Pin) -> bool {
         self.values[pin.source][pin.count as usize]
     }
@@ -59,8 +64,7 @@ pub fn bench(k: u32, net: &[u8], pairs: &[u8]) -> Result<String, u8> {
     if !(2..=LONG.k).contains(&k) {
         return Err(1);
     }
-    let (net, section) = parse_with_section(net, k)?;
-    check_net(&net)?;
+    let (net, section) = read_with_section(net, k)?;
     let mut bench = Bench::new(&net, &section.ok_or(21)?);
     let mut text = String::new();
     for pair in pairs.chunks_exact(2).take(MOST_STEPS) {

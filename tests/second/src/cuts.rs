@@ -14,10 +14,11 @@
 
 use crate::net::{Net, NodeCopy};
 
-/// The leaves of a cone, rising by node, then by d.
+/// The leaves of a cone, rising by node, then by d, and the largest d of its members.
 #[derive(Clone, Debug, PartialEq, Eq, PartialOrd, Ord)]
 pub struct Cut {
     pub leaves: Vec<NodeCopy>,
+    pub deepest: u32,
 }
 
 /// Where the search for one gate's cuts gives up.
@@ -125,6 +126,8 @@ struct Search<'a> {
     /// Met gate copies in the order of meeting; decided from the front.
     row: Vec<NodeCopy>,
     leaves: Vec<NodeCopy>,
+    /// The largest d of the members.
+    deepest: u32,
     found: Vec<Cut>,
     steps: usize,
 }
@@ -146,6 +149,7 @@ impl<'a> Search<'a> {
             open: 0,
             row: Vec::new(),
             leaves: Vec::new(),
+            deepest: 0,
             found: Vec::new(),
             steps: 0,
         }
@@ -243,7 +247,10 @@ impl<'a> Search<'a> {
                 fresh.push(feed);
             }
         }
+        let before = self.deepest;
+        self.deepest = before.max(copy.d);
         let finished = self.decide(next + 1);
+        self.deepest = before;
         for &feed in fresh.iter().rev() {
             self.forget(feed);
         }
@@ -256,7 +263,8 @@ impl<'a> Search<'a> {
         }
         let mut leaves = self.leaves.clone();
         leaves.sort_unstable();
-        self.found.push(Cut { leaves });
+        let deepest = self.deepest;
+        self.found.push(Cut { leaves, deepest });
         true
     }
 }

@@ -3,6 +3,7 @@
 use crate::cone::lut_table;
 use crate::cover::{write_record, Cover, Lut};
 use crate::cuts::{CutSets, Limits};
+use crate::labels::Mode;
 use crate::mark::longest_chain;
 use crate::net::{Net, NodeCopy};
 use crate::random::Random;
@@ -47,9 +48,9 @@ pub fn damaged_net(random: &mut Random, bytes: &[u8]) -> Vec<u8> {
 /// None if the cuts are too many.
 pub fn candidate(random: &mut Random, net: &Net, k: u32, limits: Limits) -> Option<Vec<u8>> {
     let mut cover = if random.chance(40) {
-        let (least, _) = solve(net, k, 0, limits).ok()?;
+        let (least, _) = solve(net, Mode::Plain, k, 0, limits).ok()?;
         let target = (least.period + random.below(3) as u32).min(32);
-        solve(net, k, target, limits).ok()?.0
+        solve(net, Mode::Plain, k, target, limits).ok()?.0
     } else {
         free_cover(random, net, &CutSets::new(net, k, limits)?)
     };

@@ -1,10 +1,12 @@
-//! The jobs map and mark with all refusals, and what they do to the areas.
+//! The jobs map, plain and forward, and mark with all refusals, and what they do to the areas.
 
+use crate::contents::{first_contents, CONTENTS_BYTES};
 use crate::cover::{read_record, write_record, Cover};
 use crate::cuts::Limits;
+use crate::labels::Mode;
 use crate::loader::{image, LOADER_BYTES};
 use crate::mark::check_cover;
-use crate::net::{read_net, Net};
+use crate::net::{read_with_section, Net, Section};
 use crate::solve::{least_period_within, solve, Stop};
 
 /// The least lengths of the two areas.
@@ -42,11 +44,13 @@ impl From<Stop> for Answer {
     }
 }
 
-/// The areas lent to map. A loader area of length 0 counts as none.
+/// The areas lent to map. A loader area or contents area of length 0 counts as none; plain mode has no
+/// contents.
 pub struct Areas<'a> {
     pub cover: &'a mut [u8],
     pub scratch: &'a mut [u8],
     pub loader: &'a mut [u8],
+    pub contents: &'a mut [u8],
 }
 
 /// The cover of a net for k and a target is written to the cover area.
@@ -67,13 +71,43 @@ pub fn map_loader(
         cover,
         scratch,
         loader,
+        contents: &mut [],
     };
-    map_within(LONG, Limits::default(), net, k, target, areas)
+    map_within(LONG, Mode::Plain, Limits::default(), net, k, target, areas)
+}
+
+/// Map to a forward cover (document 02, E6), its image to the loader area and the first contents of its
+/// registers to the contents area, if these are lent.
+pub fn map_forward(
+    net: &[u8],
+    k: u32,
+    target: u32,
+    cover: &mut [u8],
+    scratch: &mut [u8],
+    loader: &mut [u8],
+    contents: &mut [u8],
+) -> Answer {
+    let areas = Areas {
+        cover,
+        scratch,
+        loader,
+        contents,
+    };
+    map_within(
+        LONG,
+        Mode::Forward,
+        Limits::default(),
+        net,
+        k,
+        target,
+        areas,
+    )
 }
 
 /// The same of a course, with limits of one's own.
 pub fn map_within(
     course: Course,
+    mode: Mode,
     limits: Limits,
     net: &[u8],
     k: u32,
@@ -86,17 +120,28 @@ pub fn map_within(
     if target > MOST_TARGET {
         return Answer::Refused(2);
     }
-    if areas.cover.len() < COVER_BYTES || areas.scratch.len() < SCRATCH_BYTES {
+    let contents = match mode {
+        Mode::Plain => &mut [],
+        Mode::Forward => areas.contents,
+    };
+    let short = |area: &[u8], least: usize| (1..least).contains(&area.len());
+    if areas.cover.len() < COVER_BYTES
+        || areas.scratch.len() < SCRATCH_BYTES
+        || short(contents, CONTENTS_BYTES)
+    {
         return Answer::Refused(3);
     }
-    let short = (1..LOADER_BYTES).contains(&areas.loader.len());
-    let mapped = if short {
+    let wanted = !contents.is_empty();
+    let mapped = if short(areas.loader, LOADER_BYTES) {
         Err(Stop::Refused(20))
     } else {
-        map_cover(course, limits, net, k, target)
+        map_cover(course, mode, limits, net, k, target, wanted)
     };
     let answer = match mapped {
-        Ok(cover) => Answer::Done(write(&cover, areas.cover, areas.loader)),
+        Ok((cover, first)) => {
+            contents[..first.len()].copy_from_slice(&first);
+            Answer::Done(write(&cover, areas.cover, areas.loader))
+        }
         Err(stop) => Answer::from(stop),
     };
     if answer != Answer::GaveUp {
@@ -119,23 +164,33 @@ fn write(cover: &Cover, area: &mut [u8], loader: &mut [u8]) -> u32 {
 
 /// A net of a course. Where its second byte says too many gates the walk ends there at the latest,
 /// and its first byte can only be refused with 5 too.
-fn net_of(course: Course, net: &[u8], k: u32) -> Result<Net, Stop> {
+fn net_of(course: Course, net: &[u8], k: u32) -> Result<(Net, Option<Section>), Stop> {
     if net.get(1).is_some_and(|&gates| gates > course.gates) {
         return Err(Stop::Refused(5));
     }
-    read_net(net, k).map_err(Stop::Refused)
+    read_with_section(net, k).map_err(Stop::Refused)
 }
 
+/// The cover and, if they are wanted, the first contents of its registers.
 fn map_cover(
     course: Course,
+    mode: Mode,
     limits: Limits,
     net: &[u8],
     k: u32,
     target: u32,
-) -> Result<Cover, Stop> {
-    let net = net_of(course, net, k)?;
-    let (cover, _) = solve(&net, k, target, limits)?;
-    Ok(cover)
+    contents: bool,
+) -> Result<(Cover, Vec<u8>), Stop> {
+    let (net, section) = net_of(course, net, k)?;
+    if contents && section.is_none() {
+        return Err(Stop::Refused(21));
+    }
+    let (cover, _) = solve(&net, mode, k, target, limits)?;
+    let first = match section.filter(|_| contents) {
+        Some(section) => first_contents(&net, &section, &cover),
+        None => Vec::new(),
+    };
+    Ok((cover, first))
 }
 
 /// The excess of a candidate's record: its period less the least period.
@@ -175,10 +230,10 @@ fn mark_excess(
     k: u32,
     record: &[u8],
 ) -> Result<u32, Stop> {
-    let net = net_of(course, net, k)?;
+    let (net, _) = net_of(course, net, k)?;
     let cover = read_record(&net, k, record).map_err(Stop::Refused)?;
     check_cover(&net, &cover).map_err(Stop::Refused)?;
-    let least = least_period_within(&net, k, limits).ok_or(Stop::GaveUp)?;
+    let least = least_period_within(&net, Mode::Plain, k, limits).ok_or(Stop::GaveUp)?;
     Ok(cover
         .period
         .checked_sub(least)

@@ -4,6 +4,25 @@ use crate::cone::cone_of;
 use crate::cuts::{Cut, CutSets, Limits};
 use crate::net::Net;
 
+/// Which covers are wanted: all of them, or the forward ones (document 02, E6). A cover is forward if for
+/// each LUT its lag and the largest d of its cone's members together are at most 0.
+#[derive(Clone, Copy, Debug, PartialEq, Eq)]
+pub enum Mode {
+    Plain,
+    Forward,
+}
+
+impl Mode {
+    /// The largest label of a gate that may take this cut: in forward mode label + phi*d is at most phi for
+    /// each member.
+    fn most(self, cut: &Cut, phi: i64) -> i64 {
+        match self {
+            Mode::Plain => i64::MAX,
+            Mode::Forward => phi * (1 - i64::from(cut.deepest)),
+        }
+    }
+}
+
 /// What a period gives.
 #[derive(Clone, Debug, PartialEq, Eq)]
 pub enum Outcome {
@@ -14,9 +33,9 @@ pub enum Outcome {
 }
 
 /// The least labelling of a checked net for the period phi.
-pub fn least_labels(net: &Net, k: u32, phi: u32) -> Outcome {
+pub fn least_labels(net: &Net, mode: Mode, k: u32, phi: u32) -> Outcome {
     match CutSets::new(net, k, Limits::default()) {
-        Some(cuts) => match least_labels_over(net, &cuts, phi) {
+        Some(cuts) => match least_labels_over(net, mode, &cuts, phi) {
             Some(labels) => Outcome::Labels(labels),
             None => Outcome::Unreachable,
         },
@@ -25,14 +44,14 @@ pub fn least_labels(net: &Net, k: u32, phi: u32) -> Outcome {
 }
 
 /// The same over cuts already listed; none if the period is not reachable.
-pub fn least_labels_over(net: &Net, cuts: &CutSets, phi: u32) -> Option<Vec<i64>> {
-    rise(net, cuts, phi, floors(net, phi))
+pub fn least_labels_over(net: &Net, mode: Mode, cuts: &CutSets, phi: u32) -> Option<Vec<i64>> {
+    rise(net, mode, cuts, phi, floors(net, phi))
 }
 
-/// Raise labels from a lower bound of all labellings until each gate has a cut of
-/// height at most its label. None once a label is above its ceiling: then no labelling
-/// satisfies the outputs.
-pub fn rise(net: &Net, cuts: &CutSets, phi: u32, floors: Vec<i64>) -> Option<Vec<i64>> {
+/// Raise labels from a lower bound of all labellings until each gate has a cut that fits
+/// its label. None once no cut fits any larger one, or a label is above its ceiling: then
+/// no labelling satisfies the outputs.
+pub fn rise(net: &Net, mode: Mode, cuts: &CutSets, phi: u32, floors: Vec<i64>) -> Option<Vec<i64>> {
     let phi = i64::from(phi);
     let ceilings: Vec<i64> = behind(net)
         .iter()
@@ -40,30 +59,31 @@ pub fn rise(net: &Net, cuts: &CutSets, phi: u32, floors: Vec<i64>) -> Option<Vec
         .collect();
     let order = net.order().expect("a loop has no register");
     let mut labels = floors;
-    // For each gate a cut that may still have a height of at most its label.
+    // For each gate a cut that may still fit its label.
     let mut witness = vec![0; net.nodes()];
     loop {
         let mut changed = false;
         for &v in &order {
             let set = cuts.of(v);
-            if height(&set[witness[v]], &labels, phi) <= labels[v] {
+            if fits(&set[witness[v]], mode, &labels, phi, labels[v]) {
                 continue;
             }
-            let mut least = i64::MAX;
+            let mut least = None;
             for (at, cut) in set.iter().enumerate() {
-                let height = height(cut, &labels, phi);
-                if height < least {
-                    least = height;
+                let label = label_from(cut, mode, &labels, phi, labels[v]);
+                if label.is_some() && (least.is_none() || label < least) {
+                    least = label;
                     witness[v] = at;
-                    if least <= labels[v] {
+                    if label == Some(labels[v]) {
                         break;
                     }
                 }
             }
-            if least > labels[v] {
-                labels[v] = least;
+            let label = least?;
+            if label > labels[v] {
+                labels[v] = label;
                 changed = true;
-                if least > ceilings[v] {
+                if label > ceilings[v] {
                     return None;
                 }
             }
@@ -87,6 +107,17 @@ pub fn height(cut: &Cut, labels: &[i64], phi: i64) -> i64 {
         .map(above)
         .max()
         .expect("a cut has a leaf")
+}
+
+/// The least label from `low` on that a cut fits: at least its height, at most what the mode allows.
+fn label_from(cut: &Cut, mode: Mode, labels: &[i64], phi: i64, low: i64) -> Option<i64> {
+    let label = height(cut, labels, phi).max(low);
+    (label <= mode.most(cut, phi)).then_some(label)
+}
+
+/// Whether a cut fits its gate's label.
+fn fits(cut: &Cut, mode: Mode, labels: &[i64], phi: i64, label: i64) -> bool {
+    label_from(cut, mode, labels, phi, label) == Some(label)
 }
 
 /// A lower bound of every labelling: 1 - phi times the fewest registers on a path
@@ -152,11 +183,18 @@ pub fn lag_of(label: i64, phi: u32) -> i64 {
     up - 1
 }
 
-/// Of the cuts of v with height at most its label, those with fewest leaves; of these
-/// the one whose cone lies inside all the others' cones.
-pub fn chosen_cut<'a>(net: &Net, cuts: &'a CutSets, labels: &[i64], phi: u32, v: usize) -> &'a Cut {
-    let low = |cut: &&Cut| height(cut, labels, i64::from(phi)) <= labels[v];
-    let candidates: Vec<&Cut> = cuts.of(v).iter().filter(low).collect();
+/// Of the cuts of v that fit its label, those with fewest leaves; of these the one whose
+/// cone lies inside all the others' cones.
+pub fn chosen_cut<'a>(
+    net: &Net,
+    mode: Mode,
+    cuts: &'a CutSets,
+    labels: &[i64],
+    phi: u32,
+    v: usize,
+) -> &'a Cut {
+    let fits = |cut: &&Cut| fits(cut, mode, labels, i64::from(phi), labels[v]);
+    let candidates: Vec<&Cut> = cuts.of(v).iter().filter(fits).collect();
     let fewest = candidates.iter().map(|cut| cut.leaves.len()).min();
     let fewest = fewest.expect("a label without a cut");
     let mut tied = Vec::new();

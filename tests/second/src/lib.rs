@@ -8,9 +8,11 @@
 
 pub mod align;
 pub mod bench;
+pub mod board;
 pub mod bytes;
 pub mod classes;
 pub mod cone;
+pub mod contents;
 pub mod cover;
 pub mod cuts;
 pub mod damage;
@@ -25,21 +27,25 @@ pub mod mark;
 pub mod net;
 pub mod programs;
 pub mod random;
+pub mod rare;
 pub mod run;
 pub mod solve;
 
 pub use align::align;
 pub use bench::{bench, Bench};
+pub use board::Board;
 pub use classes::class_table;
 pub use cone::{cone_of, lut_table, lut_value};
+pub use contents::first_contents;
 pub use cover::{read_record, write_record, Cover, Lut};
 pub use cuts::{all_cuts, all_cuts_within, Cut, CutSets, Limits};
 pub use find::find_root;
-pub use jobs::{map, map_loader, map_within, mark, mark_within, Answer, Areas};
-pub use labels::{chosen_cut, lag_of, least_labels, least_labels_over, Outcome};
+pub use jobs::{map, map_forward, map_loader, map_within, mark, mark_within, Answer, Areas};
+pub use labels::{chosen_cut, lag_of, least_labels, least_labels_over, Mode, Outcome};
 pub use listing::{listing, listing_within};
 pub use net::{
-    check_net, parse_net, parse_with_section, read_net, Gate, Net, NodeCopy, Output, Pin, Section,
+    check_net, parse_net, parse_with_section, read_net, read_with_section, Gate, Net, NodeCopy,
+    Output, Pin, Section,
 };
 pub use random::Random;
 pub use solve::{least_period, solve, Stop};

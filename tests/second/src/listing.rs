@@ -3,6 +3,7 @@
 use crate::cover::Cover;
 use crate::cuts::Limits;
 use crate::jobs::MOST_TARGET;
+use crate::labels::Mode;
 use crate::net::{read_net, Net};
 use crate::solve::{solve, Stop};
 use std::fmt::Write;
@@ -36,7 +37,7 @@ fn lines(limits: Limits, k: u32, target: u32, net: &[u8]) -> Result<String, Stop
         return Err(Stop::Refused(2));
     }
     let net = read_net(net, k).map_err(Stop::Refused)?;
-    let (cover, labels) = solve(&net, k, target, limits)?;
+    let (cover, labels) = solve(&net, Mode::Plain, k, target, limits)?;
     Ok(text(&net, &cover, &labels))
 }
 

@@ -30,6 +30,15 @@ pub fn check_cover(net: &Net, cover: &Cover) -> Result<(), u8> {
     Ok(())
 }
 
+/// Whether a cover that passed 14 is forward (document 02, E6): lag and largest d of the cone's members together
+/// are at most 0 for each LUT.
+pub fn is_forward(net: &Net, cover: &Cover) -> bool {
+    cover.luts.iter().all(|lut| {
+        let cone = cone_of(net, lut.root, &lut.leaves).expect("a cone");
+        cone.iter().all(|copy| lut.lag + i64::from(copy.d) <= 0)
+    })
+}
+
 /// The number of LUTs in the longest chain without registers. The cover passed 14,
 /// 16 and 17, so no such chain returns to its start.
 pub fn longest_chain(net: &Net, cover: &Cover) -> u32 {

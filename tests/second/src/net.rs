@@ -234,7 +234,12 @@ pub fn check_net(net: &Net) -> Result<(), u8> {
 
 /// Read a net record and check the net: 4 to 11.
 pub fn read_net(bytes: &[u8], k: u32) -> Result<Net, u8> {
-    let net = parse_net(bytes, k)?;
+    read_with_section(bytes, k).map(|(net, _)| net)
+}
+
+/// The same with the section, if the record has one.
+pub fn read_with_section(bytes: &[u8], k: u32) -> Result<(Net, Option<Section>), u8> {
+    let (net, section) = parse_with_section(bytes, k)?;
     check_net(&net)?;
-    Ok(net)
+    Ok((net, section))
 }

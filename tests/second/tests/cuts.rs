@@ -4,18 +4,18 @@ mod common;
 
 use common::{grown_cuts, tiny_net};
 use second::generate::{random_net, Shape};
-use second::{all_cuts, cone_of, NodeCopy, Random};
+use second::{all_cuts, cone_of, Cut, Random};
 
 /// The cones of these cuts, by the walk back, agree with the grown ones.
 fn compare(net: &second::Net, v: usize, k: u32, grown: Vec<common::ConeAndLeaves>) {
-    let mut expected: Vec<Vec<NodeCopy>> = Vec::new();
+    let mut expected: Vec<Cut> = Vec::new();
     for (cone, leaves) in grown {
+        let deepest = cone.iter().map(|copy| copy.d).max().expect("the root");
         assert_eq!(cone_of(net, v, &leaves), Some(cone));
-        expected.push(leaves);
+        expected.push(Cut { leaves, deepest });
     }
     expected.sort();
-    let cuts = all_cuts(net, v, k).unwrap();
-    let found: Vec<Vec<NodeCopy>> = cuts.into_iter().map(|cut| cut.leaves).collect();
+    let found = all_cuts(net, v, k).unwrap();
     assert_eq!(found, expected, "gate {v} of {net:?} at k {k}");
 }
 

@@ -45,7 +45,7 @@ fn a_at_k_3_has_a_tie() {
     assert!(inner.len() < outer.len() && inner.iter().all(|copy| outer.contains(copy)));
     let labels = vec![0, 0, 1, 1, 1];
     assert_eq!(
-        second::least_labels(&net, 3, 1),
+        second::least_labels(&net, second::Mode::Plain, 3, 1),
         second::Outcome::Labels(labels)
     );
 }

@@ -2,9 +2,11 @@
 //! the programs print what it says. The second mapper stands for the programs.
 
 use second::bytes::table_bytes;
+use second::contents::CONTENTS_BYTES;
+use second::jobs::{COVER_BYTES, SCRATCH_BYTES};
 use second::loader::image;
 use second::programs::{bench, listing, map, mark};
-use second::{read_net, solve, Cover, Limits, Lut, NodeCopy};
+use second::{map_forward, read_net, solve, Answer, Cover, Limits, Lut, Mode, NodeCopy};
 use std::fs;
 use std::path::Path;
 use std::process::Command;
@@ -89,7 +91,7 @@ fn bench_of_net_c() {
 fn loader_image() {
     let heading = "The loader image";
     let net = read_net(&file("examples/net-a.bin")[2..], 2).expect("net A");
-    let (cover, _) = solve(&net, 2, 0, Limits::default()).expect("a cover");
+    let (cover, _) = solve(&net, Mode::Plain, 2, 0, Limits::default()).expect("a cover");
     assert_eq!(column(heading), image(&cover));
     // A row for each number of leaves: a table as the record has it, then its image, if that is another.
     let text = section(heading);
@@ -118,6 +120,20 @@ fn loader_image() {
         assert_eq!(quoted.next().unwrap_or(table), image(&cover), "{row:?}");
     }
     assert_eq!(leaves, 6);
+}
+
+#[test]
+fn first_contents() {
+    let heading = "First contents";
+    let blocks = blocks(heading, "");
+    let (mut cover, mut scratch) = (vec![0; COVER_BYTES], vec![0; SCRATCH_BYTES]);
+    let mut contents = vec![7; CONTENTS_BYTES];
+    let areas = (&mut cover, &mut scratch, &mut contents);
+    let answer = map_forward(&bytes(&blocks[0]), 2, 1, areas.0, areas.1, &mut [], areas.2);
+    let record = bytes(&blocks[1]);
+    assert_eq!(answer, Answer::Done(record.len() as u32));
+    assert!(cover.starts_with(&record));
+    assert!(contents.starts_with(&[&column(heading)[..], &[7]].concat()));
 }
 
 #[test]

@@ -4,19 +4,32 @@ mod common;
 
 use common::{grown_cuts, tiny_net, ConeAndLeaves};
 use second::labels::rise;
-use second::{least_labels, least_labels_over, solve, CutSets, Limits, Net, Outcome, Random};
+use second::{least_labels, least_labels_over, solve, CutSets, Limits, Mode, Net, Outcome, Random};
 
-/// The largest of label(u) - phi*d + 1 over the leaves is at most h.
-fn at_most(cut: &ConeAndLeaves, labels: &[i64], phi: i64, h: i64) -> bool {
-    cut.1
-        .iter()
-        .all(|leaf| labels[leaf.node] - phi * i64::from(leaf.d) < h)
+const MODES: [Mode; 2] = [Mode::Plain, Mode::Forward];
+
+/// The largest of label(u) - phi*d + 1 over the leaves is at most the label; in forward mode
+/// label + phi*d is at most phi for each member.
+fn fits(cut: &ConeAndLeaves, mode: Mode, labels: &[i64], phi: i64, label: i64) -> bool {
+    let (cone, leaves) = cut;
+    let mut heights = leaves.iter();
+    let mut members = cone.iter();
+    heights.all(|leaf| labels[leaf.node] - phi * i64::from(leaf.d) < label)
+        && (mode == Mode::Plain || members.all(|copy| label + phi * i64::from(copy.d) <= phi))
 }
 
-fn is_labelling(net: &Net, cuts: &[Vec<ConeAndLeaves>], labels: &[i64], phi: i64) -> bool {
-    net.gate_nodes()
-        .zip(cuts)
-        .all(|(v, set)| set.iter().any(|cut| at_most(cut, labels, phi, labels[v])))
+fn is_labelling(
+    net: &Net,
+    mode: Mode,
+    cuts: &[Vec<ConeAndLeaves>],
+    labels: &[i64],
+    phi: i64,
+) -> bool {
+    let mut gates = net.gate_nodes().zip(cuts);
+    gates.all(|(v, set)| {
+        set.iter()
+            .any(|cut| fits(cut, mode, labels, phi, labels[v]))
+    })
 }
 
 fn outputs_hold(net: &Net, labels: &[i64], phi: i64) -> bool {
@@ -39,10 +52,41 @@ fn each_labels(net: &Net, low: i64, high: i64, mut see: impl FnMut(&[i64])) {
     }
 }
 
+/// The least labelling among all that there are, if it satisfies the outputs; none if there are too many.
+fn least_by_trying(
+    net: &Net,
+    mode: Mode,
+    cuts: &[Vec<ConeAndLeaves>],
+    phi: i64,
+) -> Option<Outcome> {
+    // No labelling is lower, and no least labelling is above the number of gates.
+    let low = 1 - phi * i64::from(net.most_registers()) - 1;
+    let high = net.gates.len() as i64 + 1;
+    if (high - low + 1).pow(net.gates.len() as u32) > 5000 {
+        return None;
+    }
+    let mut all: Vec<Vec<i64>> = Vec::new();
+    each_labels(net, low, high, |labels| {
+        if is_labelling(net, mode, cuts, labels, phi) {
+            all.push(labels.to_vec());
+        }
+    });
+    let least = |node: usize| all.iter().map(|labels| labels[node]).min();
+    let least: Option<Vec<i64>> = (0..net.nodes()).map(least).collect();
+    Some(match least {
+        Some(labels) if outputs_hold(net, &labels, phi) => {
+            assert!(all.contains(&labels));
+            Outcome::Labels(labels)
+        }
+        _ => Outcome::Unreachable,
+    })
+}
+
 #[test]
 fn least_labelling_by_trying_all() {
     let mut random = Random::new(21);
-    let (mut reachable, mut unreachable) = (0, 0);
+    // By mode: reachable, unreachable.
+    let mut counts = [[0; 2]; 2];
     for _ in 0..2500 {
         let (net, k) = tiny_net(&mut random);
         let grown = |v| grown_cuts(&net, v, k as usize, k as usize, 2000);
@@ -50,58 +94,36 @@ fn least_labelling_by_trying_all() {
             continue;
         };
         for phi in 1..=net.gates.len() as i64 {
-            // No labelling is lower, and no least labelling is above the number of gates.
-            let low = 1 - phi * i64::from(net.most_registers()) - 1;
-            let high = net.gates.len() as i64 + 1;
-            if (high - low + 1).pow(net.gates.len() as u32) > 5000 {
-                continue;
+            for (mode, counts) in MODES.into_iter().zip(&mut counts) {
+                let Some(expected) = least_by_trying(&net, mode, &cuts, phi) else {
+                    continue;
+                };
+                counts[usize::from(expected == Outcome::Unreachable)] += 1;
+                let found = least_labels(&net, mode, k, phi as u32);
+                assert_eq!(found, expected, "{net:?} {mode:?} {k} {phi}");
             }
-            let mut all: Vec<Vec<i64>> = Vec::new();
-            each_labels(&net, low, high, |labels| {
-                if is_labelling(&net, &cuts, labels, phi) {
-                    all.push(labels.to_vec());
-                }
-            });
-            let least = |node: usize| all.iter().map(|labels| labels[node]).min();
-            let least: Option<Vec<i64>> = (0..net.nodes()).map(least).collect();
-            let expected = match least {
-                Some(labels) if outputs_hold(&net, &labels, phi) => {
-                    assert!(all.contains(&labels));
-                    reachable += 1;
-                    Outcome::Labels(labels)
-                }
-                _ => {
-                    unreachable += 1;
-                    Outcome::Unreachable
-                }
-            };
-            assert_eq!(
-                least_labels(&net, k, phi as u32),
-                expected,
-                "{net:?} {k} {phi}"
-            );
         }
     }
-    assert!(
-        reachable > 1000 && unreachable > 100,
-        "{reachable} {unreachable}"
-    );
+    for [reachable, unreachable] in counts {
+        assert!(reachable > 1000 && unreachable > 100, "{counts:?}");
+    }
 }
 
 #[test]
 fn chosen_cuts_by_comparing_all() {
     let mut random = Random::new(22);
-    let mut chosen = 0;
-    for _ in 0..3000 {
+    let mut chosen = [0; 2];
+    for round in 0..6000 {
         let (net, k) = tiny_net(&mut random);
-        let (cover, labels) = solve(&net, k, 0, Limits::default()).unwrap();
+        let mode = MODES[round % 2];
+        let (cover, labels) = solve(&net, mode, k, 0, Limits::default()).unwrap();
         let phi = i64::from(cover.period);
         for lut in &cover.luts {
             let v = lut.root;
             let Some(mut cuts) = grown_cuts(&net, v, k as usize, k as usize, 2000) else {
                 continue;
             };
-            cuts.retain(|cut| at_most(cut, &labels, phi, labels[v]));
+            cuts.retain(|cut| fits(cut, mode, &labels, phi, labels[v]));
             let fewest = cuts.iter().map(|cut| cut.1.len()).min().unwrap();
             cuts.retain(|cut| cut.1.len() == fewest);
             let inside = |cut: &&ConeAndLeaves| {
@@ -111,10 +133,10 @@ fn chosen_cuts_by_comparing_all() {
             let inner: Vec<&ConeAndLeaves> = cuts.iter().filter(inside).collect();
             assert_eq!(inner.len(), 1);
             assert_eq!(inner[0].1, lut.leaves);
-            chosen += 1;
+            chosen[round % 2] += 1;
         }
     }
-    assert!(chosen > 3000, "{chosen}");
+    assert!(chosen.iter().all(|&luts| luts > 3000), "{chosen:?}");
 }
 
 #[test]
@@ -129,8 +151,10 @@ fn labels_from_a_lower_floor_are_the_same() {
             let low = 1 - i64::from(phi) * i64::from(net.most_registers());
             let mut floors = vec![low; net.nodes()];
             floors[..net.inputs].fill(0);
-            let labels = least_labels_over(&net, &cuts, phi);
-            assert_eq!(labels, rise(&net, &cuts, phi, floors));
+            for mode in MODES {
+                let labels = least_labels_over(&net, mode, &cuts, phi);
+                assert_eq!(labels, rise(&net, mode, &cuts, phi, floors.clone()));
+            }
         }
     }
 }

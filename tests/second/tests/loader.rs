@@ -9,12 +9,16 @@ use second::encode::encode;
 use second::generate::{random_net, Shape};
 use second::jobs::{COVER_BYTES, SCRATCH_BYTES};
 use second::loader::{image, LOADER_BYTES};
-use second::{lut_value, map_loader, read_net, read_record, solve, Answer, Limits, Random};
+use second::{lut_value, map_loader, read_net, read_record, solve, Answer, Limits, Mode, Random};
 
 /// The image of map's cover for a net.
 fn image_of(net: &[u8], k: u32) -> Vec<u8> {
     let net = read_net(net, k).expect("a net");
-    image(&solve(&net, k, 0, Limits::default()).expect("a cover").0)
+    image(
+        &solve(&net, Mode::Plain, k, 0, Limits::default())
+            .expect("a cover")
+            .0,
+    )
 }
 
 #[test]
@@ -52,7 +56,7 @@ fn the_value_of_the_root_for_all_64_choices() {
         let shape = Shape::any(&mut random, 12, k);
         let net = random_net(&mut random, &shape);
         let target = random.pick(&[0, 0, 3, 12]);
-        let Ok((cover, _)) = solve(&net, k as u32, target, Limits::default()) else {
+        let Ok((cover, _)) = solve(&net, Mode::Plain, k as u32, target, Limits::default()) else {
             continue;
         };
         let image = image(&cover);

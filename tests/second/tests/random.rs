@@ -3,14 +3,15 @@
 mod common;
 
 use common::{map, mark};
+use second::contents::CONTENTS_BYTES;
 use second::damage::{candidate, damaged_net};
-use second::encode::{encode, encode_with_holes};
+use second::encode::{encode, encode_with_holes, random_section, with_section};
 use second::generate::{random_net, wild_net, Shape};
 use second::jobs::{COVER_BYTES, LONG, SCRATCH_BYTES};
 use second::loader::LOADER_BYTES;
 use second::run::cover_runs_as_net;
 use second::{
-    check_net, parse_net, read_net, read_record, write_record, Answer, Areas, Limits, Random,
+    check_net, parse_net, read_net, read_record, write_record, Answer, Areas, Limits, Mode, Random,
 };
 
 #[test]
@@ -140,21 +141,27 @@ fn giving_up_is_no_refusal() {
     let mut gave_up = 0;
     for _ in 0..500 {
         let shape = Shape::any(&mut random, 8, 4);
-        let bytes = encode(&random_net(&mut random, &shape));
+        let net = random_net(&mut random, &shape);
+        let bytes = with_section(&encode(&net), &random_section(net.nodes(), &mut random));
         let mut cover = vec![7; COVER_BYTES];
         let mut scratch = vec![9; SCRATCH_BYTES];
         let mut loader = vec![5; LOADER_BYTES];
-        let areas = Areas {
-            cover: &mut cover,
-            scratch: &mut scratch,
-            loader: &mut loader,
-        };
-        let answer = second::map_within(LONG, limits, &bytes, 4, 0, areas);
+        let mut contents = vec![3; CONTENTS_BYTES];
+        let [forward, answer] = [Mode::Forward, Mode::Plain].map(|mode| {
+            let areas = Areas {
+                cover: &mut cover,
+                scratch: &mut scratch,
+                loader: &mut loader,
+                contents: &mut contents,
+            };
+            second::map_within(LONG, mode, limits, &bytes, 4, 0, areas)
+        });
+        assert_eq!(forward == Answer::GaveUp, answer == Answer::GaveUp);
         let record = map(&bytes, 4, 0).unwrap();
         if answer == Answer::GaveUp {
             gave_up += 1;
             assert!(cover.iter().all(|&b| b == 7) && scratch.iter().all(|&b| b == 9));
-            assert!(loader.iter().all(|&b| b == 5));
+            assert!(loader.iter().all(|&b| b == 5) && contents.iter().all(|&b| b == 3));
             assert_eq!(second::listing_within(limits, 4, 0, &bytes), "gave up\n");
         } else {
             assert_eq!(answer, Answer::Done(record.len() as u32));

@@ -1,14 +1,15 @@
-//! How much stack the library's map takes.
+//! How much stack the library's map takes, plain and forward with contents.
 //!
 //! `depth [nets] [seed]`. A thread's stack is painted with a pattern; after each call the
 //! lowest place that has lost the pattern tells how deep the call went. Places between
 //! the caller and the paint count as used, so a call seems to take at least 4 KiB.
 
 use library::nets::{largest_record, line, of_family, FAMILIES};
-use second::encode::encode;
+use second::contents::CONTENTS_BYTES;
+use second::encode::{encode, with_section};
 use second::generate::{random_net, Shape};
 use second::jobs::{COVER_BYTES, SCRATCH_BYTES};
-use second::Random;
+use second::{Mode, Net, Random};
 
 const PAINTED: usize = 64 << 20;
 /// Room for the frames that paint and look.
@@ -79,6 +80,7 @@ impl Paint {
 #[derive(Default)]
 struct Deepest {
     calls: u32,
+    forward: bool,
     k: u32,
     target: u32,
     net: Vec<u8>,
@@ -88,23 +90,32 @@ struct Meter {
     paint: Paint,
     cover: Vec<u8>,
     scratch: Vec<u8>,
+    contents: Vec<u8>,
     deepest: Deepest,
     overall: usize,
 }
 
 impl Meter {
     #[inline(never)]
-    fn call(&mut self, net: &[u8], k: u32, target: u32) -> Result<usize, u8> {
+    fn call(&mut self, mode: Mode, net: &[u8], k: u32, target: u32) -> Result<usize, u8> {
         // What was done since the last call is not the library's.
         let mark = self.paint.mark;
         if self.paint.look(mark - WINDOW) {
             self.paint.again(mark);
         }
-        let answer = kamfelu::map(net, k, target, &mut self.cover, &mut self.scratch);
+        let (cover, scratch) = (&mut self.cover, &mut self.scratch);
+        let answer = match mode {
+            Mode::Plain => kamfelu::map(net, k, target, cover, scratch),
+            Mode::Forward => {
+                let contents = &mut self.contents;
+                kamfelu::map_forward(net, k, target, cover, scratch, &mut [], contents)
+            }
+        };
         self.deepest.calls += 1;
         if self.paint.look(mark - WINDOW) {
             self.deepest = Deepest {
                 calls: self.deepest.calls,
+                forward: mode == Mode::Forward,
                 k,
                 target,
                 net: net.to_vec(),
@@ -113,16 +124,19 @@ impl Meter {
         answer
     }
 
-    /// The least period and the targets around it.
-    fn calls(&mut self, net: &[u8], k: u32) {
-        let answer = self.call(net, k, 0);
-        let least = if answer.is_ok() {
-            u32::from(self.cover[0])
-        } else {
-            1
-        };
-        for target in [1, least.saturating_sub(1), least, 32] {
-            self.call(net, k, target).ok();
+    /// The least period and the targets around it, in both modes; the net gets a section.
+    fn calls(&mut self, net: &Net, k: u32) {
+        let net = with_section(&encode(net), &vec![5; net.nodes()]);
+        for mode in [Mode::Plain, Mode::Forward] {
+            let answer = self.call(mode, &net, k, 0);
+            let least = if answer.is_ok() {
+                u32::from(self.cover[0])
+            } else {
+                1
+            };
+            for target in [1, least.saturating_sub(1), least, 32] {
+                self.call(mode, &net, k, target).ok();
+            }
         }
     }
 
@@ -131,6 +145,7 @@ impl Meter {
         let missed = self.paint.look(self.paint.low);
         let Deepest {
             calls,
+            forward,
             k,
             target,
             net,
@@ -141,7 +156,8 @@ impl Meter {
             println!("in a call that skipped more than the window");
         } else {
             let hex: String = net.iter().map(|byte| format!("{byte:02x}")).collect();
-            println!("k {k} target {target} net {hex}");
+            let job = if *forward { "forward, " } else { "" };
+            println!("{job}k {k} target {target} net {hex}");
         }
         self.overall = self.overall.max(used);
         self.deepest = Deepest::default();
@@ -156,19 +172,20 @@ fn run(nets: usize, seed: u64) {
         paint: Paint::new(),
         cover: vec![0; COVER_BYTES],
         scratch: vec![0; SCRATCH_BYTES],
+        contents: vec![0; CONTENTS_BYTES],
         deepest: Deepest::default(),
         overall: 0,
     };
-    meter.call(&[], 0, 0).ok();
+    meter.call(Mode::Plain, &[], 0, 0).ok();
     meter.part("refusal 1");
     for net in [line(32, 0), line(32, 3), largest_record()] {
-        (2..=6).for_each(|k| meter.calls(&encode(&net), k));
+        (2..=6).for_each(|k| meter.calls(&net, k));
     }
     meter.part("made by hand");
     for (family, name) in FAMILIES.iter().enumerate() {
         for _ in 0..nets / 4 {
             let pins = random.within(2, 6);
-            let net = encode(&of_family(family, &mut random, 32, pins));
+            let net = of_family(family, &mut random, 32, pins);
             meter.calls(&net, 6);
             meter.calls(&net, pins as u32);
         }
@@ -177,7 +194,7 @@ fn run(nets: usize, seed: u64) {
     for _ in 0..nets {
         let pins = random.within(2, 6);
         let shape = Shape::any(&mut random, 32, pins);
-        let net = encode(&random_net(&mut random, &shape));
+        let net = random_net(&mut random, &shape);
         meter.calls(&net, 6);
     }
     meter.part("random");

@@ -1,5 +1,5 @@
-//! Map with and without a loader area, mark, those of the short course and now and then the programs listing
-//! and bench against the second mapper for some minutes, on nets and candidates of every kind.
+//! Map with and without a loader area, forward map, mark, those of the short course and now and then the programs
+//! listing and bench against the second mapper for some minutes, on nets and candidates of every kind.
 //!
 //! `soak [minutes] [seed]`: 20 minutes, and a seed from the clock. The exit code is 1 if
 //! there is a difference.
@@ -61,6 +61,7 @@ fn main() -> ExitCode {
         let mut random = Random::new(seed.wrapping_mul(1_000_151).wrapping_add(thread));
         let mut maps = Sides::new(&mut random);
         let mut loads = Sides::new(&mut random);
+        let mut forwards = Sides::new(&mut random);
         let mut marks = Sides::new(&mut random);
         let mut short = Sides::of(SHORT, &mut random);
         let mut texts = Tally::default();
@@ -68,6 +69,7 @@ fn main() -> ExitCode {
         while Instant::now() < end {
             maps.random_maps(&mut random);
             loads.random_loads(&mut random);
+            forwards.random_forwards(&mut random);
             marks.random_mark(&mut random);
             match random.below(8) {
                 0 => marks.reader_piece(&mut random),
@@ -86,24 +88,27 @@ fn main() -> ExitCode {
         [
             maps.tally,
             loads.tally,
+            forwards.tally,
             marks.tally,
             short.tally,
             texts,
             benches,
         ]
     });
-    let mut all: [Tally; 6] = Default::default();
+    let mut all: [Tally; 7] = Default::default();
     for own in told {
         for (sum, tally) in all.iter_mut().zip(own) {
             sum.add(tally);
         }
     }
-    let [maps, loads, marks, shorts, texts, benches] = &all;
+    let [maps, loads, forwards, marks, shorts, texts, benches] = &all;
     let of_map: Vec<usize> = (1..=12).collect();
     let of_mark: Vec<usize> = [1].into_iter().chain(3..=11).chain(13..=18).collect();
     print("map", maps, &of_map, "length", 100);
     let of_load: Vec<usize> = (1..=12).chain([20]).collect();
     print("map with a loader", loads, &of_load, "length", 100);
+    let of_forward: Vec<usize> = (1..=11).chain(20..=22).collect();
+    print("forward map", forwards, &of_forward, "length", 100);
     print("mark", marks, &of_mark, "excess", 1);
     let of_both: Vec<usize> = (1..=18).collect();
     print("short course", shorts, &of_both, "done", 100);

@@ -1,5 +1,5 @@
-//! Times of the library's map and mark and of the second mapper on the same nets, in
-//! microseconds, and the periods of ABC's `&sif` where it is installed.
+//! Times of the library's map, plain and forward, and mark and of the second mapper on the
+//! same nets, in microseconds, and the periods of ABC's `&sif` where it is installed.
 //!
 //! `timing [nets] [seed]`. Each call is timed three times and the least time counts.
 //! The areas are full of old bytes before a call; a call clears its scratch, and that is
@@ -7,10 +7,11 @@
 
 use library::abc;
 use library::nets::{of_family, real, FAMILIES};
-use second::encode::encode;
+use second::contents::CONTENTS_BYTES;
+use second::encode::{encode, with_section};
 use second::generate::{random_net, Shape};
 use second::jobs::{COVER_BYTES, LONG, SCRATCH_BYTES};
-use second::{Answer, Gate, Limits, Net, Random};
+use second::{Answer, Gate, Limits, Mode, Net, Random};
 use std::cmp::Ordering;
 use std::collections::BTreeSet;
 use std::time::{Duration, Instant};
@@ -61,6 +62,7 @@ const COLUMNS: &str = " calls    average    largest";
 struct Areas {
     cover: Vec<u8>,
     scratch: Vec<u8>,
+    contents: Vec<u8>,
 }
 
 impl Areas {
@@ -82,6 +84,35 @@ impl Areas {
         self.best(|areas| kamfelu::map(net, k, target, &mut areas.cover, &mut areas.scratch))
     }
 
+    /// Forward map, with a contents area of so many bytes.
+    fn forward(
+        &mut self,
+        net: &[u8],
+        k: u32,
+        target: u32,
+        contents: usize,
+    ) -> (Result<usize, u8>, Duration) {
+        self.best(|areas| {
+            let (cover, scratch) = (&mut areas.cover, &mut areas.scratch);
+            let contents = &mut areas.contents[..contents];
+            kamfelu::map_forward(net, k, target, cover, scratch, &mut [], contents)
+        })
+    }
+
+    /// Map of a mode, without contents.
+    fn by_mode(
+        &mut self,
+        mode: Mode,
+        net: &[u8],
+        k: u32,
+        target: u32,
+    ) -> (Result<usize, u8>, Duration) {
+        match mode {
+            Mode::Plain => self.map(net, k, target),
+            Mode::Forward => self.forward(net, k, target, 0),
+        }
+    }
+
     /// The excess of a record, and the time.
     fn mark(&mut self, net: &[u8], k: u32, record: &[u8]) -> (Result<usize, u8>, Duration) {
         self.best(|areas| kamfelu::mark(net, k, record, &mut areas.scratch))
@@ -89,14 +120,14 @@ impl Areas {
 
     /// The second mapper's answer and time.
     fn second(&mut self, net: &[u8], k: u32) -> (Answer, Duration) {
-        self.best(|Areas { cover, scratch }| {
-            let loader = &mut [];
+        self.best(|areas| {
             let areas = second::Areas {
-                cover,
-                scratch,
-                loader,
+                cover: &mut areas.cover,
+                scratch: &mut areas.scratch,
+                loader: &mut [],
+                contents: &mut [],
             };
-            second::map_within(LONG, LIMITS, net, k, 0, areas)
+            second::map_within(LONG, Mode::Plain, LIMITS, net, k, 0, areas)
         })
     }
 }
@@ -105,23 +136,28 @@ impl Areas {
 type Case = (Vec<u8>, u32);
 
 /// The columns of a row.
-const NAMES: [&str; 6] = [
+const NAMES: [&str; 9] = [
     "map, target 0",
     "map, the least period as target",
     "map, one below (answer 12)",
     "mark of map's record",
     "map, target 0, where second finished",
     "second mapper, target 0",
+    "forward map, target 0",
+    "forward map, target 0, with contents",
+    "forward map, one below (answer 22)",
 ];
 
 /// Times over some nets, and the nets on which the second mapper gave up, those it was
-/// not asked for time, and other answers than those expected.
+/// not asked for time, other answers than those expected, and least forward periods above
+/// the least one.
 #[derive(Default)]
 struct Row {
-    times: [Times; 6],
+    times: [Times; 9],
     gave_up: u32,
     not_asked: u32,
     others: u32,
+    later: u32,
 }
 
 /// The nets come in an order that mixes sizes.
@@ -148,6 +184,7 @@ fn measure(areas: &mut Areas, cases: &[Case]) -> Row {
         let (excess, marked) = areas.mark(net, *k, &record);
         row.times[3].add(marked);
         row.others += u32::from(excess != Ok(0));
+        row.forward(areas, net, *k, least);
         if start.elapsed() > PATIENCE {
             row.not_asked += 1;
             continue;
@@ -166,6 +203,25 @@ fn measure(areas: &mut Areas, cases: &[Case]) -> Row {
 }
 
 impl Row {
+    /// Forward map of a net with this least period, without contents and, on the net with a section, with them.
+    fn forward(&mut self, areas: &mut Areas, net: &[u8], k: u32, least: u32) {
+        let (answer, time) = areas.forward(net, k, 0, 0);
+        self.times[6].add(time);
+        let period = u32::from(areas.cover[0]);
+        self.others += u32::from(answer.is_err() || period < least);
+        self.later += u32::from(period > least);
+        let nodes = usize::from(net[0]) + usize::from(net[1]);
+        let net = with_section(net, &vec![5; nodes]);
+        let (again, time) = areas.forward(&net, k, 0, CONTENTS_BYTES);
+        self.times[7].add(time);
+        self.others += u32::from(again != answer);
+        if period > 1 {
+            let (below, time) = areas.forward(&net, k, period - 1, 0);
+            self.times[8].add(time);
+            self.others += u32::from(below != Err(22));
+        }
+    }
+
     fn add(&mut self, other: &Row) {
         for (times, more) in self.times.iter_mut().zip(&other.times) {
             times.sum += more.sum;
@@ -175,6 +231,7 @@ impl Row {
         self.gave_up += other.gave_up;
         self.not_asked += other.not_asked;
         self.others += other.others;
+        self.later += other.later;
     }
 
     /// One line a column.
@@ -184,14 +241,15 @@ impl Row {
             println!("{name:36} {}", times.text());
         }
         println!(
-            "second mapper: gave up {}, not asked for time {}; other answers {}\n",
-            self.gave_up, self.not_asked, self.others
+            "second mapper: gave up {}, not asked for time {}; other answers {}; \
+             least forward periods above the least {}\n",
+            self.gave_up, self.not_asked, self.others, self.later
         );
     }
 
     /// Averages and largest times in one line.
     fn line(&self, head: &str) {
-        let shown = [0, 1, 3, 5].map(|i| self.times[i].text()).join("  ");
+        let shown = [0, 1, 6, 3, 5].map(|i| self.times[i].text()).join("  ");
         println!("{head}  {shown}  {:8}", self.others);
     }
 }
@@ -202,12 +260,13 @@ fn heads(head: &str) {
     let names = [
         "map, target 0",
         "map, least period",
+        "forward, target 0",
         "mark",
         "second mapper",
     ];
     let names = names.map(|name| format!("{name:>28}")).join("  ");
     println!("{gap}  {names}");
-    println!("{head}  {}   others", [COLUMNS; 4].join("  "));
+    println!("{head}  {}   others", [COLUMNS; 5].join("  "));
 }
 
 /// Nets of 8 to 32 gates, each with every k from its most pins to 6.
@@ -233,42 +292,51 @@ fn random_cases(random: &mut Random, nets: usize) -> Vec<Case> {
     cases
 }
 
-/// The slowest call of a family at so many gates, over k, the least period and the targets near it.
+/// The slowest call of a family at so many gates, over k, the least period and the targets near it, in both modes.
 fn slow_family(areas: &mut Areas, random: &mut Random, family: usize, gates: usize, nets: usize) {
-    let mut times = Times::default();
-    let mut slowest = (0, 0, Vec::new());
+    let mut cases = Vec::new();
     for _ in 0..nets {
         let pins = random.within(2, 6);
         let net = encode(&of_family(family, random, gates, pins));
-        for k in pins as u32..=6 {
-            let (answer, time) = areas.map(&net, k, 0);
-            let least = match answer {
-                Ok(_) => u32::from(areas.cover[0]),
-                Err(_) => 1,
-            };
-            let mut tried = vec![(0, time)];
-            for target in [1, least - 1, least, 32] {
-                if target > 0 {
-                    tried.push((target, areas.map(&net, k, target).1));
-                }
-            }
-            for (target, time) in tried {
-                if time > times.most {
-                    slowest = (k, target, net.clone());
-                }
-                times.add(time);
-            }
+        cases.extend((pins as u32..=6).map(|k| (net.clone(), k)));
+    }
+    for (mode, name) in [
+        (Mode::Plain, FAMILIES[family]),
+        (Mode::Forward, "  forward"),
+    ] {
+        let (times, (k, target, net)) = slowest(areas, mode, &cases);
+        let text = times.text();
+        println!("{name:14} {gates:5} {text} at k {k}, target {target}");
+        if gates == 32 {
+            println!("               net {}", hex(&net));
         }
     }
-    let (k, target, net) = slowest;
-    println!(
-        "{:14} {gates:5} {} at k {k}, target {target}",
-        FAMILIES[family],
-        times.text()
-    );
-    if gates == 32 {
-        println!("               net {}", hex(&net));
+}
+
+/// The times of a mode, and k, target and net of its slowest call.
+fn slowest(areas: &mut Areas, mode: Mode, cases: &[Case]) -> (Times, (u32, u32, Vec<u8>)) {
+    let mut times = Times::default();
+    let mut slowest = (0, 0, Vec::new());
+    for (net, k) in cases {
+        let (answer, time) = areas.by_mode(mode, net, *k, 0);
+        let mut tried = vec![(0, time)];
+        let least = match answer {
+            Ok(_) => u32::from(areas.cover[0]),
+            Err(_) => 1,
+        };
+        for target in [1, least - 1, least, 32] {
+            if target > 0 {
+                tried.push((target, areas.by_mode(mode, net, *k, target).1));
+            }
+        }
+        for (target, time) in tried {
+            if time > times.most {
+                slowest = (*k, target, net.clone());
+            }
+            times.add(time);
+        }
     }
+    (times, slowest)
 }
 
 fn hex(bytes: &[u8]) -> String {
@@ -413,6 +481,7 @@ fn run(nets: usize, seed: u64) {
     let mut areas = Areas {
         cover: vec![0; COVER_BYTES],
         scratch: vec![0; SCRATCH_BYTES],
+        contents: vec![0; CONTENTS_BYTES],
     };
     println!("times in microseconds, {nets} nets, seed {seed}\n");
     let cases = random_cases(&mut random, nets);
@@ -435,7 +504,7 @@ fn run(nets: usize, seed: u64) {
         &own.into_iter().flat_map(cases).collect::<Vec<_>>(),
     )
     .print();
-    println!("slow families, map alone");
+    println!("slow families, map and forward map alone");
     println!("               gates {COLUMNS}");
     for family in 0..FAMILIES.len() {
         for gates in [8, 16, 24, 32] {

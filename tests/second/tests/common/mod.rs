@@ -1,6 +1,8 @@
 //! Helpers of several tests.
 #![allow(dead_code)]
 
+pub mod covers;
+
 use second::encode::encode;
 use second::generate::{random_net, Shape};
 use second::jobs::{COVER_BYTES, SCRATCH_BYTES};
