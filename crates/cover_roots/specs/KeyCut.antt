@@ -49,10 +49,10 @@ least-falling {M} {N} {k} {φ} {lab} s l v g p i = go (input-or-gate N (p .src) 
         omega (arith, ints, +-parts (lab v) (pos (φ * p .count)), sub-parts (lab (p .src)) (pos (φ * p .count)))
 
 -- a separation with fewest leaves and smallest cone has the leaves of the chosen cut
-separated-leaves : {M : Mode} {N : Net} {v φ k r border : ℕ} {lab : ℕ → ℤ} {h : ℤ} (w : Separated N v φ lab h border k r) → Ranked N → Bordered (Inside M φ h) (k * reachOf N) border → Falling N φ lab
+separated-leaves : (M : Mode) {N : Net} {v φ k r border : ℕ} {lab : ℕ → ℤ} {h : ℤ} (w : Separated N v φ lab h border k r) → Ranked N → Bordered (Inside M φ h) (k * reachOf N) border → Falling N φ lab
     → {K : LowCutIn M N k φ lab v h} → Chosen N k v (Low φ lab h) (Inside M φ h) K → w .parted .leaves ≡ K .leaves
 unfolding told-cut separation-cut
-separated-leaves {M} w R near falling c = chosen-leaves (told-chosen w falling M near R) c
+separated-leaves M w R near falling c = chosen-leaves (told-chosen w falling M near R) c
 
 -- ---- what is asked of `chosen`, and what it tells
 
@@ -105,7 +105,7 @@ module _ {M : Mode} (s : Extent) (net slots : List ℕ) (b : ℕ) {ls : List ℤ
         let y = subst (λ (z : ℤ). (p : Separated (c .net) v φ (labelIn ls) z b k r) × (p .parted .leaves ≡ copiesFrom nodes backs 0 r)) e x in
         let z = subst (λ (lab : ℕ → ℤ). (p : Separated (c .net) v φ lab (lab v) b k r) × (p .parted .leaves ≡ copiesFrom nodes backs 0 r)) (sym label-is) y in
         let t = subst (λ (z : ℤ). Bordered (Inside M φ z) (k * reachOf (c .net)) b) (e ∙ sym (c .label v)) near in
-        sym (z .1) ∙ separated-leaves (z .0) (c .ranked) t (least-falling (c .sound) (c .key .least)) (c .key .chosen v isGate) ∙ sym (c .key .isLeaves v isGate)
+        sym (z .1) ∙ separated-leaves M (z .0) (c .ranked) t (least-falling (c .sound) (c .key .least)) (c .key .chosen v isGate) ∙ sym (c .key .isLeaves v isGate)
 
 -- copies at other places that have the same nodes and d's
 pub copies-same : (nodes backs nodes′ backs′ : List ℕ) (at at′ n : ℕ) → ((i : ℕ) → i < n → getD nodes (at + i) 0 ≡ getD nodes′ (at′ + i) 0)

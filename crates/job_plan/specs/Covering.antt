@@ -17,8 +17,8 @@ use Rattle.net_model.specs.Copies.{Copy, IsCut, Rising}
 use Rattle.net_model.specs.Tables.{tableOf}
 use Rattle.net_model.specs.FullTables.{repeatedTable, fullOf}
 use Rattle.cone_values.specs.FullTableLaws.{full-low, full-repeated}
-use Rattle.label_theory.specs.Labels.{Reachable}
-use Rattle.cover_theory.specs.Key.{Key, Root, Entry, entries}
+use Rattle.label_theory.specs.Labels.{Mode, ReachableIn}
+use Rattle.cover_theory.specs.Key.{KeyIn, Root, Entry, entries}
 use Rattle.cover_theory.specs.KeyOf.{keyOf, entryOf, root-gate}
 use Rattle.cover_theory.specs.KeyUnique.{numbers-unique}
 use Rattle.cover_records.specs.Kept.{Kept, kept, shortTable, entryAt, entriesFrom, entriesIn, Whole}
@@ -31,19 +31,19 @@ use Rattle.label_visit.specs.LabelVisits.{Suits, wiring, topsIn}
 use Rattle.label_sweep.specs.Sweeps.{outsIn, delaysIn}
 use Rattle.cover_roots.specs.Choosing.{Keyed, RootsTold}
 use Rattle.cone_luts.specs.Luts.{Tabulated}
-use Rattle.job_plan.specs.Found.{PeriodFound}
+use Rattle.job_plan.specs.Found.{capIn, PeriodFound}
 use Rattle.job_plan.specs.Entries.{rootsFrom, entries-roots, roots-in, in-roots, roots-rising}
 use Rattle.job_plan.specs.Planned.{Covered, Planned, CoverTold}
 
 -- the labels of a key are those that it was made of
-key-label : {N : Net} {k φ : ℕ} (P : Passed N k) (r : Reachable N k φ) (u : ℕ) → keyOf P r .label u ≡ r .label u
+key-label : {M : Mode} {N : Net} {k φ : ℕ} (P : Passed N k) (r : ReachableIn M N k φ) (u : ℕ) → keyOf P r .label u ≡ r .label u
 unfolding keyOf
 key-label P r u = refl
 
-module _ {s : Extent} {n : ℕ} {net ts : List ℕ} {k target : ℕ} {ls : List ℤ} {marks sizes nodes backs luts : List ℕ} where
+module _ {M : Mode} {s : Extent} {n : ℕ} {net ts : List ℕ} {k target : ℕ} {ls : List ℤ} {marks sizes nodes backs luts : List ℕ} where
   -- the target is not reachable
-  pub told-none : {r : ℕ} → PeriodFound (wiring s net) k target (topsIn s net 0) (outsIn s net) (delaysIn s net n) n ls r → r ≡ 0
-      → CoverTold s n net ts k target (kept (s .inputs) (s .gates) 0 ls marks sizes nodes backs luts)
+  pub told-none : {r : ℕ} → PeriodFound M (wiring s net) k target (topsIn s net (capIn M)) (outsIn s net) (delaysIn s net n) n ls r → r ≡ 0
+      → CoverTold M s n net ts k target (kept (s .inputs) (s .gates) 0 ls marks sizes nodes backs luts)
   told-none f e = record {
     cover = λ N S P T o. record {
       none = λ z. (f .none e .0, f .none e .1 N S o);
@@ -54,24 +54,24 @@ module _ {s : Extent} {n : ℕ} {net ts : List ℕ} {k target : ℕ} {ls : List 
       nothing : 1 ≤ 0 → ⊥
       nothing h = omega arith
 
-module _ {s : Extent} {net os oc : List ℕ} {n : ℕ} {tops : List ℕ} {k target : ℕ} {ls : List ℤ} {marks sizes nodes backs : List ℕ} where
-  module _ {r : ℕ} (six : k ≤ stride) (f : PeriodFound (wiring s net) k target tops os oc n ls r) (one : 1 ≤ r)
-      (told : RootsTold (wiring s net) ls os n r k marks sizes nodes backs)
-      (N : Net) (S : Suits (wiring s net) k tops N) (P : Passed N k) (o : N .outputs ≡ pinsIn os oc 0 n) where
-    reachable : Reachable N k r
+module _ {M : Mode} {s : Extent} {net os oc : List ℕ} {n : ℕ} {tops : List ℕ} {k target : ℕ} {ls : List ℤ} {marks sizes nodes backs : List ℕ} where
+  module _ {r : ℕ} (six : k ≤ stride) (f : PeriodFound M (wiring s net) k target tops os oc n ls r) (one : 1 ≤ r)
+      (told : RootsTold M (wiring s net) ls os n r k marks sizes nodes backs)
+      (N : Net) (S : Suits M (wiring s net) k tops N) (P : Passed N k) (o : N .outputs ≡ pinsIn os oc 0 n) where
+    reachable : ReachableIn M N k r
     reachable = let l = f .labels one N S P o in record { label = labelIn ls; least = l .0; outputs = l .1 }
 
     wired : Wired N (s .inputs) (s .gates) net (drop (sourcesAt (s .gates)) net) (drop (countsAt (s .gates)) net)
     wired = let h = S .holds in record { inputs = h .inputs; gates = h .gates; wiring = h .lists }
 
-    key : Key N k r
+    key : KeyIn M N k r
     key = keyOf P reachable
 
     label-is : (u : ℕ) → key .label u ≡ labelIn ls u
     unfolding key reachable
     label-is u = key-label P reachable u
 
-    keyed : Keyed (wiring s net) ls r k
+    keyed : Keyed M (wiring s net) ls r k
     keyed = record {
       net = N;
       key = key;
@@ -155,7 +155,7 @@ module _ {s : Extent} {net os oc : List ℕ} {n : ℕ} {tops : List ℕ} {k targ
       unfolding entries entriesIn
       same-entries = ap (map (entryOf key)) roots-are ∙ sym (entries-roots a (entryOf key) 0 (s .gates) (λ g p q m. entry-is g (omega arith) m))
 
-      pub covered : Covered N k target a
+      pub covered : Covered M N k target a
       unfolding keyed
       covered = record {
         positive = one;
@@ -170,10 +170,10 @@ module _ {s : Extent} {net os oc : List ℕ} {n : ℕ} {tops : List ℕ} {k targ
       }
 
 -- **the cover**
-pub told-cover : {s : Extent} {n : ℕ} {net ts : List ℕ} {k target : ℕ} {ls : List ℤ} {marks sizes nodes backs luts : List ℕ} {r : ℕ} → k ≤ stride
-    → PeriodFound (wiring s net) k target (topsIn s net 0) (outsIn s net) (delaysIn s net n) n ls r → ¬ (r ≡ 0) → RootsTold (wiring s net) ls (outsIn s net) n r k marks sizes nodes backs
+pub told-cover : {M : Mode} {s : Extent} {n : ℕ} {net ts : List ℕ} {k target : ℕ} {ls : List ℤ} {marks sizes nodes backs luts : List ℕ} {r : ℕ} → k ≤ stride
+    → PeriodFound M (wiring s net) k target (topsIn s net (capIn M)) (outsIn s net) (delaysIn s net n) n ls r → ¬ (r ≡ 0) → RootsTold M (wiring s net) ls (outsIn s net) n r k marks sizes nodes backs
     → Tabulated (s .inputs) (s .gates) net (drop (sourcesAt (s .gates)) net) (drop (countsAt (s .gates)) net) ts marks sizes nodes backs luts (s .gates)
-    → CoverTold s n net ts k target (kept (s .inputs) (s .gates) r ls marks sizes nodes backs luts)
+    → CoverTold M s n net ts k target (kept (s .inputs) (s .gates) r ls marks sizes nodes backs luts)
 told-cover {luts = luts} six f z told tab = record {
   cover = λ N S P T o. record {
     none = λ e. absurd (z e);

@@ -11,6 +11,7 @@ use Rattle.sequences.specs.Zeros.{zeros}
 use Rattle.limits.specs.Limits.{mostPins, mostCopies, mostNodes, mostTable, mostList, mostStack, mostHeld}
 use Rattle.cover_records.specs.Rows.{sizesIn, nodesIn, backsIn}
 use Rattle.cone_descent.specs.Descent.{Clear}
+use Rattle.label_theory.specs.Labels.{Mode}
 use Rattle.cut_circuit.specs.Circuit.{Circuit, total}
 use Rattle.cut_circuit.specs.Packed.{packedOf, sourcesAt, countsAt}
 use Rattle.cut_circuit.specs.declared.Extent.{Extent}
@@ -19,7 +20,7 @@ use Rattle.label_visit.specs.LabelVisits.{wiring, topsIn}
 use Rattle.label_sweep.specs.Sweeps.{outsIn, delaysIn}
 use Rattle.cover_roots.specs.Choosing.{Chooses, RootsTold}
 use Rattle.cone_luts.specs.Luts.{Tabulates}
-use Rattle.job_plan.specs.Found.{PeriodFound}
+use Rattle.job_plan.specs.Found.{capIn, PeriodFound}
 use Rattle.job_plan.specs.Planned.{Engine, Roomy}
 use Rattle.job_plan.specs.Covering.{few-leaves, rising-leaves}
 
@@ -43,7 +44,7 @@ length-behind x t n h e = omega (arith, length-append x (drop n t), length-drop 
 pub rest-part : {C : Circuit} {x l stk cnt members : List ℕ} (y : List ℕ) → AtRest C x l stk cnt members → AtRest C (take (total C) (x ++ y)) l stk cnt members
 rest-part {C} {x} {l} {stk} {cnt} {members} y r = subst (λ (z : List ℕ). AtRest C z l stk cnt members) (sym (take-at x y (total C) (r .sized .room))) r
 
-module _ {s : Extent} {n : ℕ} {net ts : List ℕ} {k target : ℕ} {t : List ℕ} {ls : List ℤ} (e : Engine s n net ts k target t ls) where
+module _ {M : Mode} {s : Extent} {n : ℕ} {net ts : List ℕ} {k target : ℕ} {t : List ℕ} {ls : List ℤ} (e : Engine M s n net ts k target t ls) where
   -- the questions' part of the table
   part-size : length (take ((s .inputs + s .gates) * s .width) t) ≡ (s .inputs + s .gates) * s .width
   part-size = length-take-le ((s .inputs + s .gates) * s .width) t (let a = e .size in let b = e .fits in omega arith)
@@ -67,7 +68,7 @@ module _ {s : Extent} {n : ℕ} {net ts : List ℕ} {k target : ℕ} {t : List �
     cleared = record { zero = clear-take ((s .inputs + s .gates) * s .width) t (e .clear); empty = zeros mostList 0 };
   }
 
-  pub engine-chooses : {rows luts : List ℕ} {ls′ : List ℤ} {r : ℕ} → Roomy (s .gates) rows luts → PeriodFound (wiring s net) k target (topsIn s net 0) (outsIn s net) (delaysIn s net n) n ls′ r
+  pub engine-chooses : {rows luts : List ℕ} {ls′ : List ℤ} {r : ℕ} → Roomy (s .gates) rows luts → PeriodFound M (wiring s net) k target (topsIn s net (capIn M)) (outsIn s net) (delaysIn s net n) n ls′ r
       → Chooses (wiring s net) ls′ r k rows
   engine-chooses {r = r} room f = record {
     asking = record {
@@ -87,8 +88,8 @@ module _ {s : Extent} {n : ℕ} {net ts : List ℕ} {k target : ℕ} {t : List �
   }
 
   pub engine-tabulates : {rows₀ luts rows : List ℕ} {ls′ : List ℤ} {r : ℕ} → Roomy (s .gates) rows₀ luts → length rows ≡ length rows₀
-      → PeriodFound (wiring s net) k target (topsIn s net 0) (outsIn s net) (delaysIn s net n) n ls′ r → ¬ (r ≡ 0)
-      → RootsTold (wiring s net) ls′ (outsIn s net) n r k rows (sizesIn (s .gates) rows) (nodesIn (s .gates) rows) (backsIn (s .gates) rows)
+      → PeriodFound M (wiring s net) k target (topsIn s net (capIn M)) (outsIn s net) (delaysIn s net n) n ls′ r → ¬ (r ≡ 0)
+      → RootsTold M (wiring s net) ls′ (outsIn s net) n r k rows (sizesIn (s .gates) rows) (nodesIn (s .gates) rows) (backsIn (s .gates) rows)
       → Tabulates (s .inputs) (s .gates) net (drop (sourcesAt (s .gates)) net) (drop (countsAt (s .gates)) net) ts rows (sizesIn (s .gates) rows) (nodesIn (s .gates) rows) (backsIn (s .gates) rows)
   engine-tabulates {rows = rows} room a f z told =
       let m = room .atRows in

@@ -9,9 +9,8 @@ use Rattle.net_model.specs.Arrays.{stride, pinsIn, netIn}
 use Rattle.net_model.specs.Checks.{Passed}
 use Rattle.net_model.specs.PackedNet.{packedRoom}
 use Rattle.limits.specs.Limits.{leastK, mostK, mostPeriod, mostTable, mostHeld}
-use Rattle.label_theory.specs.Labels.{Reachable}
-use Rattle.cover_theory.specs.Covers.{LeastPeriod}
-use Rattle.cover_theory.specs.Key.{Key, entries}
+use Rattle.label_theory.specs.Labels.{Mode, ReachableIn}
+use Rattle.cover_theory.specs.Key.{KeyIn, entries}
 use Rattle.cover_records.specs.Kept.{Kept, entriesIn, Whole}
 use Rattle.cover_records.specs.Rows.{rowRoom}
 use Rattle.signed.specs.Range.{Small}
@@ -28,14 +27,15 @@ use Rattle.cut_circuit.specs.Packed.{packedOf, sourcesAt, countsAt}
 use Rattle.cut_circuit.specs.declared.Extent.{Extent}
 use Rattle.label_visit.specs.LabelVisits.{Suits, wiring, topsIn}
 use Rattle.label_sweep.specs.Sweeps.{orderIn, outsIn, delaysIn}
-use Rattle.job_plan.specs.Found.{PeriodAsked}
+use Rattle.label_period.specs.PeriodSearch.{FirstReached}
+use Rattle.job_plan.specs.Found.{capIn, PeriodAsked}
 
 -- The cover kept in a is the one written for N, k and the period kept.
-pub record Covered (N : Net) (k target : ℕ) (a : Kept) : Type 0 where
+pub record Covered (M : Mode) (N : Net) (k target : ℕ) (a : Kept) : Type 0 where
   pub positive : 1 ≤ a .period
   pub given : 1 ≤ target → a .period ≡ target
-  pub least : target ≡ 0 → LeastPeriod N k (a .period)
-  pub key : Key N k (a .period)
+  pub least : target ≡ 0 → FirstReached M N k (a .period)
+  pub key : KeyIn M N k (a .period)
   pub same : entries key ≡ entriesIn a
   pub labels : (v : ℕ) → IsGate N v → key .label v ≡ getD (a .labels) v (pos 0)
   pub small : (g : ℕ) → g < a .gates → Small (getD (a .labels) (a .inputs + g) (pos 0))
@@ -43,9 +43,9 @@ pub record Covered (N : Net) (k target : ℕ) (a : Kept) : Type 0 where
   pub whole : Whole a
 
 -- A period of 0 says that the target is not reachable; else the cover is there.
-pub record Planned (N : Net) (k target : ℕ) (a : Kept) : Type 0 where
-  pub none : a .period ≡ 0 → (1 ≤ target) × (¬ Reachable N k target)
-  pub some : 1 ≤ a .period → Covered N k target a
+pub record Planned (M : Mode) (N : Net) (k target : ℕ) (a : Kept) : Type 0 where
+  pub none : a .period ≡ 0 → (1 ≤ target) × (¬ ReachableIn M N k target)
+  pub some : 1 ≤ a .period → Covered M N k target a
 
 -- A net read and checked, in slices.
 pub record Planning (k target : ℕ) (z : NetSizes) (net ts : List ℕ) : Type 0 where
@@ -64,9 +64,9 @@ pub record Roomy (G : ℕ) (rows luts : List ℕ) : Type 0 where
   pub atLuts : G ≤ length luts
 
 -- The engine's arrays for a net with n outputs, with nothing forced.
-pub record Engine (s : Extent) (n : ℕ) (net ts : List ℕ) (k target : ℕ) (t : List ℕ) (ls : List ℤ) : Type 0 where
+pub record Engine (M : Mode) (s : Extent) (n : ℕ) (net ts : List ℕ) (k target : ℕ) (t : List ℕ) (ls : List ℤ) : Type 0 where
   pub model : Net
-  pub suits : Suits (wiring s net) k (topsIn s net 0) model
+  pub suits : Suits M (wiring s net) k (topsIn s net (capIn M)) model
   pub passed : Passed model k
   pub ended : model .outputs ≡ pinsIn (outsIn s net) (delaysIn s net n) 0 n
   pub layout : Layout (packedOf s net (replicate mostHeld 0))
@@ -74,12 +74,12 @@ pub record Engine (s : Extent) (n : ℕ) (net ts : List ℕ) (k target : ℕ) (t
   pub size : length t ≡ mostTable
   pub fits : (s .inputs + s .gates) * s .width ≤ mostTable
   pub clear : (c : ℕ) → getD t c 0 ≡ 0
-  pub period : PeriodAsked s net ls (topsIn s net 0) (orderIn s net) (outsIn s net) (delaysIn s net n) n target k
+  pub period : PeriodAsked s net ls (topsIn s net (capIn M)) (orderIn s net) (outsIn s net) (delaysIn s net n) n target k
   pub wires : SmallWires (s .inputs) (s .gates) net (drop (sourcesAt (s .gates)) net) (drop (countsAt (s .gates)) net)
   pub parts : packedRoom (s .inputs) (s .gates) n ≤ length net
   pub tables : s .gates ≤ length ts
   pub few : k ≤ stride
 
 -- the cover, for every net that suits
-pub record CoverTold (s : Extent) (n : ℕ) (net ts : List ℕ) (k target : ℕ) (a : Kept) : Type 0 where
-  pub cover : (N : Net) → Suits (wiring s net) k (topsIn s net 0) N → Passed N k → Tabled N (s .inputs) (s .gates) ts → N .outputs ≡ pinsIn (outsIn s net) (delaysIn s net n) 0 n → Planned N k target a
+pub record CoverTold (M : Mode) (s : Extent) (n : ℕ) (net ts : List ℕ) (k target : ℕ) (a : Kept) : Type 0 where
+  pub cover : (N : Net) → Suits M (wiring s net) k (topsIn s net (capIn M)) N → Passed N k → Tabled N (s .inputs) (s .gates) ts → N .outputs ≡ pinsIn (outsIn s net) (delaysIn s net n) 0 n → Planned M N k target a

@@ -16,6 +16,7 @@ use Rattle.net_model.specs.WiredLaws.{netIn-wired}
 use Rattle.net_model.specs.Checks.{Passed}
 use Rattle.net_model.specs.PackedNet.{firstAt, sourcesAt, countsAt, orderAt, topsAt, outsAt, delaysAt, packedRoom, NetKept}
 use Rattle.net_model.specs.PackedNetLaws.{length-part, kept-between, kept-net}
+use Rattle.label_theory.specs.Labels.{Mode, plain, forward}
 use Rattle.label_theory.specs.Pins.{OutPath}
 use Rattle.limits.specs.Limits.{mostBeyond, mostCount, mostGates, mostNodes, mostPeriod, mostPins, mostReach, mostRows, mostTable, mostHeld}
 use Rattle.cone_theory.specs.Ranks.{ranked}
@@ -38,11 +39,11 @@ use Rattle.cut_circuit.specs.declared.Extent.{Extent}
 use Rattle.cut_circuit.specs.PinLinks.{LinkAsked, LinkedIn, Links}
 use Rattle.cut_circuit.specs.PinLinksLaws.{chains}
 use Rattle.label_sweep.specs.Sweeps.{Sized, Ordered, orderIn, outsIn, delaysIn}
-use Rattle.label_visit.specs.LabelVisits.{Suits, wiring, Ceilings, topsIn}
-use Rattle.label_visit.specs.TopLaws.{tops-own}
+use Rattle.label_visit.specs.LabelVisits.{Ceiled, Suits, wiring, Ceilings, topsIn}
+use Rattle.label_visit.specs.TopLaws.{tops-own, top-capped, capped}
 use Rattle.job_plan.specs.Counts.{Counted, SumCounts, Extending, extentBy, ExtentOf}
 use Rattle.job_plan.specs.CountLaws.{sum-reach}
-use Rattle.job_plan.specs.Found.{PeriodAsked}
+use Rattle.job_plan.specs.Found.{capIn, PeriodAsked}
 use Rattle.job_plan.specs.Planned.{Covered, Planned, Planning, Roomy, Engine, CoverTold}
 use Rattle.job_plan.specs.Entries.{withLabels, entries-in}
 use Rattle.sequences.specs.Zeros.{zeros}
@@ -52,9 +53,9 @@ pub tabled-netIn : (a : Arrays) → Tabled (netIn a) (a .inputs) (a .gates) (a .
 tabled-netIn a = record { table = λ g h. ap (λ (x : Gate). x .table) (gate-netIn a (a .inputs + g) g refl h) }
 
 -- the same cover with labels that agree on the gates
-covered-with : {N : Net} {k target : ℕ} {a : Kept} {ls : List ℤ} → ((u : ℕ) → u < a .inputs + a .gates → getD (a .labels) u (pos 0) ≡ getD ls u (pos 0))
-    → Covered N k target a → N .inputs ≡ a .inputs → length (N .gates) ≡ a .gates → Covered N k target (withLabels a ls)
-covered-with {N} {a = a} {ls} same c i g = record {
+covered-with : {M : Mode} {N : Net} {k target : ℕ} {a : Kept} {ls : List ℤ} → ((u : ℕ) → u < a .inputs + a .gates → getD (a .labels) u (pos 0) ≡ getD ls u (pos 0))
+    → Covered M N k target a → N .inputs ≡ a .inputs → length (N .gates) ≡ a .gates → Covered M N k target (withLabels a ls)
+covered-with {N = N} {a = a} {ls} same c i g = record {
   positive = c .positive;
   given = c .given;
   least = c .least;
@@ -194,16 +195,21 @@ module _ {k target : ℕ} {z : NetSizes} {net ts : List ℕ} (p : Planning k tar
       count = λ g j h i. let a = p .facts .count g j h i in omega arith;
     }
 
-    suits : Suits (wiring extent net) k (topsIn extent net 0) N
-    suits = subst (λ (l : List ℕ). Suits (wiring extent net) k l N) (sym (tops-own extent net)) (record {
+    -- the ceilings of a mode are right
+    ceiled : (M : Mode) (g : ℕ) → g < G → Ceiled M N (I + g) (getD (topsIn extent net (capIn M)) g 0)
+    ceiled plain g h = rw (tops-own extent net) (rw (top-at g) (p .graph .topped .low g h, p .graph .paths g h))
+    ceiled forward g h = let e = top-capped extent net 1 g h (omega arith) in omega (arith, e)
+
+    suits : (M : Mode) → Suits M (wiring extent net) k (topsIn extent net (capIn M)) N
+    suits M = record {
       holds = record { inputs = wired .inputs; gates = wired .gates; lists = wired .wiring };
       ranked = ranked (p .passed .reached);
       loopless = p .passed .loopless;
       sound = p .passed .sound;
       fits = p .passed .fits;
       border = border-enough;
-      path = λ g h. rw (top-at g) (p .graph .topped .low g h, p .graph .paths g h);
-    })
+      path = ceiled M;
+    }
 
     -- what 32 times a small number is
     far : (x : ℕ) → x ≤ 100000 → mostPeriod * x ≤ room
@@ -212,9 +218,20 @@ module _ {k target : ℕ} {z : NetSizes} {net ts : List ℕ} (p : Planning k tar
     order-at : (i : ℕ) → getD (drop (orderAt I G) net) i 0 ≡ getD net (orderAt I G + i) 0
     order-at i = getD-drop (orderAt I G) net i 0
 
-    period : (ls : List ℤ) → length ls ≡ I + G
-        → PeriodAsked extent net ls (topsIn extent net 0) (orderIn extent net) (outsIn extent net) (delaysIn extent net (z .outputs)) (z .outputs) target k
-    period ls e = record {
+    -- and do not overflow
+    ceilings : (M : Mode) → Ceilings (wiring extent net) mostPeriod (topsIn extent net (capIn M))
+    ceilings plain = subst (Ceilings (wiring extent net) mostPeriod) (sym (tops-own extent net)) (record {
+      size = long (topsAt I G) G (omega arith);
+      top = λ g h. let b = mul-le-mul-left mostPeriod (small-top g h) in omega arith;
+    })
+      where
+        small-top : (g : ℕ) → g < G → getD tops g 0 ≤ 100000
+        small-top g h = omega (arith, top-at g, p .graph .topped .high g h, p .facts .gates-high)
+    ceilings forward = capped extent net mostPeriod 1 (omega arith) (omega arith)
+
+    period : (M : Mode) (ls : List ℤ) → length ls ≡ I + G
+        → PeriodAsked extent net ls (topsIn extent net (capIn M)) (orderIn extent net) (outsIn extent net) (delaysIn extent net (z .outputs)) (z .outputs) target k
+    period M ls e = record {
       sized = record {
         size = e;
         shift = far (k * m + mostBeyond) (let a = border-small in omega arith);
@@ -232,20 +249,11 @@ module _ {k target : ℕ} {z : NetSizes} {net ts : List ℕ} (p : Planning k tar
         gate = λ i h. omega (arith, order-at i, p .graph .ordered .inOrder i h);
         all = λ g h. let t = p .graph .ordered .ordered g h in (t .0, t .1, order-at (t .0) ∙ t .2);
       };
-      ceilings = subst (Ceilings (wiring extent net) mostPeriod) (sym (tops-own extent net)) (record {
-        size = long (topsAt I G) G (omega arith);
-        top = λ g h.
-            let a = far (getD tops g 0) (omega (arith, top-at g, p .graph .topped .high g h, p .facts .gates-high)) in
-            let b = mul-le-mul-left mostPeriod (small-top g h) in
-            omega arith;
-      });
+      ceilings = ceilings M;
       some = p .facts .gates-low;
       few = p .facts .gates-high;
       near = p .near;
     }
-      where
-        small-top : (g : ℕ) → g < G → getD tops g 0 ≤ 100000
-        small-top g h = omega (arith, top-at g, p .graph .topped .high g h, p .facts .gates-high)
 
     outputs-are : N .outputs ≡ pinsIn (drop (outsAt I G) net) (drop (delaysAt I G (z .outputs)) net) 0 (z .outputs)
     outputs-are = outputs-netIn (arraysOf z net ts)
@@ -255,11 +263,11 @@ module _ {k target : ℕ} {z : NetSizes} {net ts : List ℕ} (p : Planning k tar
     tabled = tabled-netIn (arraysOf z net ts)
 
     -- **the engine's arrays**
-    plan-engine : LinkedIn (I + G) G net (mostPins * G) → (t : List ℕ) → t ≡ replicate mostTable 0 → (ls : List ℤ) → length ls ≡ I + G
-        → Engine extent (z .outputs) net ts k target t ls
-    plan-engine linked t e ls f = record {
+    plan-engine : (M : Mode) → LinkedIn (I + G) G net (mostPins * G) → (t : List ℕ) → t ≡ replicate mostTable 0 → (ls : List ℤ) → length ls ≡ I + G
+        → Engine M extent (z .outputs) net ts k target t ls
+    plan-engine M linked t e ls f = record {
       model = N;
-      suits = suits;
+      suits = suits M;
       passed = p .passed;
       ended = outputs-are;
       layout = layout;
@@ -267,7 +275,7 @@ module _ {k target : ℕ} {z : NetSizes} {net ts : List ℕ} (p : Planning k tar
       size = ap length e ∙ length-replicate {A = ℕ} mostTable 0;
       fits = table-small;
       clear = λ c. ap (λ (x : List ℕ). getD x c 0) e ∙ zeros mostTable c;
-      period = period ls f;
+      period = period M ls f;
       wires = net-wires (p .facts) (p .room);
       parts = p .room .packed;
       tables = p .room .tabled;
@@ -275,26 +283,26 @@ module _ {k target : ℕ} {z : NetSizes} {net ts : List ℕ} (p : Planning k tar
     }
 
     -- **the cover, with its labels in front of a longer array**
-    plan-planned : {ls : List ℤ} {rows luts : List ℕ} {r : ℕ} (rest : List ℤ) → length ls ≡ I + G
-        → CoverTold extent (z .outputs) net ts k target (keptIn I G r ls rows luts)
-        → Planned N k target (keptIn I G r (ls ++ rest) rows luts)
-    plan-planned {ls} {rows} {luts} {r} rest e told = relabel (told .cover N suits (p .passed) tabled outputs-are)
+    plan-planned : {M : Mode} {ls : List ℤ} {rows luts : List ℕ} {r : ℕ} (rest : List ℤ) → length ls ≡ I + G
+        → CoverTold M extent (z .outputs) net ts k target (keptIn I G r ls rows luts)
+        → Planned M N k target (keptIn I G r (ls ++ rest) rows luts)
+    plan-planned {M} {ls} {rows} {luts} {r} rest e told = relabel (told .cover N (suits M) (p .passed) tabled outputs-are)
       where
         same : (u : ℕ) → u < I + G → getD ls u (pos 0) ≡ getD (ls ++ rest) u (pos 0)
         same u h = sym (List·getD-append ls rest (pos 0) u (omega (arith, e, h)))
 
-        relabel : Planned N k target (keptIn I G r ls rows luts) → Planned N k target (keptIn I G r (ls ++ rest) rows luts)
+        relabel : Planned M N k target (keptIn I G r ls rows luts) → Planned M N k target (keptIn I G r (ls ++ rest) rows luts)
         relabel q = record { none = q .none; some = λ h. covered-with same (q .some h) (wired .inputs) (wired .gates) }
 
 -- ---- the same for the extent that the program makes
 module _ {k target : ℕ} {z : NetSizes} {net ts : List ℕ} (p : Planning k target z net ts) {s : Extent} (x : ExtentOf z net k s) where
-  pub planned-engine : LinkedIn (z .inputs + z .gates) (z .gates) net (mostPins * z .gates) → (t : List ℕ) → t ≡ replicate mostTable 0 → (ls : List ℤ) → length ls ≡ z .inputs + z .gates
-      → Engine s (z .outputs) net ts k target t ls
-  planned-engine linked t e ls f = subst (λ (y : Extent). Engine y (z .outputs) net ts k target t ls) (sym (x .is)) (plan-engine p (x .sum) linked t e ls f)
+  pub planned-engine : (M : Mode) → LinkedIn (z .inputs + z .gates) (z .gates) net (mostPins * z .gates) → (t : List ℕ) → t ≡ replicate mostTable 0 → (ls : List ℤ) → length ls ≡ z .inputs + z .gates
+      → Engine M s (z .outputs) net ts k target t ls
+  planned-engine M linked t e ls f = subst (λ (y : Extent). Engine M y (z .outputs) net ts k target t ls) (sym (x .is)) (plan-engine p (x .sum) M linked t e ls f)
 
   -- the net read suits, and its outputs are those of the slice
-  pub planned-suits : Suits (wiring s net) k (topsIn s net 0) (netIn (arraysOf z net ts))
-  planned-suits = subst (λ (y : Extent). Suits (wiring y net) k (topsIn y net 0) (netIn (arraysOf z net ts))) (sym (x .is)) (suits p (x .sum))
+  pub planned-suits : (M : Mode) → Suits M (wiring s net) k (topsIn s net (capIn M)) (netIn (arraysOf z net ts))
+  planned-suits M = subst (λ (y : Extent). Suits M (wiring y net) k (topsIn y net (capIn M)) (netIn (arraysOf z net ts))) (sym (x .is)) (suits p (x .sum) M)
 
   pub planned-outputs : netIn (arraysOf z net ts) .outputs ≡ pinsIn (outsIn s net) (delaysIn s net (z .outputs)) 0 (z .outputs)
   planned-outputs = subst (λ (y : Extent). netIn (arraysOf z net ts) .outputs ≡ pinsIn (outsIn y net) (delaysIn y net (z .outputs)) 0 (z .outputs)) (sym (x .is)) (outputs-are p (x .sum))
@@ -302,13 +310,13 @@ module _ {k target : ℕ} {z : NetSizes} {net ts : List ℕ} (p : Planning k tar
   pub planned-room : {rows luts : List ℕ} → Roomy (z .gates) rows luts → Roomy (s .gates) rows luts
   planned-room {rows} {luts} r = subst (λ (y : Extent). Roomy (y .gates) rows luts) (sym (x .is)) r
 
-  pub planned-cover : {N : Net} → netIn (arraysOf z net ts) ≡ N → {ls : List ℤ} {rows luts : List ℕ} {r : ℕ} (rest : List ℤ) → length ls ≡ z .inputs + z .gates
-      → CoverTold s (z .outputs) net ts k target (keptIn (s .inputs) (s .gates) r ls rows luts)
-      → Planned N k target (keptIn (z .inputs) (z .gates) r (ls ++ rest) rows luts)
-  planned-cover same {ls} {rows} {luts} {r} rest e told =
-      subst (λ (N : Net). Planned N k target (keptIn (z .inputs) (z .gates) r (ls ++ rest) rows luts)) same
+  pub planned-cover : {M : Mode} {N : Net} → netIn (arraysOf z net ts) ≡ N → {ls : List ℤ} {rows luts : List ℕ} {r : ℕ} (rest : List ℤ) → length ls ≡ z .inputs + z .gates
+      → CoverTold M s (z .outputs) net ts k target (keptIn (s .inputs) (s .gates) r ls rows luts)
+      → Planned M N k target (keptIn (z .inputs) (z .gates) r (ls ++ rest) rows luts)
+  planned-cover {M} same {ls} {rows} {luts} {r} rest e told =
+      subst (λ (N : Net). Planned M N k target (keptIn (z .inputs) (z .gates) r (ls ++ rest) rows luts)) same
       (plan-planned p (x .sum) rest e
-      (subst (λ (y : Extent). CoverTold y (z .outputs) net ts k target (keptIn (y .inputs) (y .gates) r ls rows luts)) (x .is) told))
+      (subst (λ (y : Extent). CoverTold M y (z .outputs) net ts k target (keptIn (y .inputs) (y .gates) r ls rows luts)) (x .is) told))
 
 -- slices of zeros have room for a cover
 pub zero-room : (G : ℕ) → G ≤ mostGates → Roomy G (replicate mostRows 0) (replicate mostGates 0)

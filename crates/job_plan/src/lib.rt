@@ -1,13 +1,13 @@
-// The cover of a net that passed the checks: period, labels, chosen roots, their cuts and tables, kept in slices.
+// The cover of a net that passed the checks, plain or forward: period, labels, chosen roots, their cuts and tables, kept in slices.
 use cone_luts::tabulate;
 use cover_roots::choose;
 use cut_circuit::Extent;
 use cut_circuit::link;
 use job_scratch::clear_first;
+use label_aim::Aim;
 use label_lines::greater;
 use label_period::least_period;
 use label_sweep::reach;
-use label_visit::Aim;
 use limits::BEYOND;
 use limits::COPIES;
 use limits::HELD;
@@ -18,6 +18,7 @@ use limits::STACK;
 use limits::TABLE;
 use net_reader::NetSizes;
 ghost use mathlib.Core.Path.{_≡_};
+ghost use mathlib.Core.Bool.{false};
 ghost use Prim.Native.Nat.{_+_, _-_, _*_, _≤_, _<_};
 ghost use lib.ListN.{length};
 ghost use Rattle.net_model.specs.Arrays.{netIn};
@@ -26,11 +27,12 @@ ghost use Rattle.net_model.specs.PackedNet.{packedRoom, NetKept};
 ghost use Rattle.net_reader.specs.ReadAnswer.{arraysOf};
 ghost use Rattle.cut_circuit.specs.Packed.{packedOf};
 ghost use Rattle.cut_question.specs.Separating.{AtRest};
+ghost use Rattle.label_aim.specs.Aims.{modeOf};
 ghost use Rattle.label_visit.specs.LabelVisits.{wiring, topsIn};
 ghost use Rattle.label_sweep.specs.Sweeps.{orderIn, outsIn, delaysIn};
 ghost use Rattle.job_plan.specs.Counts.{MostCount, Counted, SumCounts, Extending, ExtentOf};
 ghost use Rattle.cover_records.specs.Rows.{keptIn};
-ghost use Rattle.job_plan.specs.Found.{PeriodAsked, PeriodFound};
+ghost use Rattle.job_plan.specs.Found.{capIn, PeriodAsked, PeriodFound};
 ghost use Rattle.job_plan.specs.Planned.{Planned, Planning, Roomy, Engine, CoverTold};
 
 // The largest of n counts from a place on.
@@ -79,6 +81,16 @@ pub fn extent(z: NetSizes, net: &[usize], k: usize) -> Extent
     }
 }
 
+// The ceilings that a mode asks for.
+fn cap_of(forward: bool) -> usize
+    ensures { λ r. ⌜ r ≡ capIn (modeOf forward) ⌝ }
+{
+    if forward {
+        return 1;
+    }
+    0
+}
+
 // The target a.phi where it is reachable, or the least period for target 0, with the least labelling left in labels. 0: the target is not reachable.
 fn find_period(
     s: Extent,
@@ -94,9 +106,9 @@ fn find_period(
 ) -> usize
     requires { ⌜ AtRest (packedOf s (now net) (now slots)) (now table) (now list) (now stack) (now counts) (now members) ⌝ }
     requires { ⌜ packedRoom (s .inputs) (s .gates) (a .outputs) ≤ length (now net) ⌝ }
-    requires { ⌜ PeriodAsked s (now net) (now labels) (topsIn s (now net) 0) (orderIn s (now net)) (outsIn s (now net)) (delaysIn s (now net) (a .outputs)) (a .outputs) (a .phi) (a .k) ⌝ }
+    requires { ⌜ PeriodAsked s (now net) (now labels) (topsIn s (now net) (a .cap)) (orderIn s (now net)) (outsIn s (now net)) (delaysIn s (now net) (a .outputs)) (a .outputs) (a .phi) (a .k) × (a .trial ≡ false) ⌝ }
     ensures { λ _. ⌜ AtRest (packedOf s (now (net .entry)) (now (slots .exit))) (now (table .exit)) (now (list .exit)) (now (stack .exit)) (now (counts .exit)) (now (members .exit)) ⌝ }
-    ensures { λ r. ⌜ PeriodFound (wiring s (now (net .entry))) (a .k) (a .phi) (topsIn s (now (net .entry)) 0) (outsIn s (now (net .entry))) (delaysIn s (now (net .entry)) (a .outputs)) (a .outputs) (now (labels .exit)) r ⌝ }
+    ensures { λ r. ⌜ PeriodFound (modeOf (a .forward)) (wiring s (now (net .entry))) (a .k) (a .phi) (topsIn s (now (net .entry)) (a .cap)) (outsIn s (now (net .entry))) (delaysIn s (now (net .entry)) (a .outputs)) (a .outputs) (now (labels .exit)) r ⌝ }
 {
     if a.phi == 0 {
         return least_period(
@@ -109,16 +121,9 @@ fn find_period(
             counts,
             members,
             labels,
-            a.outputs,
-            a.k,
+            a,
         );
     }
-    let b = Aim {
-        phi: a.phi,
-        k: a.k,
-        outputs: a.outputs,
-        cap: 0,
-    };
     if reach(
         s,
         net,
@@ -129,7 +134,7 @@ fn find_period(
         counts,
         members,
         labels,
-        b,
+        a,
     ) {
         return a.phi;
     }
@@ -144,14 +149,15 @@ fn cover(
     tables: &[u64],
     k: usize,
     target: usize,
+    forward: bool,
     table: &mut [u8],
     labels: &mut [i64],
     rows: &mut [usize],
     luts: &mut [u64],
 ) -> usize
-    requires { ⌜ Engine s n (now net) (now tables) k target (now table) (now labels) ⌝ }
+    requires { ⌜ Engine (modeOf forward) s n (now net) (now tables) k target (now table) (now labels) ⌝ }
     requires { ⌜ Roomy (s .gates) (now rows) (now luts) ⌝ }
-    ensures { λ r. ⌜ CoverTold s n (now (net .entry)) (now (tables .entry)) k target (keptIn (s .inputs) (s .gates) r (now (labels .exit)) (now (rows .exit)) (now (luts .exit))) ⌝ }
+    ensures { λ r. ⌜ CoverTold (modeOf forward) s n (now (net .entry)) (now (tables .entry)) k target (keptIn (s .inputs) (s .gates) r (now (labels .exit)) (now (rows .exit)) (now (luts .exit))) ⌝ }
 {
     let end = (s.inputs + s.gates) * s.width;
     let mut slots = [0u32; HELD];
@@ -159,11 +165,14 @@ fn cover(
     let mut stack = [0u32; STACK];
     let mut counts = [0u32; NODES];
     let mut members = [0u32; COPIES];
+    let cap = cap_of(forward);
     let asked = Aim {
         phi: target,
         k: k,
         outputs: n,
-        cap: 0,
+        cap: cap,
+        forward: forward,
+        trial: false,
     };
     let phi = find_period(
         s,
@@ -184,7 +193,9 @@ fn cover(
         phi: phi,
         k: k,
         outputs: n,
-        cap: 0,
+        cap: cap,
+        forward: forward,
+        trial: false,
     };
     choose(
         s,
@@ -210,6 +221,7 @@ pub fn plan(
     tables: &[u64],
     k: usize,
     target: usize,
+    forward: bool,
     work: &mut [u8],
     labels: &mut [i64],
     rows: &mut [usize],
@@ -217,7 +229,7 @@ pub fn plan(
 ) -> usize
     requires { ⌜ Planning k target z (now net) (now tables) ⌝ }
     requires { ⌜ (mostTable ≤ length (now work)) × (z .inputs + z .gates ≤ length (now labels)) × Roomy (z .gates) (now rows) (now luts) ⌝ }
-    ensures { λ r. ⌜ Planned (netIn (arraysOf z (now (net .entry)) (now (tables .entry)))) k target (keptIn (z .inputs) (z .gates) r (now (labels .exit)) (now (rows .exit)) (now (luts .exit))) ⌝ }
+    ensures { λ r. ⌜ Planned (modeOf forward) (netIn (arraysOf z (now (net .entry)) (now (tables .entry)))) k target (keptIn (z .inputs) (z .gates) r (now (labels .exit)) (now (rows .exit)) (now (luts .exit))) ⌝ }
     ensures { λ _. ⌜ NetKept (z .inputs) (z .gates) (now (net .entry)) (now (net .exit)) ⌝ }
 {
     let all = z.inputs + z.gates;
@@ -232,6 +244,7 @@ pub fn plan(
         tables,
         k,
         target,
+        forward,
         &mut work[..end],
         &mut labels[..all],
         rows,

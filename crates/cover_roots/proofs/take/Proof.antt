@@ -3,6 +3,8 @@ use mathlib.Core.Path.{refl, sym, subst}
 use Prim.Native.Nat.{_+_}
 use native.Mathlib.Omega.{arith}
 use denote.Ref.{now}
+use mir.Syntax.{w64}
+use mir.Val.{toZ, ofZ}
 use Rattle.signed.specs.RangeLaws.{back, small-fits}
 use Rattle.signed.specs.Range.{Small, labelIn}
 use Rattle.label_aim.specs.AimLaws.{bordering-own}
@@ -24,7 +26,7 @@ shared-slice-copy-out-h c = search needs
 
 narrowed-requires : tie.Need-narrowed-requires
 narrowed-requires c κs =
-    let start = c@start in
+    let start = c .before .before .before .before .before .before .before .before .before .before in
     let v = start .args .s .inputs + start .args .g in
     let s = start .pre .1 .0 .small v in
     (subst Small (sym (back (labelIn (now (start .args .labels)) v) (small-fits (labelIn (now (start .args .labels)) v) s))) s, start .pre .1 .0 .shift, start .pre .0 .resting .layout .wide)
@@ -37,8 +39,8 @@ slice-aggregate-chosen-2 c = search needs
 
 chosen-requires : tie.Need-chosen-requires
 chosen-requires c κs =
-    let start = c@start in
-    let B = bordering-own (start .args .a) (start .pre .1 .3) (c@narrowed .ensures) in
+    let start = c .before .before .before .before .before .before .before .before .before .before .before .before .before .before .before .before .before .before .before in
+    let B = bordering-own {h = toZ w64 (ofZ w64 (labelIn (now (start .args .labels)) (start .args .s .inputs + start .args .g)))} (start .args .a) (start .pre .1 .3) (c .before .before .before .before .before .before .before .before .narrowed .ensures) in
     (rest-to B (start .pre .0), (asks-of B (start .args .g) (start .pre .1 .0) (start .pre .1 .1), takes-of B (start .pre .1 .0) refl refl))
 
 slice-aggregate-finish : tie.Need-slice-aggregate-finish
@@ -49,8 +51,8 @@ slice-aggregate-finish-2 c = search needs
 
 finish-requires : tie.Need-finish-requires
 finish-requires c κs =
-    let chosen = c@chosen in
-    let start = c@start in
+    let chosen = c .before .before .before .before .before .before .before .before .before .before .before .before .before .before .before .before .before .chosen in
+    let start = c .before .before .before .before .before .before .before .before .before .before .before .before .before .before .before .before .before .before .before .before .before .before .before .before .before .before .before .before .before .before .before .before .before .before .before .before .before in
     (start .pre .1 .0 .few, start .pre .1 .1, start .pre .1 .2, omega (arith, start .pre .1 .0 .few, chosen .kept .1 .1 .1 .1 .1 .1 .1 .1 .0), omega (arith, start .pre .1 .0 .few, chosen .kept .1 .1 .1 .1 .1 .1 .1 .1 .1 .0))
 
 same-length : tie.Need-same-length
@@ -76,18 +78,18 @@ same-length-7 c = search needs
 
 returns : tie.Need-returns
 returns c =
-    let chosen = c@chosen in
-    let start = c@start in
+    let chosen = c .before .before .before .before .before .before .before .before .before .before .before .before .before .before .before .before .before .before .before .before .chosen in
+    let start = c .before .before .before .before .before .before .before .before .before .before .before .before .before .before .before .before .before .before .before .before .before .before .before .before .before .before .before .before .before .before .before .before .before .before .before .before .before .before .before .before in
     let a = start .args in
     let v = a .s .inputs + a .g in
-    let B = bordering-own (start .args .a) (start .pre .1 .3) (c@narrowed .ensures) in (
+    let B = bordering-own {h = toZ w64 (ofZ w64 (labelIn (now (start .args .labels)) (start .args .s .inputs + start .args .g)))} (start .args .a) (start .pre .1 .3) (c .before .before .before .before .before .before .before .before .before .before .before .before .before .before .before .before .before .before .before .before .before .before .before .before .before .before .before .before .before .narrowed .ensures) in (
       rest-from B (start .pre .0) (chosen .ensures .0),
       record {
         count = chosen .result;
         nodes = chosen .last .1 .1 .1 .1 .1 .1 .1 .1 .0;
         backs = chosen .last .1 .1 .1 .1 .1 .1 .1 .1 .1 .0;
         cut = cut-written (a .g) (start .pre .1 .1) B (chosen .ensures .1 .0) (chosen .ensures .1 .1) (back (labelIn (now (a .labels)) v) (small-fits (labelIn (now (a .labels)) v) (start .pre .1 .0 .small v)));
-        stored = c@finish .ensures;
+        stored = c .before .before .finish .ensures;
       },
     )
 
