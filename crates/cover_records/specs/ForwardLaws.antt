@@ -24,7 +24,7 @@ use Rattle.net_model.specs.Tables.{tableOf}
 use Rattle.net_bytes.specs.Reading.{Result, got, refused}
 use Rattle.net_bytes.specs.Walk.{Drawn, drawnReader}
 use Rattle.run_theory.specs.Bench.{valueAt, Counts}
-use Rattle.label_theory.specs.Labels.{Mode, forward}
+use Rattle.label_theory.specs.Labels.{Mode, plain, forward}
 use Rattle.cover_theory.specs.Covers.{Lut, Cover, lut, lagOf}
 use Rattle.cover_theory.specs.Joined.{key-met, key-suited}
 use Rattle.cover_theory.specs.Key.{KeyIn, Entry, entries, asCover}
@@ -37,11 +37,11 @@ use Rattle.cover_records.specs.CoverBytes.{coverBytes}
 use Rattle.cover_records.specs.KeyRecord.{roomy, WithinLimits, key-lag-range, few-entries}
 use Rattle.cover_records.specs.LoaderImage.{isLent, loaded}
 use Rattle.cover_records.specs.LoaderLaws.{not-lent}
-use Rattle.cover_records.specs.LoaderOutcome.{LoaderOutcome, beside, tooShort, loaderWritten, loaderCheckedIn, loaderFitIn}
+use Rattle.cover_records.specs.LoaderOutcome.{LoaderOutcome, beside, tooShort, loaderWritten, loaderCheckedIn, loaderFitIn, loaderSized, loaderOutcome}
 use Rattle.cover_records.specs.Marking.{TablesRight}
 use Rattle.cover_records.specs.MarkingDecided.{table-determined}
 use Rattle.cover_records.specs.Outcomes.{Answer, accepted, turnedBack, Checked, passes, fails, checkNet, cleared, written, MapOutcome, MappedIn, covered, unreachable, mappedIn, mapSizes, mapWritten, mapCheckedIn}
-use Rattle.cover_records.specs.ForwardOutcome.{ForwardOutcome, withContents, contentsArea, contentsShort, sizesWith, sectionFrom, sectionOf, lacking, sectioned, contentsWritten, contentsChecked, forwardFit, forwardSized, forwardFrom, forwardOutcome}
+use Rattle.cover_records.specs.ForwardOutcome.{ForwardOutcome, withContents, contentsArea, contentsShort, sizesWith, sectionFrom, sectionOf, lacking, sectioned, contentsWritten, contentsChecked, outcomeFit, outcomeSized, outcomeFrom, forwardOutcome}
 
 -- ---- the ways of a call
 
@@ -50,7 +50,7 @@ module _ (R : Rules) (short : Bool) (start : Net → List ℕ → ℕ → ℕ �
   section = sectionOf R k net
 
   abbrev pub whole : ForwardOutcome
-  whole = forwardFrom R short start net k target area scratch loader contents
+  whole = outcomeFrom forward R short start net k target area scratch loader contents
 
   -- refusal n: the three areas keep their bytes
   abbrev pub refusing : ℕ → List ℕ → ForwardOutcome
@@ -64,45 +64,45 @@ module _ (R : Rules) (short : Bool) (start : Net → List ℕ → ℕ → ℕ �
   checks = sectioned (lacking contents section) (checkNet R k net)
 
   sized : ℕ → ForwardOutcome
-  sized n = forwardSized R n (λ N. start N section) k target checks area scratch loader contents
+  sized n = outcomeSized forward R n (λ N. start N section) k target checks area scratch loader contents
 
   -- **1 to 3 as map tells them**, whatever the contents area: all keeps its bytes
   pub forward-early : (n : ℕ) → mapSizes R k target area scratch ≡ suc n → whole ≡ refusing (suc n) scratch
-  unfolding forwardFrom forwardSized sized
+  unfolding outcomeFrom outcomeSized sized
   forward-early n e = ap (λ (m : ℕ). sized (sizesWith short m)) e
 
   module _ (sizes : mapSizes R k target area scratch ≡ 0) where
     -- **3 of the contents area**
     pub forward-small : short ≡ true → whole ≡ refusing 3 scratch
-    unfolding forwardFrom forwardSized sized
+    unfolding outcomeFrom outcomeSized sized
     forward-small s = ap (λ (m : ℕ). sized (sizesWith short m)) sizes ∙ ap (λ (b : Bool). sized (cond b 3 0)) s
 
     module _ (enough : short ≡ false) where
       abbrev fit : Bool → ForwardOutcome
-      fit b = forwardFit R b (λ N. start N section) k target checks area scratch loader contents
+      fit b = outcomeFit forward R b (λ N. start N section) k target checks area scratch loader contents
 
       fits : whole ≡ fit (tooShort loader)
-      unfolding forwardFrom forwardSized sized
+      unfolding outcomeFrom outcomeSized sized
       fits = ap (λ (m : ℕ). sized (sizesWith short m)) sizes ∙ ap (λ (b : Bool). sized (cond b 3 0)) enough
 
       -- **20**
       pub forward-loader : tooShort loader ≡ true → whole ≡ refusing 20 wiped
-      unfolding forwardFit loaderFitIn
+      unfolding outcomeFit loaderFitIn
       forward-loader s = fits ∙ ap fit s
 
       module _ (load : tooShort loader ≡ false) where
         abbrev behind : Checked k → ForwardOutcome
-        behind c = forwardFit R false (λ N. start N section) k target c area scratch loader contents
+        behind c = outcomeFit forward R false (λ N. start N section) k target c area scratch loader contents
 
         -- **4 to 11**
         pub forward-fails : (n : ℕ) → checkNet R k net ≡ fails n → whole ≡ refusing n wiped
-        unfolding forwardFit loaderFitIn mapCheckedIn loaderCheckedIn contentsChecked sectioned
+        unfolding outcomeFit loaderFitIn mapCheckedIn loaderCheckedIn contentsChecked sectioned
         forward-fails n e = fits ∙ ap fit load ∙ ap (λ (c : Checked k). behind (sectioned (lacking contents section) c)) e
 
         module _ (N : Net) (P : Passed N k) (passed : checkNet R k net ≡ passes N P) where
           -- **21**, whatever the target
           pub forward-lacking : lacking contents section ≡ true → whole ≡ refusing 21 wiped
-          unfolding forwardFit loaderFitIn mapCheckedIn loaderCheckedIn contentsChecked sectioned
+          unfolding outcomeFit loaderFitIn mapCheckedIn loaderCheckedIn contentsChecked sectioned
           forward-lacking l =
               fits ∙ ap fit load ∙ ap (λ (c : Checked k). behind (sectioned (lacking contents section) c)) passed ∙ ap (λ (b : Bool). behind (sectioned b (passes N P))) l
 
@@ -111,7 +111,7 @@ module _ (R : Rules) (short : Bool) (start : Net → List ℕ → ℕ → ℕ �
             made m = withContents (beside (mapWritten R m area scratch) (loaderWritten m loader)) (contentsWritten (start N section) m contents)
 
             goes : whole ≡ made (mappedIn forward N k target P)
-            unfolding forwardFit loaderFitIn mapCheckedIn loaderCheckedIn contentsChecked sectioned
+            unfolding outcomeFit loaderFitIn mapCheckedIn loaderCheckedIn contentsChecked sectioned
             goes =
                 fits ∙ ap fit load ∙ ap (λ (c : Checked k). behind (sectioned (lacking contents section) c)) passed ∙ ap (λ (b : Bool). behind (sectioned b (passes N P))) given
 
@@ -204,3 +204,44 @@ module _ {N : Net} {k φ : ℕ} (P : Passed N k) (l : WithinLimits long N k) (po
     where
       rows : length (cover .luts) * k ≤ long .gates * mostK → length (cover .luts) * k + length (N .outputs) ≤ long .gates * mostK + mostOutputs
       rows h = omega (arith, h, few)
+
+-- ---- document 01's mode: no contents area is lent
+module _ (contents : List ℕ) (none : length contents ≡ 0) where
+  unlent : isLent contents ≡ false
+  unlent = not-lent contents none
+
+  sectioned-none : (section : List ℕ) {k : ℕ} (c : Checked k) → sectioned (lacking contents section) c ≡ c
+  unfolding sectioned
+  sectioned-none section (fails n) = refl
+  sectioned-none section (passes N p) = ap (λ (b : Bool). sectioned (b && eqb (length section) 0) (passes N p)) unlent
+
+  contents-none : (M : Mode) (start : Net → ℕ → ℕ → Bool) (k target : ℕ) (c : Checked k) → contentsChecked M start k target c contents ≡ contents
+  unfolding contentsChecked contentsWritten
+  contents-none M start k target (fails n) = refl
+  contents-none M start k target (passes N p) = go (mappedIn M N k target p)
+    where
+      go : (m : MappedIn M N k) → contentsWritten (start N) m contents ≡ contents
+      go (covered φ K) = ap (λ (b : Bool). cond b (written (contentsOf N (asCover N (entries K)) (start N)) contents) contents) unlent
+      go unreachable = refl
+
+  cond-same : (b : Bool) {x y : List ℕ} → y ≡ x → cond b x y ≡ x
+  cond-same true e = refl
+  cond-same false e = e
+
+  -- **the outcome is that of map with a loader area, for every input**
+  pub plain-outcome : (R : Rules) (start : Net → List ℕ → ℕ → ℕ → Bool) (net : List ℕ) (k target : ℕ) (area scratch loader : List ℕ)
+      → outcomeFrom plain R (contentsShort contents) start net k target area scratch loader contents ≡ withContents (loaderOutcome R net k target area scratch loader) contents
+  unfolding outcomeFrom loaderOutcome outcomeSized loaderSized outcomeFit
+  plain-outcome R start net k target area scratch loader =
+      ap (λ (b : Bool). outcomeFrom plain R (b && ltb (length contents) contentsArea) start net k target area scratch loader contents) unlent ∙ sized (mapSizes R k target area scratch)
+    where
+      section : List ℕ
+      section = sectionOf R k net
+
+      fit : (b : Bool) → outcomeFit plain R b (λ N. start N section) k target (checkNet R k net) area scratch loader contents ≡ withContents (loaderFitIn plain R b k target (checkNet R k net) area scratch loader) contents
+      fit b = ap (withContents (loaderFitIn plain R b k target (checkNet R k net) area scratch loader)) (cond-same b (contents-none plain (λ N. start N section) k target (checkNet R k net)))
+
+      sized : (n : ℕ) → outcomeSized plain R (sizesWith false n) (λ N. start N section) k target (sectioned (lacking contents section) (checkNet R k net)) area scratch loader contents
+          ≡ withContents (loaderSized R n k target net area scratch loader) contents
+      sized zero = ap (λ (c : Checked k). outcomeFit plain R (tooShort loader) (λ N. start N section) k target c area scratch loader contents) (sectioned-none section (checkNet R k net)) ∙ fit (tooShort loader)
+      sized (suc n) = refl

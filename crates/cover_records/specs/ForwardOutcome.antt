@@ -71,32 +71,33 @@ contentsWritten {M} {N} kept (covered φ K) contents = cond (isLent contents) (w
 contentsWritten kept unreachable contents = contents
 
 -- `start` gives what is known of the net's nodes before the board's first step
-unfoldable pub contentsChecked : (Net → ℕ → ℕ → Bool) → (k target : ℕ) → Checked k → List ℕ → List ℕ
+unfoldable pub contentsChecked : Mode → (Net → ℕ → ℕ → Bool) → (k target : ℕ) → Checked k → List ℕ → List ℕ
 unfolding mappedIn contentsWritten
-contentsChecked start k target (fails n) contents = contents
-contentsChecked start k target (passes N p) contents = contentsWritten (start N) (mappedIn forward N k target p) contents
+contentsChecked M start k target (fails n) contents = contents
+contentsChecked M start k target (passes N p) contents = contentsWritten (start N) (mappedIn M N k target p) contents
 
 -- ---- the whole
 
 -- 20, then the net: its checks, 21 among them, and 22
-unfoldable pub forwardFit : Rules → Bool → (Net → ℕ → ℕ → Bool) → (k target : ℕ) → Checked k → List ℕ → List ℕ → List ℕ → List ℕ → ForwardOutcome
+unfoldable pub outcomeFit : Mode → Rules → Bool → (Net → ℕ → ℕ → Bool) → (k target : ℕ) → Checked k → List ℕ → List ℕ → List ℕ → List ℕ → ForwardOutcome
 unfolding loaderFitIn contentsChecked
-forwardFit R short start k target c area scratch loader contents =
-    withContents (loaderFitIn forward R short k target c area scratch loader) (cond short contents (contentsChecked start k target c contents))
+outcomeFit M R short start k target c area scratch loader contents =
+    withContents (loaderFitIn M R short k target c area scratch loader) (cond short contents (contentsChecked M start k target c contents))
 
-unfoldable pub forwardSized : Rules → ℕ → (Net → ℕ → ℕ → Bool) → (k target : ℕ) → Checked k → List ℕ → List ℕ → List ℕ → List ℕ → ForwardOutcome
-unfolding forwardFit
-forwardSized R zero start k target c area scratch loader contents = forwardFit R (tooShort loader) start k target c area scratch loader contents
-forwardSized R (suc n) start k target c area scratch loader contents = record { answer = turnedBack (suc n); area = area; scratch = scratch; loader = loader; contents = contents }
+unfoldable pub outcomeSized : Mode → Rules → ℕ → (Net → ℕ → ℕ → Bool) → (k target : ℕ) → Checked k → List ℕ → List ℕ → List ℕ → List ℕ → ForwardOutcome
+unfolding outcomeFit
+outcomeSized M R zero start k target c area scratch loader contents = outcomeFit M R (tooShort loader) start k target c area scratch loader contents
+outcomeSized M R (suc n) start k target c area scratch loader contents = record { answer = turnedBack (suc n); area = area; scratch = scratch; loader = loader; contents = contents }
 
--- A call whose contents area is told by 3 where `short`, and whose board's first step is known from `start` of the net and its section.
-unfoldable pub forwardFrom : Rules → Bool → (Net → List ℕ → ℕ → ℕ → Bool) → List ℕ → (k target : ℕ) → List ℕ → List ℕ → List ℕ → List ℕ → ForwardOutcome
-unfolding forwardSized mapSizes sectionOf sectioned checkNet
-forwardFrom R short start net k target area scratch loader contents =
+-- A call of map in a mode, with all areas: its contents area is told by 3 where `short`, and its board's first step is known from `start` of the net and its section. In document
+-- 01's mode no contents area is lent.
+unfoldable pub outcomeFrom : Mode → Rules → Bool → (Net → List ℕ → ℕ → ℕ → Bool) → List ℕ → (k target : ℕ) → List ℕ → List ℕ → List ℕ → List ℕ → ForwardOutcome
+unfolding outcomeSized mapSizes sectionOf sectioned checkNet
+outcomeFrom M R short start net k target area scratch loader contents =
     let section = sectionOf R k net in
-    forwardSized R (sizesWith short (mapSizes R k target area scratch)) (λ N. start N section) k target (sectioned (lacking contents section) (checkNet R k net)) area scratch loader contents
+    outcomeSized M R (sizesWith short (mapSizes R k target area scratch)) (λ N. start N section) k target (sectioned (lacking contents section) (checkNet R k net)) area scratch loader contents
 
 -- Map in forward mode under rules R for every input: net, k, target, cover area, scratch, loader area and contents area. The board starts at step 0, from the net's section.
 unfoldable pub forwardOutcome : Rules → List ℕ → (k target : ℕ) → List ℕ → List ℕ → List ℕ → List ℕ → ForwardOutcome
-unfolding forwardFrom
-forwardOutcome R net k target area scratch loader contents = forwardFrom R (contentsShort contents) (λ N section. sectionIn section) net k target area scratch loader contents
+unfolding outcomeFrom
+forwardOutcome R net k target area scratch loader contents = outcomeFrom forward R (contentsShort contents) (λ N section. sectionIn section) net k target area scratch loader contents

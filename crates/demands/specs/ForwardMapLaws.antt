@@ -39,7 +39,7 @@ use Rattle.board_theory.specs.ContentsLaws.{bytes-front, bytes-bits, first-cont
 use Rattle.cover_records.specs.CoverBytes.{Record, coverBytes, coverReader}
 use Rattle.cover_records.specs.Found.{Found, found}
 use Rattle.cover_records.specs.ForwardLaws.{forward-early, forward-small, forward-loader, forward-fails, forward-lacking, forward-unmet, forward-written, section-read, entries-tabled, contents-length}
-use Rattle.cover_records.specs.ForwardOutcome.{ForwardOutcome, contentsArea, contentsShort, sectionOf, lacking, forwardFrom, forwardOutcome}
+use Rattle.cover_records.specs.ForwardOutcome.{ForwardOutcome, contentsArea, contentsShort, sectionOf, lacking, outcomeFrom, forwardOutcome}
 use Rattle.cover_records.specs.KeyRecord.{roomy, WithinLimits, key-back, key-length}
 use Rattle.cover_records.specs.LoaderImage.{isLent, imageBytes, loaded}
 use Rattle.cover_records.specs.LoaderLaws.{not-lent}
@@ -169,7 +169,7 @@ module _ (c : ForwardCall) where
   starts N bytes = sectionIn bytes
 
   abbrev whole : ForwardOutcome
-  whole = forwardFrom long (contentsShort (c .contents)) starts (c .net) (c .k) (c .target) (c .area) (c .scratch) (c .loader) (c .contents)
+  whole = outcomeFrom forward long (contentsShort (c .contents)) starts (c .net) (c .k) (c .target) (c .area) (c .scratch) (c .loader) (c .contents)
 
   whole-is : forwardDone c ≡ whole
   unfolding forwardOutcome

@@ -1,5 +1,6 @@
 -- Laws of checks 9 to 12 and the cover: from what the graph checks and the plan tell.
 use mathlib.Core.Path.{_≡_, refl, sym, subst}
+use mathlib.Core.Bool.{Bool, true, false}
 use mathlib.Core.List.{List}
 use Prim.Native.Nat.{ℕ, _≤_, _<_}
 use native.Mathlib.Omega.{arith}
@@ -10,14 +11,16 @@ use Rattle.net_model.specs.WiredLaws.{netIn-wired}
 use Rattle.net_model.specs.Checks.{Passed}
 use Rattle.net_model.specs.PackedNet.{NetKept}
 use Rattle.net_model.specs.PackedNetLaws.{kept-net}
+use Rattle.label_theory.specs.Labels.{Mode, plain, forward}
 use Rattle.cover_theory.specs.Covers.{LeastPeriod}
 use Rattle.cover_records.specs.Kept.{Kept}
+use Rattle.cover_records.specs.Outcomes.{unmet}
 use Rattle.net_reader.specs.ReadAnswer.{arraysOf}
 use Rattle.net_reader.specs.ReadWires.{kept-facts, kept-room}
 use Rattle.net_reader.specs.declared.NetSizes.{NetSizes}
 use Rattle.net_checks.specs.Graphs.{NetOf, Graph, Says, passed, loop, unreached, unled, GraphTold}
 use Rattle.job_plan.specs.Planned.{Planned, Planning}
-use Rattle.job_settle.specs.Settling.{Settling, Ended, SettledAs, Passing, CoverSettled, loops, cutOff, idle, unreachable, covered}
+use Rattle.job_settle.specs.Settling.{Settling, Ended, SettledAs, Passing, CoverSettled, loops, cutOff, idle, sectionless, unreachable, covered}
 
 -- a net settled stays one where other parts of its slice are written
 module _ {k target : ℕ} {z : NetSizes} {net ts net′ : List ℕ} (s : Settling k target z net ts) (q : NetKept (z .inputs) (z .gates) net net′) where
@@ -43,13 +46,13 @@ module _ {k target : ℕ} {z : NetSizes} {net ts net′ : List ℕ} {r : ℕ} (s
   says = t .says N (record { wired = netIn-wired (arraysOf z net ts); ended = outputs-netIn (arraysOf z net ts) })
 
   -- a check failed
-  pub settled-check : {W : Type 0} → 0 < r → Ended k target N W r
+  pub settled-check : {M : Mode} {lacks : Bool} {W : Type 0} → 0 < r → Ended M lacks k target N W r
   settled-check h = go says
     where
       none : r ≡ 0 → ⊥
       none e = omega (arith, e, h)
 
-      go : {W : Type 0} → Says z net′ N r → Ended k target N W r
+      go : {M : Mode} {lacks : Bool} {W : Type 0} → Says z net′ N r → Ended M lacks k target N W r
       go (passed e a b c g) = absurd (none e)
       go (loop e f) = loops e f
       go (unreached e a f) = cutOff e a f
@@ -88,46 +91,54 @@ module _ {k target : ℕ} {z : NetSizes} {net ts net′ : List ℕ} {r : ℕ} (s
       graph = subst (Graph z net′) (sym same) (sure .graph);
     }
 
-    module _ {a : Kept} (q : Planned (netIn (arraysOf z net′ ts)) k target a) where
-      planned : Planned N k target a
-      planned = subst (λ (M : Net). Planned M k target a) same q
+    -- a section is lacking
+    pub settled-lacks : {M : Mode} {lacks : Bool} {W : Type 0} → lacks ≡ true → Ended M lacks k target N W 21
+    settled-lacks e = sectionless refl (sure .passes) e
 
-      pub settled-none : {W : Type 0} → a .period ≡ 0 → Ended k target N W 12
-      settled-none e = let u = planned .none e in unreachable refl (sure .passes) (u .0) (u .1)
+    module _ {M : Mode} {lacks : Bool} (l : lacks ≡ false) {a : Kept} (q : Planned M (netIn (arraysOf z net′ ts)) k target a) where
+      planned : Planned M N k target a
+      planned = subst (λ (X : Net). Planned M X k target a) same q
 
-      pub settled-cover : ¬ (a .period ≡ 0) → SettledAs k target N a 0
-      settled-cover n = covered refl (sure .passes) (planned .some (omega arith))
+      pub settled-none : {W : Type 0} {r′ : ℕ} → a .period ≡ 0 → r′ ≡ unmet M → Ended M lacks k target N W r′
+      settled-none e u′ = let u = planned .none e in unreachable u′ (sure .passes) l (u .0) (u .1)
+
+      pub settled-cover : ¬ (a .period ≡ 0) → SettledAs M lacks k target N a 0
+      settled-cover n = covered refl (sure .passes) l (planned .some (omega arith))
 
     -- the least period is there
-    pub settled-least : {φ : ℕ} → LeastPeriod (netIn (arraysOf z net′ ts)) k φ → Ended k target N (LeastPeriod N k φ) 0
-    settled-least {φ} q = covered refl (sure .passes) (subst (λ (M : Net). LeastPeriod M k φ) same q)
+    pub settled-least : {φ : ℕ} → LeastPeriod (netIn (arraysOf z net′ ts)) k φ → Ended plain false k target N (LeastPeriod N k φ) 0
+    settled-least {φ} q = covered refl (sure .passes) refl (subst (λ (M : Net). LeastPeriod M k φ) same q)
 
-pub ended-passing : {k target : ℕ} {N : Net} {W : Type 0} {r : ℕ} → Ended k target N W r → r ≤ 0 → Passing k N W
-ended-passing (covered e P c) h = record { passed = P; wanted = c }
-ended-passing (loops e n) h = absurd (none e h)
-  where
-    none : {r : ℕ} → r ≡ 9 → r ≤ 0 → ⊥
-    none e h = omega arith
-ended-passing (cutOff e l n) h = absurd (none e h)
-  where
-    none : {r : ℕ} → r ≡ 10 → r ≤ 0 → ⊥
-    none e h = omega arith
-ended-passing (idle e l t n) h = absurd (none e h)
-  where
-    none : {r : ℕ} → r ≡ 11 → r ≤ 0 → ⊥
-    none e h = omega arith
-ended-passing (unreachable e P h′ n) h = absurd (none e h)
-  where
-    none : {r : ℕ} → r ≡ 12 → r ≤ 0 → ⊥
-    none e h = omega arith
+-- the number of a refusal is a small one, and not 0
+unmet-some : (M : Mode) → 0 < unmet M
+unmet-some plain = omega arith
+unmet-some forward = omega arith
 
-pub cover-settled : {k target : ℕ} {N : Net} {a : Kept} {r : ℕ} → SettledAs k target N a r → r ≤ 0 → CoverSettled k target N a
-cover-settled s h = let p = ended-passing s h in record { passed = p .passed; cover = p .wanted }
+unmet-small : (M : Mode) → unmet M < 256
+unmet-small plain = omega arith
+unmet-small forward = omega arith
 
--- the number of a refusal is small
-pub settled-small : {k target : ℕ} {N : Net} {W : Type 0} {r : ℕ} → Ended k target N W r → r < 256
+pub ended-passing : {M : Mode} {lacks : Bool} {k target : ℕ} {N : Net} {W : Type 0} {r : ℕ} → Ended M lacks k target N W r → r ≤ 0 → Passing lacks k N W
+ended-passing {M} {lacks} {k} {target} {N} {W} {r} e h = go e
+  where
+    none : {n : ℕ} → r ≡ n → 0 < n → ⊥
+    none e l = omega (arith, e, l, h)
+
+    go : Ended M lacks k target N W r → Passing lacks k N W
+    go (covered e P l c) = record { passed = P; sectioned = l; wanted = c }
+    go (loops e n) = absurd (none e (omega arith))
+    go (cutOff e l n) = absurd (none e (omega arith))
+    go (idle e l t n) = absurd (none e (omega arith))
+    go (sectionless e P l) = absurd (none e (omega arith))
+    go (unreachable e P l h′ n) = absurd (none e (unmet-some M))
+
+pub cover-settled : {M : Mode} {lacks : Bool} {k target : ℕ} {N : Net} {a : Kept} {r : ℕ} → SettledAs M lacks k target N a r → r ≤ 0 → CoverSettled M lacks k target N a
+cover-settled s h = let p = ended-passing s h in record { passed = p .passed; sectioned = p .sectioned; cover = p .wanted }
+
+pub settled-small : {M : Mode} {lacks : Bool} {k target : ℕ} {N : Net} {W : Type 0} {r : ℕ} → Ended M lacks k target N W r → r < 256
 settled-small (loops e n) = omega arith
 settled-small (cutOff e l n) = omega arith
 settled-small (idle e l t n) = omega arith
-settled-small (unreachable e P h n) = omega arith
-settled-small (covered e P c) = omega arith
+settled-small (sectionless e P l) = omega arith
+settled-small {M} (unreachable e P l h n) = let s = unmet-small M in omega (arith, e, s)
+settled-small (covered e P l c) = omega arith

@@ -29,7 +29,7 @@ slice-relend-prefix-find-period c = search needs
 
 slice-aggregate-find-period-2 : tie.Need-slice-aggregate-find-period-2
 slice-aggregate-find-period-2 c =
-    let start = c@start in
+    let start = c .before .before .before .before .before .before .before .before .before .before in
     let e = start .pre .0 in
     let a = start .args in
     let h : (a .s .inputs + a .s .gates) * a .s .width ≤ length (a .table .now) = omega (arith, e .size, e .fits) in
@@ -49,8 +49,8 @@ slice-aggregate-find-period-6 c = search needs
 
 find-period-requires : tie.Need-find-period-requires
 find-period-requires c κs =
-    let e = c@start .pre .0 in
-    (engine-rest e, (e .parts, (rw (c@cap-of .ensures) (e .period), refl)))
+    let e = c .before .before .before .before .before .before .before .before .before .before .before .before .before .before .before .pre .0 in
+    (engine-rest e, (e .parts, (rw (c .before .before .before .before .before .before .before .cap-of .ensures) (e .period), refl)))
 
 same-length : tie.Need-same-length
 same-length c = search needs
@@ -59,15 +59,15 @@ same-length-2 : tie.Need-same-length-2
 same-length-2 c = search needs
 
 returns : tie.Need-returns
-returns c = told-none (found-cap (c@start .args .s) (c@start .args .net .now) (c@cap-of .ensures) (c@find-period .ensures .1)) (c@if1 .taken)
+returns c = told-none (found-cap (c .before .before .before .before .before .before .before .before .before .before .before .before .before .before .before .before .before .before .before .before .before .before .before .before .before .args .s) (c .before .before .before .before .before .before .before .before .before .before .before .before .before .before .before .before .before .before .before .before .before .before .before .before .before .args .net .now) (c .before .before .before .before .before .before .before .before .before .before .before .before .before .before .before .before .before .cap-of .ensures) (c .before .before .before .before .before .before .before .before .before .find-period .ensures .1)) (c .if1 .taken)
 
 slice-aggregate-choose : tie.Need-slice-aggregate-choose
 slice-aggregate-choose c = search needs
 
 slice-relend-prefix-choose : tie.Need-slice-relend-prefix-choose
 slice-relend-prefix-choose c =
-    let find-period = c@find-period in
-    let start = c@start in
+    let find-period = c .before .before .before .before .before .before .before .before .before .before .find-period in
+    let start = c .before .before .before .before .before .before .before .before .before .before .before .before .before .before .before .before .before .before .before .before .before .before .before .before .before .before in
     let e = start .pre .0 in
     let a = start .args in
     let t = a .table .now in
@@ -80,8 +80,8 @@ slice-relend-prefix-choose c =
 
 slice-aggregate-choose-2 : tie.Need-slice-aggregate-choose-2
 slice-aggregate-choose-2 c =
-    let find-period = c@find-period in
-    let start = c@start in
+    let find-period = c .before .before .before .before .before .before .before .before .before .before .before .find-period in
+    let start = c .before .before .before .before .before .before .before .before .before .before .before .before .before .before .before .before .before .before .before .before .before .before .before .before .before .before .before in
     let e = start .pre .0 in
     let a = start .args in
     let t = a .table .now in
@@ -106,16 +106,16 @@ slice-aggregate-choose-6 c = search needs
 
 choose-requires : tie.Need-choose-requires
 choose-requires c κs =
-    let find-period = c@find-period in
-    let start = c@start in
-    let f = found-cap (start .args .s) (start .args .net .now) (c@cap-of .ensures) (find-period .ensures .1) in
+    let find-period = c .before .before .before .before .before .before .before .before .before .before .before .before .before .before .before .before .before .find-period in
+    let start = c .before .before .before .before .before .before .before .before .before .before .before .before .before .before .before .before .before .before .before .before .before .before .before .before .before .before .before .before .before .before .before .before .before in
+    let f = found-cap (start .args .s) (start .args .net .now) (c .before .before .before .before .before .before .before .before .before .before .before .before .before .before .before .before .before .before .before .before .before .before .before .before .before .cap-of .ensures) (find-period .ensures .1) in
     (rest-part _ (find-period .ensures .0), ((start .pre .0 .parts, refl), engine-chooses (start .pre .0) (start .pre .1) f))
 
 tabulate-requires : tie.Need-tabulate-requires
 tabulate-requires c κs =
-    let choose = c@choose in
-    let find-period = c@find-period in
-    let start = c@start in
+    let choose = c .before .before .before .before .before .before .before .before .before .before .before .before .choose in
+    let find-period = c .before .before .before .before .before .before .before .before .before .before .before .before .before .before .before .before .before .before .before .before .before .before .before .before .before .before .before .before .before .before .find-period in
+    let start = c .before .before .before .before .before .before .before .before .before .before .before .before .before .before .before .before .before .before .before .before .before .before .before .before .before .before .before .before .before .before .before .before .before .before .before .before .before .before .before .before .before .before .before .before .before .before in
     let e = start .pre .0 in
     let a = start .args in
     let t = a .table .now in
@@ -127,7 +127,7 @@ tabulate-requires c κs =
     let y = choose .last .1 .1 .1 .0 in
     let m = length-behind y (x ++ drop n t) n k (choose .kept .1 .1 .1 .0) in
     let rows = choose .kept .1 .1 .1 .1 .1 .1 .1 .1 .1 .1 .0 in (
-      (engine-tabulates e (start .pre .1) rows (found-cap (start .args .s) (start .args .net .now) (c@cap-of .ensures) (find-period .ensures .1)) (c@if1 .left) (choose .ensures .1), start .pre .1 .atLuts),
+      (engine-tabulates e (start .pre .1) rows (found-cap (start .args .s) (start .args .net .now) (c .before .before .before .before .before .before .before .before .before .before .before .before .before .before .before .before .before .before .before .before .before .before .before .before .before .before .before .before .before .before .before .before .before .before .before .before .before .before .cap-of .ensures) (find-period .ensures .1)) (c .before .before .before .before .before .before .before .before .before .before .before .before .before .before .before .before .before .before .before .before .before .if1 .left) (choose .ensures .1), start .pre .1 .atLuts),
       (
         (omega (arith, e .parts), omega (arith, rows, start .pre .1 .atRows)),
         (omega (arith, m, l, e .size), clear-behind y (x ++ drop n t) n (choose .ensures .0 .cleared .zero) (clear-behind x t n (find-period .ensures .0 .cleared .zero) (e .clear))),
@@ -136,9 +136,9 @@ tabulate-requires c κs =
 
 same-length-3 : tie.Need-same-length-3
 same-length-3 c =
-    let choose = c@choose in
-    let find-period = c@find-period in
-    let start = c@start in
+    let choose = c .before .before .before .before .before .before .before .before .before .before .before .before .before .before .before .before .before .choose in
+    let find-period = c .before .before .before .before .before .before .before .before .before .before .before .before .before .before .before .before .before .before .before .before .before .before .before .before .before .before .before .before .before .before .before .before .before .before .before .find-period in
+    let start = c .before .before .before .before .before .before .before .before .before .before .before .before .before .before .before .before .before .before .before .before .before .before .before .before .before .before .before .before .before .before .before .before .before .before .before .before .before .before .before .before .before .before .before .before .before .before .before .before .before .before .before in
     let e = start .pre .0 in
     let a = start .args in
     let t = a .table .now in
@@ -149,19 +149,19 @@ same-length-3 c =
     let k : n ≤ length (x ++ drop n t) = omega arith in
     let y = choose .last .1 .1 .1 .0 in
     let m = length-behind y (x ++ drop n t) n k (choose .kept .1 .1 .1 .0) in
-    c@tabulate .kept .1 .1 .1 .1 .1 .1 .0 ∙ m ∙ l
+    c .before .before .before .before .tabulate .kept .1 .1 .1 .1 .1 .1 .0 ∙ m ∙ l
 
 same-length-4 : tie.Need-same-length-4
-same-length-4 c = c@find-period .kept .1 .1 .1 .1 .1 .1 .1 .1 .0
+same-length-4 c = c .before .before .before .before .before .before .before .before .before .before .before .before .before .before .before .before .before .before .before .before .before .before .before .before .before .before .before .before .before .before .before .before .before .before .before .find-period .kept .1 .1 .1 .1 .1 .1 .1 .1 .0
 
 same-length-5 : tie.Need-same-length-5
-same-length-5 c = c@choose .kept .1 .1 .1 .1 .1 .1 .1 .1 .1 .1 .0
+same-length-5 c = c .before .before .before .before .before .before .before .before .before .before .before .before .before .before .before .before .before .choose .kept .1 .1 .1 .1 .1 .1 .1 .1 .1 .1 .0
 
 same-length-6 : tie.Need-same-length-6
 same-length-6 c = search needs
 
 returns-2 : tie.Need-returns-2
-returns-2 c = told-cover (c@start .pre .0 .few) (found-cap (c@start .args .s) (c@start .args .net .now) (c@cap-of .ensures) (c@find-period .ensures .1)) (c@if1 .left) (c@choose .ensures .1) (c@tabulate .ensures .0)
+returns-2 c = told-cover (c .before .before .before .before .before .before .before .before .before .before .before .before .before .before .before .before .before .before .before .before .before .before .before .before .before .before .before .before .before .before .before .before .before .before .before .before .before .before .before .before .before .before .before .before .before .before .before .before .before .before .before .pre .0 .few) (found-cap (c .before .before .before .before .before .before .before .before .before .before .before .before .before .before .before .before .before .before .before .before .before .before .before .before .before .before .before .before .before .before .before .before .before .before .before .before .before .before .before .before .before .before .before .before .before .before .before .before .before .before .before .args .s) (c .before .before .before .before .before .before .before .before .before .before .before .before .before .before .before .before .before .before .before .before .before .before .before .before .before .before .before .before .before .before .before .before .before .before .before .before .before .before .before .before .before .before .before .before .before .before .before .before .before .before .before .args .net .now) (c .before .before .before .before .before .before .before .before .before .before .before .before .before .before .before .before .before .before .before .before .before .before .before .before .before .before .before .before .before .before .before .before .before .before .before .before .before .before .before .before .before .before .before .cap-of .ensures) (c .before .before .before .before .before .before .before .before .before .before .before .before .before .before .before .before .before .before .before .before .before .before .before .before .before .before .before .before .before .before .before .before .before .before .before .find-period .ensures .1)) (c .before .before .before .before .before .before .before .before .before .before .before .before .before .before .before .before .before .before .before .before .before .before .before .before .before .before .if1 .left) (c .before .before .before .before .before .before .before .before .before .before .before .before .before .before .before .before .before .choose .ensures .1) (c .before .before .before .before .tabulate .ensures .0)
 
 pub cover-spec : {M : Type 1} → statement M
 cover-spec =

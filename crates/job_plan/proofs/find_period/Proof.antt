@@ -8,7 +8,7 @@ use Rattle.job_plan.proofs.find_period.Tie as tie
 
 least-period-requires : tie.Need-least-period-requires
 least-period-requires c κs =
-    let start = c@start in
+    let start = c .before .before .before .before .before .before .before .before .before .before .before .before .before .before .before .before in
     let p = start .pre .1 .1 .0 in
     let a = start .args .s .gates in
     (start .pre .0, (start .pre .1 .0, (sized-less a (p .few) refl (p .sized), p .ordered, ceilings-less a (p .few) (p .ceilings), p .some)))
@@ -36,12 +36,12 @@ same-length-7 c = search needs
 
 returns : tie.Need-returns
 returns c =
-    let least-period = c@least-period in
-    (least-period .ensures .0, found-least (c@start .pre .1 .1 .0 .few) (c@if1 .taken) (least-period .ensures .1))
+    let least-period = c .before .before .before .before .before .before .before .before .before .before .before .before .before .least-period in
+    (least-period .ensures .0, found-least (c .before .before .before .before .before .before .before .before .before .before .before .before .before .before .before .before .before .before .before .before .before .before .before .before .before .before .before .before .before .before .pre .1 .1 .0 .few) (c .before .before .before .before .before .before .before .before .before .before .before .before .before .before .before .before .before .before .before .before .before .if1 .taken) (least-period .ensures .1))
 
 reach-requires : tie.Need-reach-requires
 reach-requires c κs =
-    let start = c@start in
+    let start = c .before .before .before .before .before .before .before .before .before .before .before .before .before .before .before .before in
     let p = start .pre .1 .1 .0 in
     let t = start .args .a .phi in
     (start .pre .0, (start .pre .1 .0, (sized-less t (p .near) refl (p .sized), p .ordered, ceilings-less t (p .near) (p .ceilings), start .pre .1 .1 .1)))
@@ -69,8 +69,8 @@ same-length-14 c = search needs
 
 returns-2 : tie.Need-returns-2
 returns-2 c =
-    let reach = c@reach in
-    (reach .ensures .0, found-target (c@start .pre .1 .1 .0 .near) (c@if1 .left) (reach .ensures .1) (c@if2 .taken))
+    let reach = c .before .before .before .before .before .before .before .before .before .before .before .before .before .before .reach in
+    (reach .ensures .0, found-target (c .before .before .before .before .before .before .before .before .before .before .before .before .before .before .before .before .before .before .before .before .before .before .before .before .before .before .before .before .before .before .before .pre .1 .1 .0 .near) (c .before .before .before .before .before .before .before .before .before .before .before .before .before .before .before .before .before .before .before .before .before .before .if1 .left) (reach .ensures .1) (c .if2 .taken))
 
 same-length-15 : tie.Need-same-length-15
 same-length-15 c = search needs
@@ -95,8 +95,8 @@ same-length-21 c = search needs
 
 returns-3 : tie.Need-returns-3
 returns-3 c =
-    let reach = c@reach in
-    (reach .ensures .0, found-none (c@if1 .left) (reach .ensures .1) (c@if2 .left))
+    let reach = c .before .before .before .before .before .before .before .before .before .before .before .before .before .before .reach in
+    (reach .ensures .0, found-none (c .before .before .before .before .before .before .before .before .before .before .before .before .before .before .before .before .before .before .before .before .before .before .if1 .left) (reach .ensures .1) (c .if2 .left))
 
 pub find-period-spec : {M : Type 1} → statement M
 find-period-spec =

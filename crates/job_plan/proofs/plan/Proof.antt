@@ -19,7 +19,7 @@ link-requires : tie.Need-link-requires
 link-requires c κs = search needs
 
 extent-requires : tie.Need-extent-requires
-extent-requires c κs = plan-extending (linked-planning (c@start .pre .0) (c@link .ensures))
+extent-requires c κs = plan-extending (linked-planning (c .before .before .before .before .before .before .before .before .before .before .before .pre .0) (c .before .before .before .link .ensures))
 
 clear-first-requires : tie.Need-clear-first-requires
 clear-first-requires c κs = search needs
@@ -29,8 +29,8 @@ slice-relend-prefix-cover c = search needs
 
 slice-aggregate-cover : tie.Need-slice-aggregate-cover
 slice-aggregate-cover c =
-    let clear-first = c@clear-first in
-    let h : mostTable ≤ length (clear-first .last .0) = let d = c@start .pre .1 .0 in let e = clear-first .kept .0 in omega arith in
+    let clear-first = c .before .before .before .before .clear-first in
+    let h : mostTable ≤ length (clear-first .last .0) = let d = c .before .before .before .before .before .before .before .before .before .before .before .before .before .before .before .before .before .before .pre .1 .0 in let e = clear-first .kept .0 in omega arith in
     sym (length-take-le mostTable (clear-first .last .0) h)
 
 slice-relend-prefix-cover-2 : tie.Need-slice-relend-prefix-cover-2
@@ -38,18 +38,18 @@ slice-relend-prefix-cover-2 c = search needs
 
 slice-aggregate-cover-2 : tie.Need-slice-aggregate-cover-2
 slice-aggregate-cover-2 c =
-    let start = c@start in
+    let start = c .before .before .before .before .before .before .before .before .before .before .before .before .before .before .before .before .before .before .before in
     let a = start .args in
     sym (length-take-le (a .z .inputs + a .z .gates) (a .labels .now) (start .pre .1 .1))
 
 cover-requires : tie.Need-cover-requires
 cover-requires c κs =
-    let link = c@link in
-    let start = c@start in
+    let link = c .before .before .before .before .before .before .before .before .before .before .before .before .before .link in
+    let start = c .before .before .before .before .before .before .before .before .before .before .before .before .before .before .before .before .before .before .before .before .before in
     let a = start .args in
     let p = (linked-planning (start .pre .0) (link .ensures)) in
-    let x = c@extent .ensures in (
-      planned-engine p x (modeOf (a .forward)) (link .ensures .linked) _ (ap (take mostTable) (c@clear-first .ensures) ∙ cleared-part mostTable (a .work .now)) _
+    let x = c .before .before .before .before .before .before .before .before .before .extent .ensures in (
+      planned-engine p x (modeOf (a .forward)) (link .ensures .linked) _ (ap (take mostTable) (c .before .before .before .before .before .before .before .clear-first .ensures) ∙ cleared-part mostTable (a .work .now)) _
           (length-take-le (a .z .inputs + a .z .gates) (a .labels .now) (start .pre .1 .1)),
       planned-room p x (start .pre .1 .2),
     )
@@ -59,9 +59,9 @@ same-length c = search needs
 
 same-length-2 : tie.Need-same-length-2
 same-length-2 c =
-    let cover = c@cover in
-    let clear-first = c@clear-first in
-    let h : mostTable ≤ length (clear-first .last .0) = let d = c@start .pre .1 .0 in let e = clear-first .kept .0 in omega arith in
+    let cover = c .before .before .before .before .before .before .before .cover in
+    let clear-first = c .before .before .before .before .before .before .before .before .before .before .before .before .before .before .before .clear-first in
+    let h : mostTable ≤ length (clear-first .last .0) = let d = c .before .before .before .before .before .before .before .before .before .before .before .before .before .before .before .before .before .before .before .before .before .before .before .before .before .before .before .before .before .pre .1 .0 in let e = clear-first .kept .0 in omega arith in
     length-behind (cover .last .1 .1 .1 .1 .1 .1 .1 .0) (clear-first .last .0) mostTable h (cover .kept .1 .1 .1 .1 .1 .1 .1 .0) ∙ clear-first .kept .0
 
 same-length-3 : tie.Need-same-length-3
@@ -75,12 +75,12 @@ same-length-5 c = search needs
 
 returns : tie.Need-returns
 returns c =
-    let cover = c@cover in
-    let link = c@link in
-    let start = c@start in
+    let cover = c .before .before .before .before .before .before .before .cover in
+    let link = c .before .before .before .before .before .before .before .before .before .before .before .before .before .before .before .before .before .before .before .before .before .link in
+    let start = c .before .before .before .before .before .before .before .before .before .before .before .before .before .before .before .before .before .before .before .before .before .before .before .before .before .before .before .before .before in
     let a = start .args in
     let p = (linked-planning (start .pre .0) (link .ensures)) in (
-      planned-cover p (c@extent .ensures) (linked-net (start .pre .0) (link .ensures)) (drop (a .z .inputs + a .z .gates) (a .labels .now))
+      planned-cover p (c .before .before .before .before .before .before .before .before .before .before .before .before .before .before .before .before .before .extent .ensures) (linked-net (start .pre .0) (link .ensures)) (drop (a .z .inputs + a .z .gates) (a .labels .now))
           (cover .kept .1 .1 .1 .1 .1 .1 .1 .1 .0 ∙ length-take-le (a .z .inputs + a .z .gates) (a .labels .now) (start .pre .1 .1)) (cover .ensures),
       linked-kept (start .pre .0) (link .ensures),
     )

@@ -13,7 +13,7 @@ slice-relend-prefix-check-graph c = search needs
 
 slice-aggregate-check-graph : tie.Need-slice-aggregate-check-graph
 slice-aggregate-check-graph c =
-    let start = c .before .before .before .before .before .before .before .before .before in
+    let start = c@start in
     sym (length-take-le (start .args .z .gates) (start .args .seen .now) (start .pre .1 .0 .0))
 
 slice-relend-prefix-check-graph-2 : tie.Need-slice-relend-prefix-check-graph-2
@@ -21,12 +21,12 @@ slice-relend-prefix-check-graph-2 c = search needs
 
 slice-aggregate-check-graph-2 : tie.Need-slice-aggregate-check-graph-2
 slice-aggregate-check-graph-2 c =
-    let start = c .before .before .before .before .before .before .before .before .before .before in
+    let start = c@start in
     sym (length-take-le (start .args .z .gates) (start .args .noted .now) (start .pre .1 .0 .1))
 
 check-graph-requires : tie.Need-check-graph-requires
 check-graph-requires c κs =
-    let start = c .before .before .before .before .before .before .before .before .before .before in
+    let start = c@start in
     let s = start .pre .0 in (
       read-checkable (s .facts) (s .room),
       record {
@@ -46,13 +46,13 @@ same-length-3 c = search needs
 
 returns : tie.Need-returns
 returns c =
-    let check-graph = c .before .before .before .before .before .before .before .check-graph in
-    (settled-check (c .before .before .before .before .before .before .before .before .before .before .before .before .before .before .before .before .before .before .pre .0) (check-graph .ensures) (c .if1 .taken), check-graph .ensures .kept)
+    let check-graph = c@check-graph in
+    (settled-check (c@start .pre .0) (check-graph .ensures) (c@if1 .taken), check-graph .ensures .kept)
 
 plan-requires : tie.Need-plan-requires
 plan-requires c κs =
-    let start = c .before .before .before .before .before .before .before .before .before .before .before .before .before .before .before .before .before .before .before .before .before .before .before in
-    (settled-planning (start .pre .0) (c .before .before .before .before .before .before .before .before .before .before .before .before .check-graph .ensures) (c .before .before .before .before .before .if1 .left), start .pre .1 .1)
+    let start = c@start in
+    (settled-planning (start .pre .0) (c@check-graph .ensures) (c@if1 .left), start .pre .1 .1)
 
 same-length-4 : tie.Need-same-length-4
 same-length-4 c = search needs
@@ -77,9 +77,9 @@ same-length-10 c = search needs
 
 returns-2 : tie.Need-returns-2
 returns-2 c =
-    let plan = c .before .before .before .before .before .before .before .before .before .before .plan in
-    let g = c .before .before .before .before .before .before .before .before .before .before .before .before .before .before .before .before .before .before .before .before .before .before .before .check-graph .ensures in
-    (settled-none (c .before .before .before .before .before .before .before .before .before .before .before .before .before .before .before .before .before .before .before .before .before .before .before .before .before .before .before .before .before .before .before .before .before .before .pre .0) g (c .before .before .before .before .before .before .before .before .before .before .before .before .before .before .before .before .if1 .left) (plan .ensures .0) (c .if2 .taken), kept-trans (g .kept) (plan .ensures .1))
+    let plan = c@plan in
+    let g = c@check-graph .ensures in
+    (settled-none (c@start .pre .0) g (c@if1 .left) (plan .ensures .0) (c@if2 .taken), kept-trans (g .kept) (plan .ensures .1))
 
 same-length-11 : tie.Need-same-length-11
 same-length-11 c = search needs
@@ -104,9 +104,9 @@ same-length-17 c = search needs
 
 returns-3 : tie.Need-returns-3
 returns-3 c =
-    let plan = c .before .before .before .before .before .before .before .before .before .before .plan in
-    let g = c .before .before .before .before .before .before .before .before .before .before .before .before .before .before .before .before .before .before .before .before .before .before .before .check-graph .ensures in
-    (settled-cover (c .before .before .before .before .before .before .before .before .before .before .before .before .before .before .before .before .before .before .before .before .before .before .before .before .before .before .before .before .before .before .before .before .before .before .pre .0) g (c .before .before .before .before .before .before .before .before .before .before .before .before .before .before .before .before .if1 .left) (plan .ensures .0) (c .if2 .left), kept-trans (g .kept) (plan .ensures .1))
+    let plan = c@plan in
+    let g = c@check-graph .ensures in
+    (settled-cover (c@start .pre .0) g (c@if1 .left) (plan .ensures .0) (c@if2 .left), kept-trans (g .kept) (plan .ensures .1))
 
 pub settle-spec : {M : Type 1} → statement M
 settle-spec =
