@@ -101,7 +101,6 @@ traceRoom = mostNodes * (mostCount + 128)
 pub record Contenting (z : NetSizes) (net tables section kept known : List ℕ) (a : Kept) (work contents : List ℕ) : Type 0 where
   pub steps : StepAsked z net tables kept known
   pub sectionRoom : z .inputs + z .gates ≤ length section
-  pub inputs : a .inputs ≡ z .inputs
   pub gates : a .gates ≡ z .gates
   pub leaves : LeavesHeld a
   pub k : ℕ
