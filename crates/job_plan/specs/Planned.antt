@@ -7,7 +7,7 @@ use lib.ListN.{length, getD, drop, replicate}
 use Rattle.net_model.specs.Net.{Net, IsGate}
 use Rattle.net_model.specs.Arrays.{stride, pinsIn, netIn}
 use Rattle.net_model.specs.Checks.{Passed}
-use Rattle.net_model.specs.PackedNet.{packedRoom}
+use Rattle.net_model.specs.PackedNet.{packedRoom, orderAt, NetKept}
 use Rattle.limits.specs.Limits.{leastK, mostK, mostPeriod, mostTable, mostHeld}
 use Rattle.label_theory.specs.Labels.{Mode, ReachableIn}
 use Rattle.cover_theory.specs.Key.{KeyIn, entries}
@@ -56,6 +56,11 @@ pub record Planning (k target : ℕ) (z : NetSizes) (net ts : List ℕ) : Type 0
   pub near : target ≤ mostPeriod
   pub passed : Passed (netIn (arraysOf z net ts)) k
   pub graph : Graph z net (netIn (arraysOf z net ts))
+
+-- what was read stays, and so does what stands behind the chains: the order first
+pub record PlanKept (I G : ℕ) (net net′ : List ℕ) : Type 0 where
+  pub kept : NetKept I G net net′
+  pub behind : (i : ℕ) → orderAt I G ≤ i → getD net′ i 0 ≡ getD net i 0
 
 -- room for the cover of a net with G gates, and no gate marked
 pub record Roomy (G : ℕ) (rows luts : List ℕ) : Type 0 where

@@ -23,7 +23,7 @@ ghost use Prim.Native.Nat.{_+_, _-_, _*_, _≤_, _<_};
 ghost use lib.ListN.{length};
 ghost use Rattle.net_model.specs.Arrays.{netIn};
 ghost use Rattle.limits.specs.Limits.{mostTable};
-ghost use Rattle.net_model.specs.PackedNet.{packedRoom, NetKept};
+ghost use Rattle.net_model.specs.PackedNet.{packedRoom};
 ghost use Rattle.net_reader.specs.ReadAnswer.{arraysOf};
 ghost use Rattle.cut_circuit.specs.Packed.{packedOf};
 ghost use Rattle.cut_question.specs.Separating.{AtRest};
@@ -33,7 +33,7 @@ ghost use Rattle.label_sweep.specs.Sweeps.{orderIn, outsIn, delaysIn};
 ghost use Rattle.job_plan.specs.Counts.{MostCount, Counted, SumCounts, Extending, ExtentOf};
 ghost use Rattle.cover_records.specs.Rows.{keptIn};
 ghost use Rattle.job_plan.specs.Found.{capIn, PeriodAsked, PeriodFound};
-ghost use Rattle.job_plan.specs.Planned.{Planned, Planning, Roomy, Engine, CoverTold};
+ghost use Rattle.job_plan.specs.Planned.{Planned, Planning, PlanKept, Roomy, Engine, CoverTold};
 
 // The largest of n counts from a place on.
 fn most_count(counts: &[usize], at: usize, n: usize) -> usize
@@ -230,7 +230,7 @@ pub fn plan(
     requires { ⌜ Planning k target z (now net) (now tables) ⌝ }
     requires { ⌜ (mostTable ≤ length (now work)) × (z .inputs + z .gates ≤ length (now labels)) × Roomy (z .gates) (now rows) (now luts) ⌝ }
     ensures { λ r. ⌜ Planned (modeOf forward) (netIn (arraysOf z (now (net .entry)) (now (tables .entry)))) k target (keptIn (z .inputs) (z .gates) r (now (labels .exit)) (now (rows .exit)) (now (luts .exit))) ⌝ }
-    ensures { λ _. ⌜ NetKept (z .inputs) (z .gates) (now (net .entry)) (now (net .exit)) ⌝ }
+    ensures { λ _. ⌜ PlanKept (z .inputs) (z .gates) (now (net .entry)) (now (net .exit)) ⌝ }
 {
     let all = z.inputs + z.gates;
     link(all, z.gates, net);

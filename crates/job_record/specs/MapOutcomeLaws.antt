@@ -1,32 +1,37 @@
 -- From what was settled to the outcome that the definition has.
-use mathlib.Core.Path.{_≡_, refl, sym, ap, ap₂, subst, subst-refl, _∙_, pathJ}
-use mathlib.Core.List.{List, [], _++_}
-use Prim.Native.Nat.{ℕ, zero, suc, _+_, _≤_, _<_, suc-le-suc, zero-le}
+use mathlib.Core.Path.{_≡_, refl, sym, ap, ap₂, subst, _∙_}
+use mathlib.Core.Bool.{Bool, true, false, cond}
+use mathlib.Core.List.{List, []}
+use Prim.Native.Nat.{ℕ, _≤_, _<_}
 use native.Mathlib.Omega.{arith}
-use lib.ListN.{length, drop, replicate}
+use lib.ListN.{length}
 use Rattle.net_model.specs.Net.{Net}
 use Rattle.net_model.specs.Checks.{Passed}
 use Rattle.limits.specs.Limits.{coverArea}
 use Rattle.limits.specs.Courses.{long, Offered, is-long, is-short}
 use Rattle.limits.specs.declared.Rules.{Rules}
-use Rattle.net_bytes.specs.Reading.{Result, got, refused}
+use Rattle.net_bytes.specs.Reading.{refused}
 use Rattle.net_bytes.specs.Walk.{netReader}
-use Rattle.label_theory.specs.Labels.{Reachable}
-use Rattle.cover_theory.specs.Key.{Key, Entry, entries}
+use Rattle.run_theory.specs.BenchBytes.{sectionIn}
+use Rattle.label_theory.specs.Labels.{Mode, ReachableIn}
+use Rattle.cover_theory.specs.Key.{Entry, entries, asCover}
 use Rattle.cover_theory.specs.KeyUnique.{entries-unique}
-use Rattle.cover_theory.specs.Joined.{key?, key-reachable}
-use Rattle.cover_theory.specs.Period.{leastPeriod, leastKey, leastPeriod-is, leastPeriod-unique}
+use Rattle.board_theory.specs.Contents.{contentsOf}
 use Rattle.cover_records.specs.CoverBytes.{coverBytes}
 use Rattle.cover_records.specs.Kept.{Kept, entriesIn}
-use Rattle.cover_records.specs.Outcomes.{Answer, accepted, turnedBack, MapOutcome, Checked, passes, fails, checkNet, Mapped, covered, unreachable, forTarget, mapped, mapWritten, mapCheckedIn, mapChecked, cleared, written}
-use Rattle.cover_records.specs.LoaderImage.{loaded}
-use Rattle.cover_records.specs.LoaderOutcome.{loaderWritten, loaderCheckedIn, loaderChecked}
+use Rattle.cover_records.specs.Outcomes.{Answer, accepted, turnedBack, MapOutcome, Checked, passes, fails, checkNet, MappedIn, unmet, mappedIn, mapWritten, mapCheckedIn, cleared, written}
+use Rattle.cover_records.specs.LoaderImage.{isLent, loaded}
+use Rattle.cover_records.specs.LoaderOutcome.{loaderWritten, loaderCheckedIn}
+use Rattle.cover_records.specs.ForwardOutcome.{sectionOf, lacking, sectioned, contentsWritten, contentsChecked}
 use Rattle.cover_records.specs.CheckLaws.{check-refused, check-loop, check-unreached, check-unled, check-passes}
+use Rattle.label_aim.specs.Aims.{modeOf}
 use Rattle.job_plan.specs.Planned.{Covered}
 use Rattle.job_plan.specs.Mapped.{mapped-none, mapped-some}
 use Rattle.job_settle.specs.Settling.{SettledAs, CoverSettled}
+use Rattle.job_settle.specs.SettlingLaws.{unmet-small}
 use Rattle.job_settle.specs.Settling as settling
-use Rattle.job_record.specs.Mapping.{MapsTo, MapsNet}
+use Rattle.job_settle.specs.declared.Call.{Call}
+use Rattle.job_record.specs.Mapping.{filled, checksOf, MapsTo, MapsNet}
 
 -- the outcome of a refusal, and of a cover
 abbrev refusing : Rules → ℕ → List ℕ → List ℕ → MapOutcome
@@ -41,94 +46,133 @@ unfolding coverBytes
 offered-bytes is-long φ es = refl
 offered-bytes is-short φ es = refl
 
--- a check failed
-pub maps-fails : (R : Rules) (k target n : ℕ) (net area loader : List ℕ) → n < 256 → checkNet R k net ≡ fails n → MapsTo R k target net area area loader loader (turnedBack n)
-unfolding mapCheckedIn loaderCheckedIn
-maps-fails R k target n net area loader h e =
-    record { small = h; outcome = λ s. ap (λ (c : Checked k). mapChecked R k target c area s) e; image = ap (λ (c : Checked k). loaderChecked k target c loader) e }
-
-pub maps-refused : (R : Rules) (k target n : ℕ) (net area loader : List ℕ) → n < 256 → netReader R k net ≡ refused n → MapsTo R k target net area area loader loader (turnedBack n)
-maps-refused R k target n net area loader h e = maps-fails R k target n net area loader h (check-refused R k net n e)
-
--- ---- a net that passes
-
-module _ (R : Rules) {N : Net} {k : ℕ} (P : Passed N k) where
-  -- **the definition's record is the one of the arrays**
-  pub written-cover : (target : ℕ) {a : Kept} → Covered N k target a → (area s : List ℕ)
-      → mapWritten R (mapped N k target P) area s ≡ writing R (coverBytes R (a .period) (entriesIn a)) area s
-  unfolding mapWritten
-  written-cover target {a} c area s =
-      let f = mapped-some P target c in
-      let e : entries (f .key) ≡ entriesIn a = entries-unique P (f .key) (c .key) ∙ c .same in
-      ap (λ (m : Mapped N k). mapWritten R m area s) (f .is) ∙ ap (λ (es : List Entry). writing R (coverBytes R (a .period) es) area s) e
-
-  pub written-none : (target : ℕ) → 1 ≤ target → ¬ Reachable N k target → (area s : List ℕ) → mapWritten R (mapped N k target P) area s ≡ refusing R 12 area s
-  unfolding mapWritten
-  written-none target h n area s = ap (λ (m : Mapped N k). mapWritten R m area s) (mapped-none P target h n)
-
-module _ {N : Net} {k : ℕ} (P : Passed N k) (target : ℕ) (loader : List ℕ) where
-  -- **the definition's image is the one of the arrays**
-  loader-cover : {a : Kept} → Covered N k target a → loaderWritten (mapped N k target P) loader ≡ loaded (entriesIn a) loader
-  unfolding loaderWritten
-  loader-cover {a} c =
-      let f = mapped-some P target c in
-      ap (λ (m : Mapped N k). loaderWritten m loader) (f .is) ∙ ap (λ (es : List Entry). loaded es loader) (entries-unique P (f .key) (c .key) ∙ c .same)
-
-  loader-kept : 1 ≤ target → ¬ Reachable N k target → loaderWritten (mapped N k target P) loader ≡ loader
-  unfolding loaderWritten
-  loader-kept h n = ap (λ (m : Mapped N k). loaderWritten m loader) (mapped-none P target h n)
-
--- the loader area for a net that passes
-loader-as : (R : Rules) (k target : ℕ) (net loader : List ℕ) (N : Net) (P : Passed N k) → checkNet R k net ≡ passes N P → loaderChecked k target (checkNet R k net) loader ≡ loaderWritten (mapped N k target P) loader
-unfolding loaderCheckedIn
-loader-as R k target net loader N P e = ap (λ (c : Checked k). loaderChecked k target c loader) e
-
--- the outcome for a net that passes
-passes-as : (R : Rules) (k target : ℕ) (net area : List ℕ) (N : Net) (P : Passed N k) → checkNet R k net ≡ passes N P → {o : List ℕ → MapOutcome}
-    → ((s : List ℕ) → mapWritten R (mapped N k target P) area s ≡ o s) → (s : List ℕ) → mapChecked R k target (checkNet R k net) area s ≡ o s
-unfolding mapCheckedIn
-passes-as R k target net area N P e f s = ap (λ (c : Checked k). mapChecked R k target c area s) e ∙ f s
-
--- a refusal's number may be named by any equal one
-refused-as : {R : Rules} {k target n r : ℕ} {net area loader : List ℕ} → r ≡ n → MapsTo R k target net area area loader loader (turnedBack n) → MapsTo R k target net area area loader loader (turnedBack r)
-refused-as {R} {k} {target} {net = net} {area = area} {loader = loader} e m = subst (λ (x : ℕ). MapsTo R k target net area area loader loader (turnedBack x)) (sym e) m
-
-module _ {k target : ℕ} {N : Net} (area loader : List ℕ) where
-  -- **a refusal**
-  pub net-refused : {a : Kept} {r : ℕ} → SettledAs k target N a r → 0 < r → MapsNet k target N area area loader loader (turnedBack r)
-  net-refused (settling.loops e n) h =
-      record { maps = λ R o net q. refused-as e (maps-fails R k target 9 net area loader (omega arith) (check-loop R k net N [] q n)) }
-  net-refused (settling.cutOff e l n) h =
-      record { maps = λ R o net q. refused-as e (maps-fails R k target 10 net area loader (omega arith) (check-unreached R k net N [] q l n)) }
-  net-refused (settling.idle e l t n) h =
-      record { maps = λ R o net q. refused-as e (maps-fails R k target 11 net area loader (omega arith) (check-unled R k net N [] q l t n)) }
-  net-refused (settling.unreachable e P h′ n) h = record {
-    maps = λ R o net q.
-        let t = check-passes R k net N [] q (P .loopless) (P .reached) (P .leading) in
-        refused-as e (record { small = omega arith; outcome = passes-as R k target net area N (t .0) (t .1) (written-none R (t .0) target h′ n area); image = loader-as R k target net loader N (t .0) (t .1) ∙ loader-kept (t .0) target loader h′ n });
+module _ (M : Mode) (R : Rules) (k target : ℕ) (net area loader contents : List ℕ) where
+  -- a check failed, 21 among them
+  maps-fails : (n : ℕ) → n < 256 → checksOf R k net contents ≡ fails n → MapsTo M R k target net area area loader loader contents contents (turnedBack n)
+  unfolding mapCheckedIn loaderCheckedIn contentsChecked
+  maps-fails n h e = record {
+    small = h;
+    outcome = λ s. ap (λ (c : Checked k). mapCheckedIn M R k target c area s) e;
+    image = ap (λ (c : Checked k). loaderCheckedIn M k target c loader) e;
+    cells = ap (λ (c : Checked k). contentsChecked M (λ N. sectionIn (sectionOf R k net)) k target c contents) e;
   }
-  net-refused (settling.covered e P c) h = absurd (none e h)
+
+  -- one of 4 to 11
+  pub maps-early : (n : ℕ) → n < 256 → checkNet R k net ≡ fails n → MapsTo M R k target net area area loader loader contents contents (turnedBack n)
+  unfolding sectioned
+  maps-early n h e = maps-fails n h (ap (sectioned (lacking contents (sectionOf R k net))) e ∙ stays (lacking contents (sectionOf R k net)))
+    where
+      stays : (b : Bool) → sectioned b (fails {k = k} n) ≡ fails n
+      stays b = refl
+
+  pub maps-refused : (n : ℕ) → n < 256 → netReader R k net ≡ refused n → MapsTo M R k target net area area loader loader contents contents (turnedBack n)
+  maps-refused n h e = maps-early n h (check-refused R k net n e)
+
+  -- ---- a net that passes
+  module _ {N : Net} (P : Passed N k) (e : checkNet R k net ≡ passes N P) where
+    -- 21
+    maps-lacks : lacking contents (sectionOf R k net) ≡ true → MapsTo M R k target net area area loader loader contents contents (turnedBack 21)
+    unfolding sectioned
+    maps-lacks l = maps-fails 21 (omega arith) (ap₂ (λ (b : Bool) (c : Checked k). sectioned b c) l e ∙ told)
+      where
+        told : sectioned true (passes N P) ≡ fails 21
+        told = refl
+
+    module _ (l : lacking contents (sectionOf R k net) ≡ false) where
+      passing : checksOf R k net contents ≡ passes N P
+      unfolding sectioned
+      passing = ap₂ (λ (b : Bool) (c : Checked k). sectioned b c) l e ∙ told
+        where
+          told : sectioned false (passes N P) ≡ passes N P
+          told = refl
+
+      outcome-as : (s : List ℕ) → mapCheckedIn M R k target (checksOf R k net contents) area s ≡ mapWritten R (mappedIn M N k target P) area s
+      unfolding mapCheckedIn
+      outcome-as s = ap (λ (c : Checked k). mapCheckedIn M R k target c area s) passing
+
+      image-as : loaderCheckedIn M k target (checksOf R k net contents) loader ≡ loaderWritten (mappedIn M N k target P) loader
+      unfolding loaderCheckedIn
+      image-as = ap (λ (c : Checked k). loaderCheckedIn M k target c loader) passing
+
+      cells-as : contentsChecked M (λ N. sectionIn (sectionOf R k net)) k target (checksOf R k net contents) contents ≡ contentsWritten (sectionIn (sectionOf R k net)) (mappedIn M N k target P) contents
+      unfolding contentsChecked
+      cells-as = ap (λ (c : Checked k). contentsChecked M (λ N. sectionIn (sectionOf R k net)) k target c contents) passing
+
+      -- **12 or 22**
+      maps-unmet : 1 ≤ target → ¬ ReachableIn M N k target → MapsTo M R k target net area area loader loader contents contents (turnedBack (unmet M))
+      unfolding mapWritten loaderWritten contentsWritten
+      maps-unmet h n =
+          let z = mapped-none M P target h n in
+          record {
+            small = unmet-small M;
+            outcome = λ s. outcome-as s ∙ ap (λ (m : MappedIn M N k). mapWritten R m area s) z;
+            image = image-as ∙ ap (λ (m : MappedIn M N k). loaderWritten m loader) z;
+            cells = cells-as ∙ ap (λ (m : MappedIn M N k). contentsWritten (sectionIn (sectionOf R k net)) m contents) z;
+          }
+
+      -- **a cover: the definition's record, image and contents are those of the arrays**
+      maps-covered : Offered R → {a : Kept} {area′ loader′ contents′ : List ℕ} {n : ℕ} → Covered M N k target a → length (coverBytes long (a .period) (entriesIn a)) ≤ coverArea
+          → n ≡ length (coverBytes long (a .period) (entriesIn a)) → area′ ≡ written (coverBytes long (a .period) (entriesIn a)) area → loader′ ≡ loaded (entriesIn a) loader
+          → contents′ ≡ filled N (entriesIn a) (sectionOf R k net) contents → MapsTo M R k target net area area′ loader loader′ contents contents′ (accepted n)
+      unfolding mapWritten loaderWritten contentsWritten
+      maps-covered o {a} {area′} {loader′} {contents′} {n} c few d f i j =
+          let x = mapped-some M P target c in
+          let same : entries (x .key) ≡ entriesIn a = entries-unique P (x .key) (c .key) ∙ c .same in
+          record {
+            small = omega (arith, few, d);
+            outcome = λ s. outcome-as s ∙ ap (λ (m : MappedIn M N k). mapWritten R m area s) (x .is) ∙ ap (λ (es : List Entry). writing R (coverBytes R (a .period) es) area s) same
+                ∙ ap (λ (bytes : List ℕ). writing R bytes area s) (offered-bytes o (a .period) (entriesIn a))
+                ∙ ap₂ (λ (m : ℕ) (l : List ℕ). record { answer = accepted m; area = l; scratch = cleared (R .scratch) s }) (sym d) (sym f);
+            image = image-as ∙ ap (λ (m : MappedIn M N k). loaderWritten m loader) (x .is) ∙ ap (λ (es : List Entry). loaded es loader) same ∙ sym i;
+            cells = cells-as ∙ ap (λ (m : MappedIn M N k). contentsWritten (sectionIn (sectionOf R k net)) m contents) (x .is)
+                ∙ ap (λ (es : List Entry). filled N es (sectionOf R k net) contents) same ∙ sym j;
+          }
+
+module _ {c : Call} {N : Net} (section area loader contents : List ℕ) where
+  -- a refusal's number may be named by any equal one
+  refused-as : {R : Rules} {n r : ℕ} {net : List ℕ} → r ≡ n → MapsTo (modeOf (c .forward)) R (c .k) (c .target) net area area loader loader contents contents (turnedBack n)
+      → MapsTo (modeOf (c .forward)) R (c .k) (c .target) net area area loader loader contents contents (turnedBack r)
+  refused-as {R} {net = net} e m = subst (λ (x : ℕ). MapsTo (modeOf (c .forward)) R (c .k) (c .target) net area area loader loader contents contents (turnedBack x)) (sym e) m
+
+  -- **a refusal**
+  net-refused : {a : Kept} {r : ℕ} → SettledAs (modeOf (c .forward)) (c .lacks) (c .k) (c .target) N a r → 0 < r → MapsNet c N section area area loader loader contents contents (turnedBack r)
+  net-refused (settling.loops e n) h = record {
+    maps = λ R o net q s l. refused-as e (maps-early (modeOf (c .forward)) R (c .k) (c .target) net area loader contents 9 (omega arith) (check-loop R (c .k) net N [] q n));
+  }
+  net-refused (settling.cutOff e l n) h = record {
+    maps = λ R o net q s y. refused-as e (maps-early (modeOf (c .forward)) R (c .k) (c .target) net area loader contents 10 (omega arith) (check-unreached R (c .k) net N [] q l n));
+  }
+  net-refused (settling.idle e l t n) h = record {
+    maps = λ R o net q s y. refused-as e (maps-early (modeOf (c .forward)) R (c .k) (c .target) net area loader contents 11 (omega arith) (check-unled R (c .k) net N [] q l t n));
+  }
+  net-refused (settling.sectionless e P b) h = record {
+    maps = λ R o net q s y.
+        let t = check-passes R (c .k) net N [] q (P .loopless) (P .reached) (P .leading) in
+        refused-as e (maps-lacks (modeOf (c .forward)) R (c .k) (c .target) net area loader contents (t .0) (t .1) (ap (lacking contents) s ∙ y ∙ b));
+  }
+  net-refused (settling.unreachable e P b h′ n) h = record {
+    maps = λ R o net q s y.
+        let t = check-passes R (c .k) net N [] q (P .loopless) (P .reached) (P .leading) in
+        refused-as e (maps-unmet (modeOf (c .forward)) R (c .k) (c .target) net area loader contents (t .0) (t .1) (ap (lacking contents) s ∙ y ∙ b) h′ n);
+  }
+  net-refused (settling.covered e P b w) h = absurd (none e h)
     where
       none : {r : ℕ} → r ≡ 0 → 0 < r → ⊥
       none e h = omega arith
 
   -- its number as a byte
-  pub net-refused-as : {a : Kept} {r n : ℕ} → SettledAs k target N a r → 0 < r → n ≡ r → MapsNet k target N area area loader loader (turnedBack n)
-  net-refused-as t h e = subst (λ (x : ℕ). MapsNet k target N area area loader loader (turnedBack x)) (sym e) (net-refused t h)
+  pub net-refused-as : {a : Kept} {r n : ℕ} → SettledAs (modeOf (c .forward)) (c .lacks) (c .k) (c .target) N a r → 0 < r → n ≡ r → MapsNet c N section area area loader loader contents contents (turnedBack n)
+  net-refused-as t h e = subst (λ (x : ℕ). MapsNet c N section area area loader loader contents contents (turnedBack x)) (sym e) (net-refused t h)
 
   -- **a cover**
-  pub net-covered : {a : Kept} {area′ loader′ : List ℕ} {n : ℕ} → CoverSettled k target N a → length (coverBytes long (a .period) (entriesIn a)) ≤ coverArea
-      → n ≡ length (coverBytes long (a .period) (entriesIn a)) → area′ ≡ written (coverBytes long (a .period) (entriesIn a)) area → loader′ ≡ loaded (entriesIn a) loader
-      → MapsNet k target N area area′ loader loader′ (accepted n)
-  net-covered {a} {area′} {loader′} {n} u few d e i = record {
-    maps = λ R o net q.
+  pub net-covered : {a : Kept} {area′ loader′ contents′ : List ℕ} {n : ℕ} → CoverSettled (modeOf (c .forward)) (c .lacks) (c .k) (c .target) N a
+      → length (coverBytes long (a .period) (entriesIn a)) ≤ coverArea → n ≡ length (coverBytes long (a .period) (entriesIn a))
+      → area′ ≡ written (coverBytes long (a .period) (entriesIn a)) area → loader′ ≡ loaded (entriesIn a) loader → contents′ ≡ filled N (entriesIn a) section contents
+      → MapsNet c N section area area′ loader loader′ contents contents′ (accepted n)
+  net-covered {a} {contents′ = contents′} u few d e i j = record {
+    maps = λ R o net q s y.
         let P = u .passed in
-        let t = check-passes R k net N [] q (P .loopless) (P .reached) (P .leading) in
-        record {
-          small = omega arith;
-          outcome = λ s. passes-as R k target net area N (t .0) (t .1) (written-cover R (t .0) target (u .cover) area) s
-              ∙ ap (λ (bytes : List ℕ). writing R bytes area s) (offered-bytes o (a .period) (entriesIn a))
-              ∙ ap₂ (λ (m : ℕ) (l : List ℕ). record { answer = accepted m; area = l; scratch = cleared (R .scratch) s }) (sym d) (sym e);
-          image = loader-as R k target net loader N (t .0) (t .1) ∙ loader-cover (t .0) target loader (u .cover) ∙ sym i;
-        };
+        let t = check-passes R (c .k) net N [] q (P .loopless) (P .reached) (P .leading) in
+        maps-covered (modeOf (c .forward)) R (c .k) (c .target) net area loader contents (t .0) (t .1) (ap (lacking contents) s ∙ y ∙ u .sectioned) o (u .cover) few d e i
+        (subst (λ (x : List ℕ). contents′ ≡ filled N (entriesIn a) x contents) (sym s) j);
   }

@@ -6,6 +6,7 @@ use Prim.Native.Nat.{ℕ, _≤_}
 use Rattle.net_model.specs.Net.{Net}
 use Rattle.net_model.specs.Arrays.{netIn}
 use Rattle.net_model.specs.Checks.{Sound, Fits, Loopless, AllReached, AllLeading, Passed}
+use Rattle.net_model.specs.PackedNet.{NetKept}
 use Rattle.limits.specs.Limits.{leastK, mostK, mostPeriod}
 use Rattle.label_theory.specs.Labels.{Mode, plain, ReachableIn}
 use Rattle.cover_theory.specs.Covers.{LeastPeriod}
@@ -15,6 +16,7 @@ use Rattle.net_reader.specs.ReadAnswer.{arraysOf}
 use Rattle.net_reader.specs.Rooms.{NetRoom}
 use Rattle.net_reader.specs.WalkFacts.{WalkFacts}
 use Rattle.net_reader.specs.declared.NetSizes.{NetSizes}
+use Rattle.net_checks.specs.Graphs.{Ordered}
 use Rattle.job_plan.specs.Planned.{Covered}
 use Rattle.job_settle.specs.declared.Settled.{Settled}
 
@@ -36,6 +38,11 @@ pub data Ended (M : Mode) (lacks : Bool) (k target : ℕ) (N : Net) (Wanted : Ty
   sectionless : r ≡ 21 → Passed N k → lacks ≡ true → Ended M lacks k target N Wanted r
   unreachable : r ≡ unmet M → Passed N k → lacks ≡ false → 1 ≤ target → ¬ ReachableIn M N k target → Ended M lacks k target N Wanted r
   covered : r ≡ 0 → Passed N k → lacks ≡ false → Wanted → Ended M lacks k target N Wanted r
+
+-- what was read stays; where all passed the order is there
+pub record SettledNet (z : NetSizes) (net net′ : List ℕ) (r : ℕ) : Type 0 where
+  pub kept : NetKept (z .inputs) (z .gates) net net′
+  pub ordered : r ≡ 0 → Ordered z net′
 
 -- wanted is the cover
 abbrev pub SettledAs : Mode → Bool → ℕ → ℕ → Net → Kept → ℕ → Type 0

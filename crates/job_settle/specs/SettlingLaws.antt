@@ -1,16 +1,16 @@
 -- Laws of checks 9 to 12 and the cover: from what the graph checks and the plan tell.
-use mathlib.Core.Path.{_≡_, refl, sym, subst}
+use mathlib.Core.Path.{_≡_, refl, sym, subst, _∙_}
 use mathlib.Core.Bool.{Bool, true, false}
 use mathlib.Core.List.{List}
-use Prim.Native.Nat.{ℕ, _≤_, _<_}
+use Prim.Native.Nat.{ℕ, _+_, _≤_, _<_}
 use native.Mathlib.Omega.{arith}
 use Rattle.net_model.specs.Net.{Net}
 use Rattle.net_model.specs.Arrays.{netIn}
 use Rattle.net_model.specs.ArrayLaws.{outputs-netIn}
 use Rattle.net_model.specs.WiredLaws.{netIn-wired}
 use Rattle.net_model.specs.Checks.{Passed}
-use Rattle.net_model.specs.PackedNet.{NetKept}
-use Rattle.net_model.specs.PackedNetLaws.{kept-net}
+use Rattle.net_model.specs.PackedNet.{NetKept, orderAt}
+use Rattle.net_model.specs.PackedNetLaws.{kept-net, kept-trans}
 use Rattle.label_theory.specs.Labels.{Mode, plain, forward}
 use Rattle.cover_theory.specs.Covers.{LeastPeriod}
 use Rattle.cover_records.specs.Kept.{Kept}
@@ -19,8 +19,8 @@ use Rattle.net_reader.specs.ReadAnswer.{arraysOf}
 use Rattle.net_reader.specs.ReadWires.{kept-facts, kept-room}
 use Rattle.net_reader.specs.declared.NetSizes.{NetSizes}
 use Rattle.net_checks.specs.Graphs.{NetOf, Graph, Says, passed, loop, unreached, unled, GraphTold}
-use Rattle.job_plan.specs.Planned.{Planned, Planning}
-use Rattle.job_settle.specs.Settling.{Settling, Ended, SettledAs, Passing, CoverSettled, loops, cutOff, idle, sectionless, unreachable, covered}
+use Rattle.job_plan.specs.Planned.{Planned, Planning, PlanKept}
+use Rattle.job_settle.specs.Settling.{Settling, SettledNet, Ended, SettledAs, Passing, CoverSettled, loops, cutOff, idle, sectionless, unreachable, covered}
 
 -- a net settled stays one where other parts of its slice are written
 module _ {k target : ℕ} {z : NetSizes} {net ts net′ : List ℕ} (s : Settling k target z net ts) (q : NetKept (z .inputs) (z .gates) net net′) where
@@ -58,6 +58,10 @@ module _ {k target : ℕ} {z : NetSizes} {net ts net′ : List ℕ} {r : ℕ} (s
       go (unreached e a f) = cutOff e a f
       go (unled e a b f) = idle e a b f
 
+  -- a refusal
+  pub refused-net : {net″ : List ℕ} {n : ℕ} → NetKept (z .inputs) (z .gates) net net″ → 0 < n → SettledNet z net net″ n
+  refused-net q h = record { kept = q; ordered = λ e. absurd (let x : ⊥ = omega (arith, e, h) in x) }
+
   -- all passed
   record Sure : Type 0 where
     pub passes : Passed N k
@@ -91,6 +95,16 @@ module _ {k target : ℕ} {z : NetSizes} {net ts net′ : List ℕ} {r : ℕ} (s
       graph = subst (Graph z net′) (sym same) (sure .graph);
     }
 
+    -- the order stays where the chains are made
+    pub settled-net : {net″ : List ℕ} → PlanKept (z .inputs) (z .gates) net′ net″ → SettledNet z net net″ 0
+    settled-net {net″} q = record {
+      kept = kept-trans (t .kept) (q .kept);
+      ordered = λ e. let o = sure .graph .ordered in record {
+        inOrder = λ i h. omega (arith, q .behind (orderAt (z .inputs) (z .gates) + i) (omega arith), o .inOrder i h);
+        ordered = λ g h. let x = o .ordered g h in (x .0, x .1, q .behind (orderAt (z .inputs) (z .gates) + x .0) (omega arith) ∙ x .2);
+      };
+    }
+
     -- a section is lacking
     pub settled-lacks : {M : Mode} {lacks : Bool} {W : Type 0} → lacks ≡ true → Ended M lacks k target N W 21
     settled-lacks e = sectionless refl (sure .passes) e
@@ -110,11 +124,11 @@ module _ {k target : ℕ} {z : NetSizes} {net ts net′ : List ℕ} {r : ℕ} (s
     settled-least {φ} q = covered refl (sure .passes) refl (subst (λ (M : Net). LeastPeriod M k φ) same q)
 
 -- the number of a refusal is a small one, and not 0
-unmet-some : (M : Mode) → 0 < unmet M
+pub unmet-some : (M : Mode) → 0 < unmet M
 unmet-some plain = omega arith
 unmet-some forward = omega arith
 
-unmet-small : (M : Mode) → unmet M < 256
+pub unmet-small : (M : Mode) → unmet M < 256
 unmet-small plain = omega arith
 unmet-small forward = omega arith
 

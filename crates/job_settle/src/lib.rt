@@ -7,13 +7,12 @@ ghost use Prim.Native.Nat.{_+_, _≤_};
 ghost use lib.ListN.{length};
 ghost use Rattle.limits.specs.Limits.{mostTable};
 ghost use Rattle.net_model.specs.Arrays.{netIn};
-ghost use Rattle.net_model.specs.PackedNet.{NetKept};
 ghost use Rattle.net_reader.specs.ReadAnswer.{arraysOf};
 ghost use Rattle.label_aim.specs.Aims.{modeOf};
 ghost use Rattle.cover_records.specs.Outcomes.{unmet};
 ghost use Rattle.cover_records.specs.Rows.{keptIn};
 ghost use Rattle.job_plan.specs.Planned.{Roomy};
-ghost use Rattle.job_settle.specs.Settling.{Settling, SettledAs};
+ghost use Rattle.job_settle.specs.Settling.{Settling, SettledNet, SettledAs};
 
 // What is asked of a net: the most leaves of a LUT, a target, whether covers are to be forward, and whether a run is wanted that the net has no section for.
 pub struct Call {
@@ -56,7 +55,7 @@ pub fn settle(
     requires { ⌜ (z .gates ≤ length (now seen)) × (z .gates ≤ length (now noted)) ⌝ }
     requires { ⌜ (mostTable ≤ length (now work)) × (z .inputs + z .gates ≤ length (now labels)) × Roomy (z .gates) (now rows) (now luts) ⌝ }
     ensures { λ r. ⌜ SettledAs (modeOf (call .forward)) (call .lacks) (call .k) (call .target) (netIn (arraysOf z (now (net .entry)) (now (tables .entry)))) (keptIn (z .inputs) (z .gates) (r .period) (now (labels .exit)) (now (rows .exit)) (now (luts .exit))) (r .refusal) ⌝ }
-    ensures { λ _. ⌜ NetKept (z .inputs) (z .gates) (now (net .entry)) (now (net .exit)) ⌝ }
+    ensures { λ r. ⌜ SettledNet z (now (net .entry)) (now (net .exit)) (r .refusal) ⌝ }
 {
     let gates = z.gates;
     let r = check_graph(z, net, &mut seen[..gates], &mut noted[..gates]);

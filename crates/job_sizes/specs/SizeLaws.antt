@@ -1,4 +1,4 @@
--- Laws of checks 1, 2 and 3, and of 20.
+-- Laws of checks 1, 2 and 3, and of areas that may be lent.
 use mathlib.Core.Path.{_≡_, refl, sym, ap, ap₂, _∙_}
 use mathlib.Core.Bool.{Bool, true, false, cond, not, _||_, _&&_}
 use mathlib.Core.List.{List}
@@ -7,18 +7,17 @@ use native.Mathlib.Omega.{arith}
 use borrow.Author.Tests.{lt-ltb, le-ltb, ltb-false}
 use lib.Dec.{ltb}
 use lib.ListN.{length}
-use Rattle.limits.specs.Limits.{coverArea, leastK, loaderArea, mostK, mostPeriod, scratchArea}
+use Rattle.limits.specs.Limits.{coverArea, leastK, mostK, mostPeriod, scratchArea}
 use Rattle.limits.specs.Courses.{long}
 use Rattle.limits.specs.CourseLaws.{Within}
 use Rattle.limits.specs.declared.Rules.{Rules}
 use Rattle.net_bytes.specs.Reading.{between}
 use Rattle.net_bytes.specs.Sound.{between-true}
 use Rattle.cover_records.specs.Outcomes.{mapSizes, markSizes, checkNet}
-use Rattle.cover_records.specs.LoaderOutcome.{tooShort}
 use Rattle.cover_records.specs.Listing.{refusalText}
 use Rattle.cover_records.specs.Program.{listing, listChecked}
 use Rattle.net_fields.specs.FieldLaws.{in-range, below-range, above-range}
-use Rattle.job_sizes.specs.Sizes.{sizesOf, Fit, loaderSize, LoaderFits}
+use Rattle.job_sizes.specs.Sizes.{sizesOf, Fit, lentSize, LentFits}
 
 -- ---- one law for each way out
 
@@ -102,48 +101,47 @@ fit-within w f =
     let long = w .scratch in
     record { low = f .low; high = omega arith; near = omega arith; room = omega arith; space = omega arith }
 
--- ---- the loader area
+-- ---- an area that may be lent
 
-module _ (loader : ℕ) where
-  loader-as : (s t : Bool) → ltb 0 loader ≡ s → ltb loader loaderArea ≡ t → loaderSize loader ≡ cond (s && t) 20 0
-  unfolding loaderSize
-  loader-as s t e f = ap₂ (λ (x y : Bool). cond (x && y) 20 0) e f
+module _ (least number n : ℕ) where
+  lent-as : (s t : Bool) → ltb 0 n ≡ s → ltb n least ≡ t → lentSize least number n ≡ cond (s && t) number 0
+  unfolding lentSize
+  lent-as s t e f = ap₂ (λ (x y : Bool). cond (x && y) number 0) e f
 
-  pub loader-none : loader ≡ 0 → 0 ≡ loaderSize loader
-  loader-none e = sym (loader-as false (ltb loader loaderArea) (le-ltb 0 loader (omega arith)) refl)
+  pub lent-none : n ≡ 0 → 0 ≡ lentSize least number n
+  lent-none e = sym (lent-as false (ltb n least) (le-ltb 0 n (omega arith)) refl)
 
-  pub loader-short : ¬ (loader ≡ 0) → loader < loaderArea → 20 ≡ loaderSize loader
-  loader-short n h = sym (loader-as true true (lt-ltb 0 loader (omega (arith, n))) (lt-ltb loader loaderArea h))
+  pub lent-short : ¬ (n ≡ 0) → n < least → number ≡ lentSize least number n
+  lent-short z h = sym (lent-as true true (lt-ltb 0 n (omega (arith, z))) (lt-ltb n least h))
 
-  pub loader-long : ¬ (loader ≡ 0) → loaderArea ≤ loader → 0 ≡ loaderSize loader
-  loader-long n h = sym (loader-as true false (lt-ltb 0 loader (omega (arith, n))) (le-ltb loader loaderArea h))
+  pub lent-long : ¬ (n ≡ 0) → least ≤ n → 0 ≡ lentSize least number n
+  lent-long z h = sym (lent-as true false (lt-ltb 0 n (omega (arith, z))) (le-ltb n least h))
 
--- what the number tells of the area
-loader-bool : (b : Bool) → 0 < cond b 20 0 → b ≡ true
-loader-bool true h = refl
-loader-bool false h = absurd (none h)
-  where
-    none : 0 < 0 → ⊥
-    none h = omega arith
-
-loader-not : (b : Bool) → _≡_ {A = ℕ} (cond b 20 0) 0 → b ≡ false
-loader-not true e = absurd (none e)
-  where
-    none : _≡_ {A = ℕ} 20 0 → ⊥
-    none e = omega arith
-loader-not false e = refl
-
-module _ (loader : List ℕ) where
-  pub told-short : 0 < loaderSize (length loader) → (tooShort loader ≡ true) × (loaderSize (length loader) ≡ 20)
-  unfolding loaderSize
-  told-short h = let b = loader-bool (tooShort loader) h in (b, ap (λ (t : Bool). cond t 20 0) b)
-
-  pub told-fits : loaderSize (length loader) ≡ 0 → (tooShort loader ≡ false) × LoaderFits (length loader)
-  unfolding loaderSize
-  told-fits e = let b = loader-not (tooShort loader) e in (b, λ n. ltb-false (length loader) loaderArea (sym (ap (λ (t : Bool). t && ltb (length loader) loaderArea) (lt-ltb 0 (length loader) (some n))) ∙ b))
+  -- what the number tells of the area
+  pub told-short : 0 < lentSize least number n → ((ltb 0 n && ltb n least) ≡ true) × (lentSize least number n ≡ number)
+  unfolding lentSize
+  told-short h = go (ltb 0 n && ltb n least) h
     where
-      some : ¬ (length loader ≡ 0) → 0 < length loader
-      some n = omega (arith, n)
+      none : 0 < 0 → ⊥
+      none h = omega arith
+
+      go : (b : Bool) → 0 < cond b number 0 → (b ≡ true) × (cond b number 0 ≡ number)
+      go true h = (refl, refl)
+      go false h = absurd (none h)
+
+  pub told-fits : 0 < number → lentSize least number n ≡ 0 → ((ltb 0 n && ltb n least) ≡ false) × LentFits least n
+  unfolding lentSize
+  told-fits some e = (flat, λ z. ltb-false n least (sym (ap (λ (t : Bool). t && ltb n least) (lt-ltb 0 n (more z))) ∙ flat))
+    where
+      more : ¬ (n ≡ 0) → 0 < n
+      more z = omega (arith, z)
+
+      go : (b : Bool) → cond b number 0 ≡ 0 → b ≡ false
+      go true e = absurd (let x : ⊥ = omega (arith, e, some) in x)
+      go false e = refl
+
+      flat : (ltb 0 n && ltb n least) ≡ false
+      flat = go (ltb 0 n && ltb n least) e
 
 -- a number that is 0
 pub zero-of : {r n : ℕ} → r ≡ n → r ≤ 0 → n ≡ 0

@@ -1,9 +1,9 @@
--- Definitions: checks 1, 2 and 3 under rules R, by the lengths of the areas, and 20.
+-- Definitions: checks 1, 2 and 3 under rules R, by the lengths of the areas; an area that may be lent.
 use mathlib.Core.Path.{_≡_}
 use mathlib.Core.Bool.{cond, not, _||_, _&&_}
 use Prim.Native.Nat.{ℕ, _≤_}
 use lib.Dec.{ltb}
-use Rattle.limits.specs.Limits.{leastK, loaderArea}
+use Rattle.limits.specs.Limits.{leastK}
 use Rattle.limits.specs.declared.Rules.{Rules}
 use Rattle.net_bytes.specs.Reading.{between}
 
@@ -20,10 +20,10 @@ pub record Fit (R : Rules) (k target area scratch : ℕ) : Type 0 where
   pub room : R .area ≤ area
   pub space : R .scratch ≤ scratch
 
--- 20 where a loader area of this length is lent and too short, else 0
-unfoldable pub loaderSize : ℕ → ℕ
-loaderSize loader = cond (ltb 0 loader && ltb loader loaderArea) 20 0
+-- the number where an area of this length is lent and has fewer bytes than it must, else 0
+unfoldable pub lentSize : ℕ → ℕ → ℕ → ℕ
+lentSize least number n = cond (ltb 0 n && ltb n least) number 0
 
--- a loader area that is not lent, or long enough
-abbrev pub LoaderFits : ℕ → Type 0
-LoaderFits loader = ¬ (loader ≡ 0) → loaderArea ≤ loader
+-- an area that is not lent, or long enough
+abbrev pub LentFits : ℕ → ℕ → Type 0
+LentFits least n = ¬ (n ≡ 0) → least ≤ n

@@ -1,9 +1,8 @@
-// Checks 1, 2 and 3 under rules, by the lengths of the areas, and 20.
+// Checks 1, 2 and 3 under rules, by the lengths of the areas; and what is told of an area that may be lent: 3 or 20.
 use limits::LEAST_K;
-use limits::LOADER;
 use limits::Rules;
 ghost use mathlib.Core.Path.{_≡_};
-ghost use Rattle.job_sizes.specs.Sizes.{sizesOf, loaderSize};
+ghost use Rattle.job_sizes.specs.Sizes.{sizesOf, lentSize};
 
 // 0, or the number of the first that fails.
 pub fn check_sizes(k: u32, target: u32, area: usize, scratch: usize, rules: Rules) -> u8
@@ -27,15 +26,15 @@ pub fn check_sizes(k: u32, target: u32, area: usize, scratch: usize, rules: Rule
     0
 }
 
-// 20 where a lent loader area is too short, else 0. An area of length 0 is not lent.
-pub fn check_loader(loader: usize) -> u8
-    ensures { λ r. ⌜ r ≡ loaderSize loader ⌝ }
+// The number of a refusal where an area of this length is lent and has fewer than `least` bytes, else 0. An area of length 0 is not lent.
+pub fn check_lent(n: usize, least: usize, number: u8) -> u8
+    ensures { λ r. ⌜ r ≡ lentSize least number n ⌝ }
 {
-    if loader == 0 {
+    if n == 0 {
         return 0;
     }
-    if loader < LOADER {
-        return 20;
+    if n < least {
+        return number;
     }
     0
 }

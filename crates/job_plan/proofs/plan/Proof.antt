@@ -82,7 +82,7 @@ returns c =
     let p = (linked-planning (start .pre .0) (link .ensures)) in (
       planned-cover p (c .before .before .before .before .before .before .before .before .before .before .before .before .before .before .before .before .before .extent .ensures) (linked-net (start .pre .0) (link .ensures)) (drop (a .z .inputs + a .z .gates) (a .labels .now))
           (cover .kept .1 .1 .1 .1 .1 .1 .1 .1 .0 ∙ length-take-le (a .z .inputs + a .z .gates) (a .labels .now) (start .pre .1 .1)) (cover .ensures),
-      linked-kept (start .pre .0) (link .ensures),
+      record { kept = linked-kept (start .pre .0) (link .ensures); behind = link .ensures .apart .above },
     )
 
 pub plan-spec : {M : Type 1} → statement M

@@ -1,9 +1,11 @@
 -- `job_settle::settle` meets its contract: one law for each way out.
 use mathlib.Core.Path.{sym}
+use native.Mathlib.Omega.{arith}
 use lib.Seq.{length-take-le}
 use Rattle.net_model.specs.PackedNetLaws.{kept-trans}
+use Rattle.label_aim.specs.Aims.{modeOf}
 use Rattle.net_checks.specs.GraphLaws.{read-checkable}
-use Rattle.job_settle.specs.SettlingLaws.{settled-check, settled-lacks, settled-planning, settled-none, settled-cover}
+use Rattle.job_settle.specs.SettlingLaws.{unmet-some, refused-net, settled-net, settled-check, settled-lacks, settled-planning, settled-none, settled-cover}
 use borrow.Author.Needs.{needs}
 use Rattle.job_settle.proofs.settle.Statement.{statement}
 use Rattle.job_settle.proofs.settle.Tie as tie
@@ -47,7 +49,7 @@ same-length-3 c = search needs
 returns : tie.Need-returns
 returns c =
     let check-graph = c .before .before .before .before .before .before .before .check-graph in
-    (settled-check (c .before .before .before .before .before .before .before .before .before .before .before .before .before .before .before .before .before .before .pre .0) (check-graph .ensures) (c .if1 .taken), check-graph .ensures .kept)
+    (settled-check (c .before .before .before .before .before .before .before .before .before .before .before .before .before .before .before .before .before .before .pre .0) (check-graph .ensures) (c .if1 .taken), refused-net (c .before .before .before .before .before .before .before .before .before .before .before .before .before .before .before .before .before .before .pre .0) (check-graph .ensures) (check-graph .ensures .kept) (c .if1 .taken))
 
 same-length-4 : tie.Need-same-length-4
 same-length-4 c = search needs
@@ -61,7 +63,7 @@ same-length-6 c = search needs
 returns-2 : tie.Need-returns-2
 returns-2 c =
     let g = c .before .before .before .before .before .before .before .before .check-graph .ensures in
-    (settled-lacks (c .before .before .before .before .before .before .before .before .before .before .before .before .before .before .before .before .before .before .before .pre .0) g (c .before .if1 .left) (c .if2 .taken), g .kept)
+    (settled-lacks (c .before .before .before .before .before .before .before .before .before .before .before .before .before .before .before .before .before .before .before .pre .0) g (c .before .if1 .left) (c .if2 .taken), refused-net (c .before .before .before .before .before .before .before .before .before .before .before .before .before .before .before .before .before .before .before .pre .0) g (g .kept) (omega arith))
 
 plan-requires : tie.Need-plan-requires
 plan-requires c κs =
@@ -96,7 +98,7 @@ returns-3 : tie.Need-returns-3
 returns-3 c =
     let plan = c .before .before .before .before .before .before .before .before .before .before .before .plan in
     let g = c .before .before .before .before .before .before .before .before .before .before .before .before .before .before .before .before .before .before .before .before .before .before .before .before .before .check-graph .ensures in
-    (settled-none (c .before .before .before .before .before .before .before .before .before .before .before .before .before .before .before .before .before .before .before .before .before .before .before .before .before .before .before .before .before .before .before .before .before .before .before .before .pre .0) g (c .before .before .before .before .before .before .before .before .before .before .before .before .before .before .before .before .before .before .if1 .left) (c .before .before .before .before .before .before .before .before .before .before .before .before .before .before .before .before .before .if2 .left) (plan .ensures .0) (c .before .if3 .taken) (c .unmet-number .ensures), kept-trans (g .kept) (plan .ensures .1))
+    (settled-none (c .before .before .before .before .before .before .before .before .before .before .before .before .before .before .before .before .before .before .before .before .before .before .before .before .before .before .before .before .before .before .before .before .before .before .before .before .pre .0) g (c .before .before .before .before .before .before .before .before .before .before .before .before .before .before .before .before .before .before .if1 .left) (c .before .before .before .before .before .before .before .before .before .before .before .before .before .before .before .before .before .if2 .left) (plan .ensures .0) (c .before .if3 .taken) (c .unmet-number .ensures), refused-net (c .before .before .before .before .before .before .before .before .before .before .before .before .before .before .before .before .before .before .before .before .before .before .before .before .before .before .before .before .before .before .before .before .before .before .before .before .pre .0) g (kept-trans (g .kept) (plan .ensures .1 .kept)) (let s = unmet-some (modeOf (c .before .before .before .before .before .before .before .before .before .before .before .before .before .before .before .before .before .before .before .before .before .before .before .before .before .before .before .before .before .before .before .before .before .before .before .before .args .call .forward)) in omega (arith, c .unmet-number .ensures, s)))
 
 same-length-14 : tie.Need-same-length-14
 same-length-14 c = search needs
@@ -123,7 +125,7 @@ returns-4 : tie.Need-returns-4
 returns-4 c =
     let plan = c .before .before .before .before .before .before .before .before .before .before .plan in
     let g = c .before .before .before .before .before .before .before .before .before .before .before .before .before .before .before .before .before .before .before .before .before .before .before .before .check-graph .ensures in
-    (settled-cover (c .before .before .before .before .before .before .before .before .before .before .before .before .before .before .before .before .before .before .before .before .before .before .before .before .before .before .before .before .before .before .before .before .before .before .before .pre .0) g (c .before .before .before .before .before .before .before .before .before .before .before .before .before .before .before .before .before .if1 .left) (c .before .before .before .before .before .before .before .before .before .before .before .before .before .before .before .before .if2 .left) (plan .ensures .0) (c .if3 .left), kept-trans (g .kept) (plan .ensures .1))
+    (settled-cover (c .before .before .before .before .before .before .before .before .before .before .before .before .before .before .before .before .before .before .before .before .before .before .before .before .before .before .before .before .before .before .before .before .before .before .before .pre .0) g (c .before .before .before .before .before .before .before .before .before .before .before .before .before .before .before .before .before .if1 .left) (c .before .before .before .before .before .before .before .before .before .before .before .before .before .before .before .before .if2 .left) (plan .ensures .0) (c .if3 .left), settled-net (c .before .before .before .before .before .before .before .before .before .before .before .before .before .before .before .before .before .before .before .before .before .before .before .before .before .before .before .before .before .before .before .before .before .before .before .pre .0) g (c .before .before .before .before .before .before .before .before .before .before .before .before .before .before .before .before .before .if1 .left) (plan .ensures .1))
 
 pub settle-spec : {M : Type 1} → statement M
 settle-spec =
