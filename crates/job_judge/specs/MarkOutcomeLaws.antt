@@ -1,6 +1,6 @@
 -- From what the parts of mark tell to the answer that the definition has.
 use mathlib.Core.Path.{_≡_, refl, sym, ap, subst, _∙_}
-use mathlib.Core.Bool.{true}
+use mathlib.Core.Bool.{true, false, false≢true}
 use mathlib.Core.List.{List, []}
 use Prim.Native.Nat.{ℕ, _+_, _-_, _*_, _≤_, _<_}
 use native.Mathlib.Omega.{arith}
@@ -20,6 +20,7 @@ use Rattle.limits.specs.declared.Rules.{Rules}
 use Rattle.net_bytes.specs.Reading.{Result, got, refused}
 use Rattle.net_bytes.specs.Walk.{netReader}
 use Rattle.cone_theory.specs.Ranks.{ranked}
+use Rattle.label_theory.specs.Labels.{plain}
 use Rattle.cover_theory.specs.Covers.{LeastPeriod}
 use Rattle.cover_theory.specs.Period.{leastPeriod, leastPeriod-is, leastPeriod-unique}
 use Rattle.cover_records.specs.Accepted.{Covering, excess-is}
@@ -53,15 +54,16 @@ marks-refused R k n net bytes h e = marks-fails R k n net bytes h (check-refused
 
 module _ (R : Rules) {k : ℕ} {N : Net} (bytes : List ℕ) where
   -- **9, 10 and 11**
-  pub net-refused : {W : Type 0} {r n : ℕ} → Ended k 0 N W r → 0 < r → n ≡ r → MarksNet R k N bytes (turnedBack n)
+  pub net-refused : {W : Type 0} {r n : ℕ} → Ended plain false k 0 N W r → 0 < r → n ≡ r → MarksNet R k N bytes (turnedBack n)
   net-refused {n = n} (settling.loops e q) h f = record { marks = λ net i. marks-fails R k n net bytes (omega arith) (check-loop R k net N [] i q ∙ ap fails (sym (f ∙ e))) }
   net-refused {n = n} (settling.cutOff e l q) h f = record { marks = λ net i. marks-fails R k n net bytes (omega arith) (check-unreached R k net N [] i l q ∙ ap fails (sym (f ∙ e))) }
   net-refused {n = n} (settling.idle e l t q) h f = record { marks = λ net i. marks-fails R k n net bytes (omega arith) (check-unled R k net N [] i l t q ∙ ap fails (sym (f ∙ e))) }
-  net-refused (settling.unreachable e P h′ q) h f = absurd (none h′)
+  net-refused (settling.sectionless e P l) h f = absurd (false≢true l)
+  net-refused (settling.unreachable e P l h′ q) h f = absurd (none h′)
     where
       none : 1 ≤ 0 → ⊥
       none h = omega arith
-  net-refused (settling.covered e P c) h f = absurd (none e h)
+  net-refused (settling.covered e P l c) h f = absurd (none e h)
     where
       none : {r : ℕ} → r ≡ 0 → 0 < r → ⊥
       none e h = omega arith

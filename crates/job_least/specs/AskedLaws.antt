@@ -9,10 +9,12 @@ use Rattle.net_model.specs.Net.{Net}
 use Rattle.net_model.specs.Arrays.{netIn}
 use Rattle.net_reader.specs.ReadAnswer.{arraysOf}
 use Rattle.net_reader.specs.declared.NetSizes.{NetSizes}
+use Rattle.label_theory.specs.Labels.{plain}
 use Rattle.cover_theory.specs.Covers.{LeastPeriod}
 use Rattle.cut_circuit.specs.PinLinks.{LinkedIn}
 use Rattle.cut_circuit.specs.declared.Extent.{Extent}
 use Rattle.label_visit.specs.LabelVisits.{wiring, topsIn}
+use Rattle.label_period.specs.PeriodSearchLaws.{first-least}
 use Rattle.job_plan.specs.Counts.{ExtentOf}
 use Rattle.job_plan.specs.Found.{PeriodAsked, PeriodFound}
 use Rattle.label_sweep.specs.Sweeps.{outsIn, delaysIn}
@@ -24,12 +26,12 @@ module _ {k : ℕ} {z : NetSizes} {net ts : List ℕ} (p : Planning k 0 z net ts
   pub plan-asked : LinkedIn (z .inputs + z .gates) (z .gates) net (mostPins * z .gates) → (t : List ℕ) → t ≡ replicate mostTable 0 → LeastAsked s (z .outputs) net k t
   plan-asked linked t e = record {
     tables = ts;
-    engine = planned-engine p x linked t e (replicate (s .inputs + s .gates) (pos 0))
+    engine = planned-engine p x plain linked t e (replicate (s .inputs + s .gates) (pos 0))
         (length-replicate (s .inputs + s .gates) (pos 0) ∙ ap (λ (y : Extent). y .inputs + y .gates) (x .is));
   }
 
   pub plan-told : {r : ℕ} → LeastTold s (z .outputs) net k r → LeastPeriod (netIn (arraysOf z net ts)) k r
-  plan-told t = t .least (netIn (arraysOf z net ts)) (planned-suits p x) (p .passed) (planned-outputs p x)
+  plan-told t = t .least (netIn (arraysOf z net ts)) (planned-suits p x plain) (p .passed) (planned-outputs p x)
 
 -- labels of the same length are asked for in the same way
 pub asked-labels : {s : Extent} {net : List ℕ} {ls : List ℤ} {tops order os oc : List ℕ} {n target k : ℕ} (ls′ : List ℤ) → length ls′ ≡ length ls
@@ -56,5 +58,5 @@ asked-labels ls′ e p = let z = p .sized in record {
 
 -- the least period found is told
 pub period-told : {s : Extent} {n : ℕ} {net : List ℕ} {k : ℕ} {ls : List ℤ} {r : ℕ} → 1 ≤ r
-    → PeriodFound (wiring s net) k 0 (topsIn s net 0) (outsIn s net) (delaysIn s net n) n ls r → LeastTold s n net k r
-period-told h q = record { least = q .least h refl }
+    → PeriodFound plain (wiring s net) k 0 (topsIn s net 0) (outsIn s net) (delaysIn s net n) n ls r → LeastTold s n net k r
+period-told h q = record { least = λ N S P o. first-least P (q .least h refl N S P o) }

@@ -4,6 +4,7 @@ use cut_circuit::link;
 use job_plan::extent;
 use job_scratch::clear_first;
 use job_settle::Settled;
+use label_aim::Aim;
 use label_period::least_period;
 use limits::COPIES;
 use limits::GATES;
@@ -38,6 +39,14 @@ fn least_in(s: Extent, n: usize, net: &[usize], k: usize, table: &mut [u8]) -> u
     let mut counts = [0u32; NODES];
     let mut members = [0u32; COPIES];
     let mut labels = [0i64; NODES];
+    let a = Aim {
+        phi: 0,
+        k: k,
+        outputs: n,
+        cap: 0,
+        forward: false,
+        trial: false,
+    };
     least_period(
         s,
         net,
@@ -48,8 +57,7 @@ fn least_in(s: Extent, n: usize, net: &[usize], k: usize, table: &mut [u8]) -> u
         &mut counts,
         &mut members,
         &mut labels[..all],
-        n,
-        k,
+        a,
     )
 }
 

@@ -1,4 +1,4 @@
--- A cover settled can be written: its arrays are long enough, its numbers fit their bytes, its record fits the area.
+-- A cover settled can be written, in each mode: its arrays are long enough, its numbers fit their bytes, its record fits the area.
 use mathlib.Core.Path.{_≡_, refl, sym, ap, subst, _∙_}
 use mathlib.Core.List.{List, [], _∷_}
 use mathlib.Core.Bool.{Bool, true, false, cond}
@@ -20,8 +20,9 @@ use Rattle.net_model.specs.Checks.{Passed}
 use Rattle.net_model.specs.PackedNet.{sourcesAt, countsAt}
 use Rattle.limits.specs.Limits.{mostNodes, mostGates, mostPins, mostRows, mostPeriod, coverArea}
 use Rattle.limits.specs.Courses.{long, is-long}
+use Rattle.label_theory.specs.Labels.{Mode}
 use Rattle.cover_theory.specs.Key.{Entry, entries}
-use Rattle.cover_theory.specs.Period.{leastPeriod, leastPeriod-is, leastPeriod-unique, leastPeriod-bound}
+use Rattle.cover_theory.specs.Period.{leastPeriodIn-bound}
 use Rattle.cover_records.specs.CoverBytes.{coverBytes}
 use Rattle.cover_records.specs.Kept.{Kept, entryAt, entriesFrom, entriesIn}
 use Rattle.cover_records.specs.Rows.{keptIn}
@@ -31,6 +32,7 @@ use Rattle.cover_records.specs.KeyRecord.{WithinLimits, roomy, key-lag, key-wri
 use Rattle.net_reader.specs.ReadAnswer.{arraysOf}
 use Rattle.net_reader.specs.declared.NetSizes.{NetSizes}
 use Rattle.cover_writer.specs.Writing.{ArraysHeld, Below, LutHeld, LutsHeld, Writable}
+use Rattle.label_period.specs.PeriodSearchLaws.{first-unique}
 use Rattle.job_plan.specs.Planned.{Covered}
 use Rattle.job_settle.specs.Settling.{Settling}
 
@@ -75,8 +77,8 @@ rows-long {G = G} {rows = rows} h e f t = record {
   atTables = t;
 }
 
-module _ {k target : ℕ} {z : NetSizes} {net ts : List ℕ} (s : Settling k target z net ts) {a : Kept} (i : a .inputs ≡ z .inputs) (g : a .gates ≡ z .gates) (l : Long a)
-    (P : Passed (netIn (arraysOf z net ts)) k) (c : Covered (netIn (arraysOf z net ts)) k target a) where
+module _ {M : Mode} {k target : ℕ} {z : NetSizes} {net ts : List ℕ} (s : Settling k target z net ts) {a : Kept} (i : a .inputs ≡ z .inputs) (g : a .gates ≡ z .gates) (l : Long a)
+    (P : Passed (netIn (arraysOf z net ts)) k) (c : Covered M (netIn (arraysOf z net ts)) k target a) where
   abbrev N : Net
   N = netIn (arraysOf z net ts)
 
@@ -100,8 +102,8 @@ module _ {k target : ℕ} {z : NetSizes} {net ts : List ℕ} (s : Settling k tar
     where
       go : (t : ℕ) → target ≡ t → a .period ≤ mostPeriod
       go zero e =
-          let x = leastPeriod-unique (leastPeriod-is P) (c .least e) in
-          let b = leastPeriod-bound P (within .gate) in
+          let x = first-unique P (c .least e) in
+          let b = leastPeriodIn-bound P M (within .gate) in
           let d = within .gates in
           omega arith
       go (suc t) e = let x = c .given (omega arith) in let n = s .near in omega arith
