@@ -62,7 +62,7 @@ module _ (M : Mode) (R : Rules) (k target : ℕ) (net area loader contents : Lis
   unfolding sectioned
   maps-early n h e = maps-fails n h (ap (sectioned (lacking contents (sectionOf R k net))) e ∙ stays (lacking contents (sectionOf R k net)))
     where
-      stays : (b : Bool) → sectioned b (fails {k = k} n) ≡ fails n
+      stays : (b : Bool) → _≡_ {A = Checked k} (sectioned b (fails n)) (fails n)
       stays b = refl
 
   pub maps-refused : (n : ℕ) → n < 256 → netReader R k net ≡ refused n → MapsTo M R k target net area area loader loader contents contents (turnedBack n)
@@ -128,12 +128,13 @@ module _ (M : Mode) (R : Rules) (k target : ℕ) (net area loader contents : Lis
                 ∙ ap (λ (es : List Entry). filled N es (sectionOf R k net) contents) same ∙ sym j;
           }
 
-module _ {c : Call} {N : Net} (section area loader contents : List ℕ) where
-  -- a refusal's number may be named by any equal one
-  refused-as : {R : Rules} {n r : ℕ} {net : List ℕ} → r ≡ n → MapsTo (modeOf (c .forward)) R (c .k) (c .target) net area area loader loader contents contents (turnedBack n)
-      → MapsTo (modeOf (c .forward)) R (c .k) (c .target) net area area loader loader contents contents (turnedBack r)
-  refused-as {R} {net = net} e m = subst (λ (x : ℕ). MapsTo (modeOf (c .forward)) R (c .k) (c .target) net area area loader loader contents contents (turnedBack x)) (sym e) m
+-- a refusal's number may be named by any equal one
+refused-as : {M : Mode} {R : Rules} {k target n r : ℕ} {net area loader contents : List ℕ} → r ≡ n → MapsTo M R k target net area area loader loader contents contents (turnedBack n)
+    → MapsTo M R k target net area area loader loader contents contents (turnedBack r)
+refused-as {M} {R} {k} {target} {net = net} {area = area} {loader = loader} {contents = contents} e m =
+    subst (λ (x : ℕ). MapsTo M R k target net area area loader loader contents contents (turnedBack x)) (sym e) m
 
+module _ {c : Call} {N : Net} (section area loader contents : List ℕ) where
   -- **a refusal**
   net-refused : {a : Kept} {r : ℕ} → SettledAs (modeOf (c .forward)) (c .lacks) (c .k) (c .target) N a r → 0 < r → MapsNet c N section area area loader loader contents contents (turnedBack r)
   net-refused (settling.loops e n) h = record {
