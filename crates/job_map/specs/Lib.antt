@@ -1,2 +1,3 @@
+pub mod Areas
 pub mod MapSizing
 pub mod MapReading

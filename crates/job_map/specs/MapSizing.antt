@@ -1,64 +1,98 @@
--- Map as a whole: refusals 1 to 3, then 20, and all other outcomes; without a loader area it is document 01's map.
+-- Map as a whole: refusals 1 to 3, then 20, and all other outcomes; without a contents area it is map with a loader area, and without that document 01's map.
 use mathlib.Core.Path.{_≡_, refl, sym, ap, ap₂, _∙_}
-use mathlib.Core.Bool.{Bool}
+use mathlib.Core.Bool.{Bool, true, false, cond}
 use mathlib.Core.List.{List, _++_}
 use Prim.Native.Nat.{ℕ, zero, suc, _<_}
 use native.Mathlib.Omega.{arith}
 use lib.ListN.{length, drop, replicate}
 use lib.Seq.{drop-at}
+use Rattle.limits.specs.Limits.{loaderArea}
 use Rattle.limits.specs.declared.Rules.{Rules}
-use Rattle.cover_records.specs.Outcomes.{Answer, turnedBack, MapOutcome, checkNet, mapOutcome, cleared}
-use Rattle.cover_records.specs.LoaderOutcome.{LoaderOutcome, beside, tooShort, loaderFitIn, loaderFit, loaderSized, loaderOutcome}
+use Rattle.run_theory.specs.BenchBytes.{sectionIn}
+use Rattle.label_theory.specs.Labels.{Mode, plain}
+use Rattle.cover_records.specs.Outcomes.{Answer, turnedBack, MapOutcome, mapOutcome, mapSizes, cleared}
+use Rattle.cover_records.specs.LoaderOutcome.{LoaderOutcome, beside, tooShort, loaderFitIn, loaderOutcome}
 use Rattle.cover_records.specs.LoaderLaws.{no-loader}
-use Rattle.job_sizes.specs.Sizes.{sizesOf, loaderSize}
+use Rattle.cover_records.specs.ForwardOutcome.{ForwardOutcome, withContents, contentsArea, contentsShort, sizesWith, sectionOf, outcomeFit, outcomeSized, outcomeFrom}
+use Rattle.cover_records.specs.ForwardLaws.{plain-outcome}
+use Rattle.job_sizes.specs.Sizes.{sizesOf, lentSize}
 use Rattle.job_sizes.specs.SizeLaws.{map-sizes-are, told-short, told-fits}
-use Rattle.job_record.specs.Mapping.{MapsTo}
+use Rattle.job_record.specs.Mapping.{checksOf, MapsTo}
+use Rattle.job_map.specs.Areas.{areasOutcome}
 
-module _ (R : Rules) (k target : ℕ) (area scratch loader : List ℕ) where
+module _ (M : Mode) (R : Rules) (k target : ℕ) (area scratch loader contents net : List ℕ) where
+  -- all areas as they were
+  abbrev keeping : ℕ → ForwardOutcome
+  keeping n = record { answer = turnedBack n; area = area; scratch = scratch; loader = loader; contents = contents }
+
+  sized : ℕ → ForwardOutcome
+  sized n = outcomeSized M R n (λ N. sectionIn (sectionOf R k net)) k target (checksOf R k net contents) area scratch loader contents
+
+  areas-sized : (n : ℕ) → n ≡ mapSizes R k target area scratch → areasOutcome M R net k target area scratch loader contents ≡ sized (sizesWith (contentsShort contents) n)
+  unfolding outcomeFrom sized
+  areas-sized n e = ap (λ (m : ℕ). sized (sizesWith (contentsShort contents) m)) (sym e)
+
   -- **refusals 1 to 3**
-  pub map-sizes : (net : List ℕ) (r : ℕ) → r ≡ sizesOf R k target (length area) (length scratch) → 0 < r
-      → loaderOutcome R net k target area scratch loader ≡ record { answer = turnedBack r; area = area; scratch = scratch; loader = loader }
-  unfolding loaderOutcome loaderSized
-  map-sizes net r e h = ap (λ (n : ℕ). loaderSized R n k target net area scratch loader) (map-sizes-are R k target area scratch ∙ sym e) ∙ sized r h
+  pub map-sizes : (r : ℕ) → r ≡ sizesOf R k target (length area) (length scratch) → 0 < r → areasOutcome M R net k target area scratch loader contents ≡ keeping r
+  unfolding outcomeSized sized
+  map-sizes r e h = areas-sized r (e ∙ sym (map-sizes-are R k target area scratch)) ∙ some r h
     where
       none : 0 < 0 → ⊥
       none h = omega arith
 
-      sized : (r : ℕ) → 0 < r → loaderSized R r k target net area scratch loader ≡ record { answer = turnedBack r; area = area; scratch = scratch; loader = loader }
-      sized zero h = absurd (none h)
-      sized (suc n) h = refl
+      some : (r : ℕ) → 0 < r → sized (sizesWith (contentsShort contents) r) ≡ keeping r
+      some zero h = absurd (none h)
+      some (suc n) h = refl
 
-  -- what follows where they pass
-  passed : (net : List ℕ) → sizesOf R k target (length area) (length scratch) ≡ 0
-      → loaderOutcome R net k target area scratch loader ≡ loaderFit R (tooShort loader) k target (checkNet R k net) area scratch loader
-  unfolding loaderOutcome loaderSized
-  passed net z = ap (λ (n : ℕ). loaderSized R n k target net area scratch loader) (map-sizes-are R k target area scratch ∙ z)
+  module _ (z : sizesOf R k target (length area) (length scratch) ≡ 0) where
+    zeroed : areasOutcome M R net k target area scratch loader contents ≡ sized (cond (contentsShort contents) 3 0)
+    zeroed = areas-sized 0 (sym (map-sizes-are R k target area scratch ∙ z))
 
-  -- **refusal 20**: the scratch is cleared
-  pub map-short : (net : List ℕ) (r : ℕ) (scratch′ : List ℕ) → sizesOf R k target (length area) (length scratch) ≡ 0 → r ≡ loaderSize (length loader) → 0 < r
-      → scratch′ ≡ cleared (R .scratch) scratch → loaderOutcome R net k target area scratch loader ≡ record { answer = turnedBack r; area = area; scratch = scratch′; loader = loader }
-  unfolding loaderFitIn
-  map-short net r scratch′ z e h q =
-      let t = told-short loader (omega (arith, e, h)) in
-      passed net z ∙ ap (λ (b : Bool). loaderFit R b k target (checkNet R k net) area scratch loader) (t .0)
-      ∙ ap₂ (λ (n : ℕ) (s : List ℕ). record { answer = turnedBack n; area = area; scratch = s; loader = loader }) (sym (e ∙ t .1)) (sym q)
+    -- **refusal 3 of the contents area**
+    pub map-contents : (r : ℕ) → r ≡ lentSize contentsArea 3 (length contents) → 0 < r → areasOutcome M R net k target area scratch loader contents ≡ keeping r
+    unfolding outcomeSized sized
+    map-contents r e h =
+        let t = told-short contentsArea 3 (length contents) (omega (arith, e, h)) in
+        zeroed ∙ ap (λ (b : Bool). sized (cond b 3 0)) (t .0) ∙ ap keeping (sym (e ∙ t .1))
 
-  -- **all other outcomes**: the scratch in front was worked on, then cleared
-  pub map-rest : (net area′ loader′ work : List ℕ) (answer : Answer) (scratch′ : List ℕ) → sizesOf R k target (length area) (length scratch) ≡ 0 → loaderSize (length loader) ≡ 0
-      → MapsTo R k target net area area′ loader loader′ answer → length work ≡ R .scratch → scratch′ ≡ cleared (R .scratch) (work ++ drop (R .scratch) scratch)
-      → loaderOutcome R net k target area scratch loader ≡ record { answer = answer; area = area′; scratch = scratch′; loader = loader′ }
-  unfolding loaderFitIn cleared
-  map-rest net area′ loader′ work answer scratch′ z y m l e =
-      passed net z ∙ ap (λ (b : Bool). loaderFit R b k target (checkNet R k net) area scratch loader) (told-fits loader y .0)
-      ∙ ap₂ beside (m .outcome scratch) (m .image)
-      ∙ ap (λ (s : List ℕ). record { answer = answer; area = area′; scratch = s; loader = loader′ })
-      (sym (e ∙ ap (λ (s : List ℕ). replicate (R .scratch) 0 ++ s) (drop-at work (drop (R .scratch) scratch) (R .scratch) l)))
+    module _ (y : lentSize contentsArea 3 (length contents) ≡ 0) where
+      passed : areasOutcome M R net k target area scratch loader contents
+          ≡ outcomeFit M R (tooShort loader) (λ N. sectionIn (sectionOf R k net)) k target (checksOf R k net contents) area scratch loader contents
+      unfolding outcomeSized sized
+      passed = zeroed ∙ ap (λ (b : Bool). sized (cond b 3 0)) (told-fits contentsArea 3 (length contents) (omega arith) y .0)
 
--- the outcome of map in that with a loader area
+      -- **refusal 20**: the scratch is cleared
+      pub map-short : (r : ℕ) (scratch′ : List ℕ) → r ≡ lentSize loaderArea 20 (length loader) → 0 < r → scratch′ ≡ cleared (R .scratch) scratch
+          → areasOutcome M R net k target area scratch loader contents ≡ record { answer = turnedBack r; area = area; scratch = scratch′; loader = loader; contents = contents }
+      unfolding outcomeFit loaderFitIn
+      map-short r scratch′ e h q =
+          let t = told-short loaderArea 20 (length loader) (omega (arith, e, h)) in
+          passed ∙ ap (λ (b : Bool). outcomeFit M R b (λ N. sectionIn (sectionOf R k net)) k target (checksOf R k net contents) area scratch loader contents) (t .0)
+          ∙ ap₂ (λ (n : ℕ) (s : List ℕ). record { answer = turnedBack n; area = area; scratch = s; loader = loader; contents = contents }) (sym (e ∙ t .1)) (sym q)
+
+      -- **all other outcomes**: the scratch in front was worked on, then cleared
+      pub map-rest : (area′ loader′ contents′ work : List ℕ) (answer : Answer) (scratch′ : List ℕ) → lentSize loaderArea 20 (length loader) ≡ 0
+          → MapsTo M R k target net area area′ loader loader′ contents contents′ answer → length work ≡ R .scratch → scratch′ ≡ cleared (R .scratch) (work ++ drop (R .scratch) scratch)
+          → areasOutcome M R net k target area scratch loader contents ≡ record { answer = answer; area = area′; scratch = scratch′; loader = loader′; contents = contents′ }
+      unfolding outcomeFit loaderFitIn cleared
+      map-rest area′ loader′ contents′ work answer scratch′ x m l e =
+          passed ∙ ap (λ (b : Bool). outcomeFit M R b (λ N. sectionIn (sectionOf R k net)) k target (checksOf R k net contents) area scratch loader contents) (told-fits loaderArea 20 (length loader) (omega arith) x .0)
+          ∙ ap₂ withContents (ap₂ beside (m .outcome scratch) (m .image)) (m .cells)
+          ∙ ap (λ (s : List ℕ). record { answer = answer; area = area′; scratch = s; loader = loader′; contents = contents′ })
+          (sym (e ∙ ap (λ (s : List ℕ). replicate (R .scratch) 0 ++ s) (drop-at work (drop (R .scratch) scratch) (R .scratch) l)))
+
+-- the outcome of map in that with more areas
+abbrev loading : ForwardOutcome → LoaderOutcome
+loading o = record { answer = o .answer; area = o .area; scratch = o .scratch; loader = o .loader }
+
 abbrev inner : LoaderOutcome → MapOutcome
 inner o = record { answer = o .answer; area = o .area; scratch = o .scratch }
 
--- **with no loader area it is document 01's map**
-pub map-alone : (R : Rules) (net : List ℕ) (k target : ℕ) (area scratch loader : List ℕ) {o : LoaderOutcome} → length loader ≡ 0 → loaderOutcome R net k target area scratch loader ≡ o
-    → mapOutcome R net k target area scratch ≡ record { answer = o .answer; area = o .area; scratch = o .scratch }
-map-alone R net k target area scratch loader none e = ap inner (sym (no-loader loader none R net k target area scratch) ∙ e)
+module _ (R : Rules) (net : List ℕ) (k target : ℕ) (area scratch loader contents : List ℕ) {o : ForwardOutcome} (none : length contents ≡ 0) (e : areasOutcome plain R net k target area scratch loader contents ≡ o) where
+  -- **with no contents area it is map with a loader area**
+  pub map-loaded : loaderOutcome R net k target area scratch loader ≡ record { answer = o .answer; area = o .area; scratch = o .scratch; loader = o .loader }
+  map-loaded = ap loading (sym (plain-outcome contents none R (λ N section. sectionIn section) net k target area scratch loader) ∙ e)
+
+  -- **and with no loader area it is document 01's map**
+  pub map-alone : length loader ≡ 0 → mapOutcome R net k target area scratch ≡ record { answer = o .answer; area = o .area; scratch = o .scratch }
+  map-alone bare = ap inner (sym (no-loader loader bare R net k target area scratch) ∙ map-loaded)
