@@ -7,7 +7,7 @@ use lib.ListN.{length}
 use Rattle.sequences.specs.Member.{_∈_, here, there}
 use Rattle.net_model.specs.Net.{Net, IsGate}
 use Rattle.net_model.specs.Checks.{Passed}
-use Rattle.label_theory.specs.Labels.{Reachable}
+use Rattle.label_theory.specs.Labels.{plain, Reachable}
 use Rattle.cover_theory.specs.Key.{Key, Entry, entries}
 use Rattle.cover_theory.specs.KeyOf.{key-labelled}
 use Rattle.cover_theory.specs.KeyUnique.{entries-unique, label-same}
@@ -39,10 +39,10 @@ module _ {N : Net} {k : ℕ} (P : Passed N k) where
   roots-agree K label h e m = h (e .root) (key-labelled K .gate e m)
 
   -- **the definition's text is the one of the arrays**
-  pub listed-cover : (target : ℕ) {a : Kept} → Covered N k target a → listMapped (mapped N k target P) ≡ coverText N (a .period) (labelAt a) (entriesIn a)
+  pub listed-cover : (target : ℕ) {a : Kept} → Covered plain N k target a → listMapped (mapped N k target P) ≡ coverText N (a .period) (labelAt a) (entriesIn a)
   unfolding listMapped
   listed-cover target {a} c =
-      let f = mapped-some P target c in
+      let f = mapped-some plain P target c in
       let agree = roots-agree (f .key) (labelAt a) (λ v g. label-same P (f .key) (c .key) v g ∙ c .labels v g) in
       ap (λ (m : Mapped N k). listMapped m) (f .is)
       ∙ text-agree N (a .period) (f .key .label) (labelAt a) (entries (f .key)) agree
@@ -50,4 +50,4 @@ module _ {N : Net} {k : ℕ} (P : Passed N k) where
 
   pub listed-none : (target : ℕ) → 1 ≤ target → ¬ Reachable N k target → listMapped (mapped N k target P) ≡ refusalText 12
   unfolding listMapped
-  listed-none target h n = ap (λ (m : Mapped N k). listMapped m) (mapped-none P target h n)
+  listed-none target h n = ap (λ (m : Mapped N k). listMapped m) (mapped-none plain P target h n)

@@ -1,5 +1,6 @@
 -- From what was read and settled to the text that the definition has.
 use mathlib.Core.Path.{_≡_, refl, sym, ap, subst, subst₂, _∙_}
+use mathlib.Core.Bool.{false, false≢true}
 use mathlib.Core.List.{List, []}
 use Prim.Native.Nat.{ℕ, _≤_, _<_}
 use native.Mathlib.Omega.{arith}
@@ -17,6 +18,7 @@ use Rattle.limits.specs.Courses.{long, is-long}
 use Rattle.net_bytes.specs.Reading.{Result, got, refused}
 use Rattle.net_bytes.specs.Walk.{netReader}
 use Rattle.net_bytes.specs.Sound.{walk-facts, walk-sound, walk-fits}
+use Rattle.label_theory.specs.Labels.{plain}
 use Rattle.cover_theory.specs.Key.{Entry}
 use Rattle.cover_records.specs.Kept.{Kept, entriesIn}
 use Rattle.cover_records.specs.Listing.{refusalText, entryTaps}
@@ -56,31 +58,32 @@ list-passes k target net N P e = ap (λ (c : Checked k). listChecked k target c)
 
 module _ {k target : ℕ} {N : Net} where
   -- the number of the refusal
-  refused-text : {a : Kept} {r : ℕ} → SettledAs k target N a r → 0 < r → (net : List ℕ) → netReader long k net ≡ got N [] → listChecked k target (checkNet long k net) ≡ refusalText r
+  refused-text : {a : Kept} {r : ℕ} → SettledAs plain false k target N a r → 0 < r → (net : List ℕ) → netReader long k net ≡ got N [] → listChecked k target (checkNet long k net) ≡ refusalText r
   refused-text (settling.loops e n) h net q = list-fails k target 9 net (check-loop long k net N [] q n) ∙ ap refusalText (sym e)
   refused-text (settling.cutOff e l n) h net q = list-fails k target 10 net (check-unreached long k net N [] q l n) ∙ ap refusalText (sym e)
   refused-text (settling.idle e l t n) h net q = list-fails k target 11 net (check-unled long k net N [] q l t n) ∙ ap refusalText (sym e)
-  refused-text (settling.unreachable e P h′ n) h net q =
+  refused-text (settling.sectionless e P l) h net q = absurd (false≢true l)
+  refused-text (settling.unreachable e P l h′ n) h net q =
       let t = check-passes long k net N [] q (P .loopless) (P .reached) (P .leading) in
       list-passes k target net N (t .0) (t .1) ∙ listed-none (t .0) target h′ n ∙ ap refusalText (sym e)
-  refused-text (settling.covered e P c) h net q = absurd (none e h)
+  refused-text (settling.covered e P l c) h net q = absurd (none e h)
     where
       none : {r : ℕ} → r ≡ 0 → 0 < r → ⊥
       none e h = omega arith
 
   -- **a refusal**
-  pub lists-refused : {a : Kept} {r n : ℕ} {before after : List ℕ} → SettledAs k target N a r → 0 < r → Wrote (refusalText r) before after n → ListsNet k target N before after n
+  pub lists-refused : {a : Kept} {r n : ℕ} {before after : List ℕ} → SettledAs plain false k target N a r → 0 < r → Wrote (refusalText r) before after n → ListsNet k target N before after n
   lists-refused s h t = record { lists = λ net q. wrote-as (refused-text s h net q) t }
 
   -- what feeds the cover are nodes of the net
-  cover-fed : {a : Kept} → CoverSettled k target N a → (net : List ℕ) → netReader long k net ≡ got N [] → FedBy N (entriesIn a)
+  cover-fed : {a : Kept} → CoverSettled plain false k target N a → (net : List ℕ) → netReader long k net ≡ got N [] → FedBy N (entriesIn a)
   cover-fed u net q = record {
     few = let f = walk-facts long k net N [] q .0 in omega arith;
     nodes = λ t m. key-sources (u .passed .sound) (u .cover .key) t (subst (λ (es : List Entry). t ∈ entryTaps N es) (sym (u .cover .same)) m);
   }
 
   -- **a cover**
-  pub lists-covered : {a : Kept} {r : ℕ} {before after : List ℕ} → CoverSettled k target N a → {os oc : List ℕ} {n : ℕ} → N .outputs ≡ pinsIn os oc 0 n → Lists a os oc n before after r → ListsNet k target N before after r
+  pub lists-covered : {a : Kept} {r : ℕ} {before after : List ℕ} → CoverSettled plain false k target N a → {os oc : List ℕ} {n : ℕ} → N .outputs ≡ pinsIn os oc 0 n → Lists a os oc n before after r → ListsNet k target N before after r
   lists-covered {a} u o l = record {
     lists = λ net q.
         let P = u .passed in
@@ -96,12 +99,12 @@ module _ {k target : ℕ} {z : NetSizes} {net ts net′ : List ℕ} (g : Settlin
   abbrev oc : List ℕ
   oc = drop (delaysAt (z .inputs) (z .gates) (z .outputs)) net′
 
-  pub lists-cover : {a : Kept} {r : ℕ} {before after : List ℕ} → CoverSettled k target (netIn (arraysOf z net ts)) a → Lists a os oc (z .outputs) before after r
+  pub lists-cover : {a : Kept} {r : ℕ} {before after : List ℕ} → CoverSettled plain false k target (netIn (arraysOf z net ts)) a → Lists a os oc (z .outputs) before after r
       → ListsNet k target (netIn (arraysOf z net ts)) before after r
   lists-cover u l = lists-covered u (ap (λ (N : Net). N .outputs) (sym (settling-same g q)) ∙ outputs-netIn (arraysOf z net′ ts)) l
 
   -- what the text asks
-  pub cover-listable : {a : Kept} {out : List ℕ} → textRoom ≤ length out → a .inputs ≡ z .inputs → a .gates ≡ z .gates → Long a → CoverSettled k target (netIn (arraysOf z net ts)) a
+  pub cover-listable : {a : Kept} {out : List ℕ} → textRoom ≤ length out → a .inputs ≡ z .inputs → a .gates ≡ z .gates → Long a → CoverSettled plain false k target (netIn (arraysOf z net ts)) a
       → Listable a os oc (z .outputs) out
   cover-listable {a} {out} room i e sizes u =
       let x = cover-writable g i e sizes (u .passed) (u .cover) out (omega (arith, room)) in

@@ -3,6 +3,7 @@ use cover_writer::CoverHead;
 use inputs::byte_at;
 use inputs::wide;
 use inputs::word;
+use job_settle::Call;
 use job_settle::settle;
 use job_sizes::check_sizes;
 use limits::AREA;
@@ -53,14 +54,19 @@ fn list_read(
     let mut labels = [0i64; NODES];
     let mut rows = [0usize; ROWS];
     let mut luts = [0u64; GATES];
+    let call = Call {
+        k: k,
+        target: target,
+        forward: false,
+        lacks: false,
+    };
     let s = settle(
         z,
         net,
         tables,
         &mut seen,
         &mut noted,
-        k,
-        target,
+        call,
         &mut work,
         &mut labels,
         &mut rows,

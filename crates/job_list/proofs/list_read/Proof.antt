@@ -108,8 +108,8 @@ write-text-requires c κs =
     let settle = c .before .before .before .before .before .before .before .before .before .before .before .before .before .before .before .before .before .before .settle in
     let start = c .before .before .before .before .before .before .before .before .before .before .before .before .before .before .before .before .before .before .before .before .before .before .before .before .before .before .before .before .before in
     let z = start .args .z in
-    let k = settle .kept .1 .1 .1 .1 .1 .1 .1 .1 in
-    let last = settle .last .1 .1 .1 .1 .1 .1 .1 .1 in
+    let k = settle .kept .1 .1 .1 .1 .1 .1 .1 in
+    let last = settle .last .1 .1 .1 .1 .1 .1 .1 in
     let u = cover-settled (settle .ensures .0) (omega (arith, c .before .before .before .before .before .before .before .before .before .if1 .left)) in
     let h = start .pre .settling .facts .gates-high in (
       rw (c .before .before .before .before .before .before .before .outs-at .ensures, c .before .before .before .before .before .before .delays-at .ensures)
@@ -130,7 +130,7 @@ returns-2 c =
     let settle = c .before .before .before .before .before .before .before .before .before .before .before .before .before .before .before .before .before .before .before .before .before .settle in
     let start = c .before .before .before .before .before .before .before .before .before .before .before .before .before .before .before .before .before .before .before .before .before .before .before .before .before .before .before .before .before .before .before .before in
     let z = start .args .z in
-    let last = settle .last .1 .1 .1 .1 .1 .1 .1 .1 in
+    let last = settle .last .1 .1 .1 .1 .1 .1 .1 in
     let text = c .before .before .write-text in
     lists-cover (start .pre .settling) (settle .ensures .1) (cover-settled (settle .ensures .0) (omega (arith, c .before .before .before .before .before .before .before .before .before .before .before .before .if1 .left)))
     (two-wholes (λ (os oc : List ℕ). Lists (keptIn (z .inputs) (z .gates) (settle .result .period) (last .0) (last .1 .0) (last .1 .1 .0)) os oc (z .outputs) (start .args .out .now) (text .last .1 .1 .1 .1 .1 .1 .1 .0) (text .result))
