@@ -1,17 +1,16 @@
 -- Laws of forward mode: one for each way a call ends, in the order 1 to 3, 20, the net's checks, 21, 22; the contents are within their area.
-use mathlib.Core.Path.{_≡_, refl, sym, subst, ap, ap₂, _∙_}
+use mathlib.Core.Path.{_≡_, sym, subst, ap, _∙_}
 use mathlib.Core.Bool.{Bool, true, false, cond, _&&_}
 use mathlib.Core.List.{List}
-use Prim.Native.Nat.{ℕ, zero, suc, _+_, _*_, _≤_, _<_}
-use native.Mathlib.Nat.{le-trans, mul-le-mul, mul-le-mul-right}
+use Prim.Native.Nat.{ℕ, suc, _+_, _*_, _≤_, _<_}
+use native.Mathlib.Nat.{mul-le-mul, mul-le-mul-right}
 use native.Mathlib.Decide.{decLt}
 use native.Mathlib.Omega.{arith}
-use borrow.Author.Tests.{lt-ltb, le-ltb}
 use lib.Dec.{ltb, eqb}
 use lib.IntN.{ℤ, pos, negsuc, negℤ}
 use lib.ListN.{length, getD, List·getD-eq-default}
 use lib.Signed.{_≤ℤ_}
-use Rattle.integers.specs.Parts.{up, dn, ints, neg-parts}
+use Rattle.integers.specs.Parts.{dn, ints, neg-parts}
 use Rattle.integers.specs.Lag.{lag}
 use Rattle.sequences.specs.Member.{_∈_, in-getD}
 use Rattle.limits.specs.Courses.{long, is-long}
@@ -19,9 +18,9 @@ use Rattle.limits.specs.Limits.{mostCount, mostK, mostOutputs}
 use Rattle.limits.specs.declared.Rules.{Rules}
 use Rattle.net_model.specs.Net.{Net}
 use Rattle.net_model.specs.Checks.{Passed}
-use Rattle.net_model.specs.Copies.{Copy, IsCone, IsLeaves, IsCut}
+use Rattle.net_model.specs.Copies.{Copy, IsCone, IsLeaves}
 use Rattle.net_model.specs.Tables.{tableOf}
-use Rattle.net_bytes.specs.Reading.{Result, got, refused}
+use Rattle.net_bytes.specs.Reading.{got}
 use Rattle.net_bytes.specs.Walk.{Drawn, drawnReader}
 use Rattle.run_theory.specs.Bench.{valueAt, Counts}
 use Rattle.label_theory.specs.Labels.{Mode, plain, forward}
@@ -31,29 +30,29 @@ use Rattle.cover_theory.specs.Key.{KeyIn, Entry, entries, asCover}
 use Rattle.cover_theory.specs.KeyOf.{entries-in, roots-gate}
 use Rattle.cover_theory.specs.Written.{noEntry, lut-asCover, luts-asCover}
 use Rattle.board_theory.specs.Boards.{Tabled, leafContents, outputContents}
-use Rattle.board_theory.specs.Contents.{contentsBytes, quiet, contentsOf}
+use Rattle.board_theory.specs.Contents.{quiet, contentsOf}
 use Rattle.board_theory.specs.ContentsLaws.{bytes-few}
 use Rattle.cover_records.specs.CoverBytes.{coverBytes}
 use Rattle.cover_records.specs.KeyRecord.{roomy, WithinLimits, key-lag-range, few-entries}
 use Rattle.cover_records.specs.LoaderImage.{isLent, loaded}
 use Rattle.cover_records.specs.LoaderLaws.{not-lent}
-use Rattle.cover_records.specs.LoaderOutcome.{LoaderOutcome, beside, tooShort, loaderWritten, loaderCheckedIn, loaderFitIn, loaderSized, loaderOutcome}
+use Rattle.cover_records.specs.LoaderOutcome.{beside, tooShort, loaderWritten, loaderCheckedIn, loaderFitIn, loaderSized, loaderOutcome}
 use Rattle.cover_records.specs.Marking.{TablesRight}
 use Rattle.cover_records.specs.MarkingDecided.{table-determined}
-use Rattle.cover_records.specs.Outcomes.{Answer, accepted, turnedBack, Checked, passes, fails, checkNet, cleared, written, MapOutcome, MappedIn, covered, unreachable, mappedIn, mapSizes, mapWritten, mapCheckedIn}
-use Rattle.cover_records.specs.ForwardOutcome.{ForwardOutcome, withContents, contentsArea, contentsShort, sizesWith, sectionFrom, sectionOf, lacking, sectioned, contentsWritten, contentsChecked, outcomeFit, outcomeSized, outcomeFrom, forwardOutcome}
+use Rattle.cover_records.specs.Outcomes.{accepted, turnedBack, Checked, passes, fails, checkNet, cleared, written, MappedIn, covered, unreachable, mappedIn, mapSizes, mapWritten, mapCheckedIn}
+use Rattle.cover_records.specs.ForwardOutcome.{ForwardOutcome, withContents, contentsArea, contentsShort, sizesWith, sectionFrom, sectionOf, lacking, sectioned, contentsWritten, contentsChecked, outcomeFit, outcomeSized, outcomeFrom}
 
 -- ---- the ways of a call
 
 module _ (R : Rules) (short : Bool) (start : Net → List ℕ → ℕ → ℕ → Bool) (net : List ℕ) (k target : ℕ) (area scratch loader contents : List ℕ) where
-  abbrev pub section : List ℕ
+  abbrev section : List ℕ
   section = sectionOf R k net
 
-  abbrev pub whole : ForwardOutcome
+  abbrev whole : ForwardOutcome
   whole = outcomeFrom forward R short start net k target area scratch loader contents
 
   -- refusal n: the three areas keep their bytes
-  abbrev pub refusing : ℕ → List ℕ → ForwardOutcome
+  abbrev refusing : ℕ → List ℕ → ForwardOutcome
   refusing n s = record { answer = turnedBack n; area = area; scratch = s; loader = loader; contents = contents }
 
   abbrev wiped : List ℕ

@@ -8,7 +8,7 @@ use Rattle.label_theory.specs.Labels.{Mode}
 use Rattle.cover_theory.specs.Key.{KeyIn}
 use Rattle.cover_theory.specs.Joined.{keyIn?}
 use Rattle.cover_theory.specs.Period.{leastPeriodIn, leastKeyIn}
-use Rattle.cover_records.specs.Outcomes.{MappedIn, covered, unreachable, forTarget, mappedIn}
+use Rattle.cover_records.specs.Outcomes.{covered, unreachable, forTarget, mappedIn}
 
 module _ (M : Mode) {N : Net} {k : ℕ} (P : Passed N k) where
   pub data Found (target : ℕ) : Type 0 where

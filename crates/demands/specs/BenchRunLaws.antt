@@ -59,7 +59,7 @@ module _ (k : ℕ) (net net′ : List ℕ) (e : checkNet long k net ≡ checkNet
 
 -- ---- the section taken off
 
-pub drawn-net : (k : ℕ) (bytes : List ℕ) (d : Drawn) → IsDrawn k bytes d → IsNet k bytes (d .net)
+drawn-net : (k : ℕ) (bytes : List ℕ) (d : Drawn) → IsDrawn k bytes d → IsNet k bytes (d .net)
 drawn-net k bytes d x = (x .0, net-stages long k bytes ∙ then-goes netOf (x .1))
 
 off : (k : ℕ) (bytes : List ℕ) (d : Drawn) → IsDrawn k bytes d → (plain : List ℕ) × TakenOff bytes (d .section) plain × (checkNet long k bytes ≡ checkNet long k plain)

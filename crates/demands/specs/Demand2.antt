@@ -33,7 +33,7 @@ use Rattle.cover_records.specs.MarkingDecided.{cutsRight?, tablesRight?, allFed
 use Rattle.cover_records.specs.KeyRecord.{roomy, WithinLimits, key-back}
 use Rattle.cover_records.specs.Marking.{CutsRight, TableRight, TablesRight, AllFed, EnoughRegisters, ShortChains}
 use Rattle.cover_records.specs.Accepted.{Covering, covering-cover, excess-is, accepted-runs}
-use Rattle.cover_records.specs.Outcomes.{Answer, accepted, turnedBack, Checked, passes, checkNet, MarkOutcome, MapOutcome, mapSizes, written, forTarget, mapWritten, mappedIn, mapped, mapOutcome, markSizes, judged, markRead, markChecked, markSized, markOutcome}
+use Rattle.cover_records.specs.Outcomes.{Answer, accepted, turnedBack, Checked, passes, checkNet, MarkOutcome, MapOutcome, mapSizes, written, forTarget, mapWritten, mappedIn, mapOutcome, markSizes, judged, markRead, markChecked, markSized, markOutcome}
 use Rattle.job_sizes.specs.SizeLaws.{fit, mark-sizes-are}
 use Rattle.demands.specs.Right.{RightRecord}
 use Rattle.demands.specs.Demand3.{outcome-is, limits, map-fit}
@@ -196,7 +196,7 @@ module _ (net area scratch scratch′ : List ℕ) (k : ℕ) (N : Net) (P : Passe
       accepted-if net (coverBytes long φ (entries K)) scratch′ k N P sizes′ passed (record { period = φ; entries = entries K }) [] (key-back (roomy is-long) P within h K h′) (key-right P h K)
 
   -- the area's first n bytes are the record, where n is its length
-  pub in-front : (bytes : List ℕ) (n : ℕ) → accepted (length bytes) ≡ accepted n → take n (written bytes area) ≡ bytes
+  in-front : (bytes : List ℕ) (n : ℕ) → accepted (length bytes) ≡ accepted n → take n (written bytes area) ≡ bytes
   in-front bytes n e = take-at bytes (drop (length bytes) area) n (same e)
     where
       same : accepted (length bytes) ≡ accepted n → length bytes ≡ n

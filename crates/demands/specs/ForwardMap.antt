@@ -16,7 +16,7 @@ use Rattle.run_theory.specs.BenchBytes.{sectionIn}
 use Rattle.label_theory.specs.Labels.{forward}
 use Rattle.cover_theory.specs.Covers.{Cover}
 use Rattle.cover_theory.specs.Forward.{Forward, ForwardMet, LeastForwardPeriod}
-use Rattle.cover_theory.specs.Key.{KeyIn, Entry, entries, asCover}
+use Rattle.cover_theory.specs.Key.{KeyIn, entries, asCover}
 use Rattle.cover_theory.specs.Written.{noEntry}
 use Rattle.board_theory.specs.Boards.{Boarded, boardAt}
 use Rattle.board_theory.specs.Contents.{contentsBytes, contentsOf, boardShows, netShows}

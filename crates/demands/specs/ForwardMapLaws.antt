@@ -6,31 +6,29 @@ use mathlib.Core.Logic.{_⊎_, inl, inr, _↔_}
 use Prim.Native.Nat.{ℕ, zero, suc, _*_, _≤_, _<_}
 use native.Mathlib.Decide.{ℕ-discrete, decLe}
 use native.Mathlib.Omega.{arith}
-use borrow.Author.Tests.{lt-ltb, le-ltb, ltb-true, ltb-false, eqb-true, eq-eqb, ne-eqb}
+use borrow.Author.Tests.{lt-ltb, ltb-true, eqb-true, eq-eqb, ne-eqb}
 use lib.Dec.{ltb, eqb}
-use lib.ListN.{length, getD, take, drop}
+use lib.ListN.{length, take, drop}
 use lib.Seq.{take-at}
 use Rattle.limits.specs.Limits.{coverArea, loaderArea, mostCount, mostOutputs, mostPeriod, scratchArea}
 use Rattle.limits.specs.Courses.{long, is-long}
-use Rattle.sequences.specs.Member.{_∈_}
 use Rattle.net_model.specs.Net.{Net}
 use Rattle.net_model.specs.Checks.{Passed}
 use Rattle.net_model.specs.Copies.{Copy}
 use Rattle.net_bytes.specs.Reading.{Result, got, refused}
-use Rattle.net_bytes.specs.Readers.{got-value, refused-not-got, then-got}
+use Rattle.net_bytes.specs.Readers.{got-value, refused-not-got}
 use Rattle.net_bytes.specs.Stages.{netOf, net-stages}
-use Rattle.net_bytes.specs.Walk.{Drawn, drawnReader, netReader}
+use Rattle.net_bytes.specs.Walk.{Drawn, drawnReader}
 use Rattle.net_bytes.specs.Sound.{walk-facts, walk-gate}
 use Rattle.run_theory.specs.Bench.{valueAt, Counts}
 use Rattle.run_theory.specs.BenchBytes.{sectionIn}
 use Rattle.label_theory.specs.Labels.{forward}
-use Rattle.cover_theory.specs.Covers.{Cover, IsCover, Meets}
 use Rattle.cover_theory.specs.Forward.{Forward, ForwardMet, LeastForwardPeriod}
 use Rattle.cover_theory.specs.Joined.{key-suited, forward-key-meets, forward-reachable}
 use Rattle.cover_theory.specs.Key.{KeyIn, entries, asCover}
 use Rattle.cover_theory.specs.KeyOf.{keyOf}
 use Rattle.cover_theory.specs.KeyUnique.{entries-unique}
-use Rattle.cover_theory.specs.Period.{leastPeriodIn, leastForwardPeriod-is, leastForwardPeriod-unique, leastPeriodIn-bound}
+use Rattle.cover_theory.specs.Period.{leastForwardPeriod-is, leastForwardPeriod-unique, leastPeriodIn-bound}
 use Rattle.cover_theory.specs.Written.{luts-asCover}
 use Rattle.board_theory.specs.BoardLaws.{boarded, boarded-unique}
 use Rattle.board_theory.specs.Boards.{Boarded, boardAt, leafContents, outputContents}
@@ -44,7 +42,6 @@ use Rattle.cover_records.specs.KeyRecord.{roomy, WithinLimits, key-back, key-le
 use Rattle.cover_records.specs.LoaderImage.{isLent, imageBytes, loaded}
 use Rattle.cover_records.specs.LoaderLaws.{not-lent}
 use Rattle.cover_records.specs.LoaderOutcome.{tooShort}
-use Rattle.cover_records.specs.Marking.{TablesRight}
 use Rattle.cover_records.specs.Outcomes.{Answer, accepted, turnedBack, passes, fails, checkNet, cleared, written, mapSizes}
 use Rattle.job_sizes.specs.Sizes.{Fit, sizesOf}
 use Rattle.job_sizes.specs.SizeLaws.{map-sizes-are, mark-sizes-are, size-none}
@@ -53,11 +50,10 @@ use Rattle.demands.specs.Calls.{markDone}
 use Rattle.demands.specs.CallLaws.{turned-not, accepted-not, turned-same}
 use Rattle.demands.specs.Endings.{Said, fits, said1, said2, said3, NetEnds, stops, goes}
 use Rattle.demands.specs.OrderLaws.{sizes-said, one-net, net-range, net-ends}
-use Rattle.demands.specs.Right.{Wrote, RightRecord}
-use Rattle.demands.specs.Demand2.{key-right, key-accepted, in-front}
+use Rattle.demands.specs.Right.{RightRecord}
+use Rattle.demands.specs.Demand2.{key-right, key-accepted}
 use Rattle.demands.specs.Demand3.{wrote-key, limits, map-fit}
 use Rattle.demands.specs.BenchRun.{IsDrawn}
-use Rattle.demands.specs.BenchRunLaws.{drawn-net}
 use Rattle.demands.specs.ForwardMap.{ForwardCall, forwardDone, ForwardFails, turn, FirstInTurn, OfForward, ForwardNet, ForwardAsked, ForwardWrote, Read, coverIn, tablesIn, ForwardMap}
 
 -- ---- turns

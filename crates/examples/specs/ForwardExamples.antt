@@ -1,12 +1,12 @@
 -- Examples of forward mode (document 02, E6): B at k 2 and target 1 has no forward cover; C with a section gets its cover and the first contents of its one register.
-use mathlib.Core.Path.{_≡_, refl, sym, subst, ap, ap₂, _∙_}
-use mathlib.Core.Bool.{Bool, true, false, cond, _&&_}
+use mathlib.Core.Path.{_≡_, refl, sym, subst, ap, _∙_}
+use mathlib.Core.Bool.{Bool, false, cond}
 use mathlib.Core.List.{List, [], _∷_}
-use Prim.Native.Nat.{ℕ, zero, suc, _*_, _≤_, _<_, suc-le-suc, zero-le}
+use Prim.Native.Nat.{ℕ, suc, _*_, _≤_, _<_, suc-le-suc, zero-le}
 use native.Mathlib.Omega.{arith}
 use borrow.Author.Tests.{lt-ltb, le-ltb}
 use lib.Count.{ones, onesIn}
-use lib.Dec.{ltb, eqb}
+use lib.Dec.{eqb}
 use lib.IntN.{ℤ, pos, negsuc, _+ℤ_}
 use lib.ListN.{length}
 use lib.Signed.{_≤ℤ_}
@@ -16,14 +16,13 @@ use Rattle.limits.specs.Courses.{long}
 use Rattle.limits.specs.Limits.{scratchArea}
 use Rattle.net_model.specs.Net.{Net, Pin, IsGate, gate, pins}
 use Rattle.net_model.specs.Checks.{Passed}
-use Rattle.net_model.specs.Copies.{Copy, copy, Feeds, Leads, stop, step}
-use Rattle.net_model.specs.Tables.{apply, index, bit}
+use Rattle.net_model.specs.Copies.{Copy, copy, Leads, stop, step}
 use Rattle.net_bytes.specs.Reading.{got, times}
 use Rattle.net_bytes.specs.Walk.{netReader, drawnReader, bodyReader, gateReader, outputReader, pinsFrom, fromBytes}
 use Rattle.cone_theory.specs.ChecksDecided.{passed?}
 use Rattle.run_theory.specs.Bench.{ago, repeated, valueAt}
 use Rattle.run_theory.specs.BenchBytes.{sectionIn}
-use Rattle.label_theory.specs.Labels.{Mode, plain, forward, Inside, LowCutIn, LabellingIn, Labelling}
+use Rattle.label_theory.specs.Labels.{forward, Inside, LowCutIn, LabellingIn, Labelling}
 use Rattle.label_theory.specs.Lower.{remember}
 use Rattle.label_theory.specs.Modes.{labelling-top}
 use Rattle.cover_theory.specs.Key.{KeyIn, Key, Entry, entries, asCover, placeOf}
@@ -37,8 +36,8 @@ use Rattle.cover_records.specs.CoverBytes.{coverBytes}
 use Rattle.cover_records.specs.ForwardLaws.{forward-unmet, forward-written, none-lacking}
 use Rattle.cover_records.specs.ForwardOutcome.{ForwardOutcome, contentsArea, contentsShort, sectionOf, lacking, forwardOutcome}
 use Rattle.cover_records.specs.LoaderImage.{isLent, loaded}
-use Rattle.cover_records.specs.Outcomes.{accepted, turnedBack, cleared, written, MappedIn, covered, unreachable, forTarget, mappedIn, mapSizes}
-use Rattle.examples.specs.Statements.{lut, labels, Room}
+use Rattle.cover_records.specs.Outcomes.{accepted, turnedBack, cleared, written, covered, unreachable, forTarget, mappedIn}
+use Rattle.examples.specs.Statements.{lut, Room}
 use Rattle.examples.specs.Nets.{pin, pair, bytesB, netB, netC}
 use Rattle.examples.specs.Plan.{given, net-passes, sizes-pass}
 use Rattle.examples.specs.Marked.{marked-examples}

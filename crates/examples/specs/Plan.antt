@@ -48,7 +48,7 @@ use Rattle.net_bytes.specs.Reading.{Result, got, between}
 use Rattle.net_bytes.specs.Walk.{netReader}
 use Rattle.net_bytes.specs.Sound.{walk-sound, walk-fits}
 use Rattle.cover_records.specs.CoverBytes.{coverBytes}
-use Rattle.cover_records.specs.Outcomes.{accepted, turnedBack, passes, checkGraph, checkRead, checkNet, mapSizes, cleared, written, forTarget, mapWritten, mappedIn, mapped, mapOutcome}
+use Rattle.cover_records.specs.Outcomes.{accepted, turnedBack, passes, checkGraph, checkRead, checkNet, mapSizes, cleared, written, forTarget, mapWritten, mappedIn, mapOutcome}
 use Rattle.demands.specs.Demand3.{outcome-is}
 use Rattle.examples.specs.Statements.{labels, Room, Refuses, Maps}
 
