@@ -14,7 +14,7 @@ use Rattle.integers.specs.Parts.{dn, ints, neg-parts}
 use Rattle.integers.specs.Lag.{lag}
 use Rattle.sequences.specs.Member.{_∈_, in-getD}
 use Rattle.limits.specs.Courses.{long, is-long}
-use Rattle.limits.specs.Limits.{mostCount, mostK, mostOutputs}
+use Rattle.limits.specs.Limits.{contentsArea, mostCount, mostK, mostOutputs}
 use Rattle.limits.specs.declared.Rules.{Rules}
 use Rattle.net_model.specs.Net.{Net}
 use Rattle.net_model.specs.Checks.{Passed}
@@ -40,7 +40,7 @@ use Rattle.cover_records.specs.LoaderOutcome.{beside, tooShort, loaderWr
 use Rattle.cover_records.specs.Marking.{TablesRight}
 use Rattle.cover_records.specs.MarkingDecided.{table-determined}
 use Rattle.cover_records.specs.Outcomes.{accepted, turnedBack, Checked, passes, fails, checkNet, cleared, written, MappedIn, covered, unreachable, mappedIn, mapSizes, mapWritten, mapCheckedIn}
-use Rattle.cover_records.specs.ForwardOutcome.{ForwardOutcome, withContents, contentsArea, contentsShort, sizesWith, sectionFrom, sectionOf, lacking, sectioned, contentsWritten, contentsChecked, outcomeFit, outcomeSized, outcomeFrom}
+use Rattle.cover_records.specs.ForwardOutcome.{ForwardOutcome, withContents, contentsShort, sizesWith, sectionFrom, sectionOf, lacking, sectioned, contentsWritten, contentsChecked, outcomeFit, outcomeSized, outcomeFrom}
 
 -- ---- the ways of a call
 

@@ -5,6 +5,7 @@ use mathlib.Core.List.{List, []}
 use Prim.Native.Nat.{ℕ, zero, suc}
 use lib.Dec.{ltb, eqb}
 use lib.ListN.{length}
+use Rattle.limits.specs.Limits.{contentsArea}
 use Rattle.limits.specs.declared.Rules.{Rules}
 use Rattle.net_model.specs.Net.{Net}
 use Rattle.net_bytes.specs.Reading.{Result, got, refused}
@@ -29,10 +30,6 @@ abbrev pub withContents : LoaderOutcome → List ℕ → ForwardOutcome
 withContents o contents = record { answer = o .answer; area = o .area; scratch = o .scratch; loader = o .loader; contents = contents }
 
 -- ---- 3
-
--- "20,592 bytes"; to stand among the limits
-abbrev pub contentsArea : ℕ
-contentsArea = 20592
 
 -- "3, a lent contents area is under 20,592 bytes" "(length 0 counts as none)"
 abbrev pub contentsShort : List ℕ → Bool

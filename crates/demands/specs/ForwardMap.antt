@@ -6,7 +6,7 @@ use mathlib.Core.Logic.{_⊎_, _↔_}
 use Prim.Native.Nat.{ℕ, _*_, _≤_, _<_}
 use lib.Dec.{eqb}
 use lib.ListN.{length, getD, take}
-use Rattle.limits.specs.Limits.{coverArea, loaderArea, mostPeriod, scratchArea}
+use Rattle.limits.specs.Limits.{contentsArea, coverArea, loaderArea, mostPeriod, scratchArea}
 use Rattle.limits.specs.Courses.{long}
 use Rattle.sequences.specs.Member.{_∈_}
 use Rattle.net_model.specs.Net.{Net}
@@ -21,7 +21,7 @@ use Rattle.cover_theory.specs.Written.{noEntry}
 use Rattle.board_theory.specs.Boards.{Boarded, boardAt}
 use Rattle.board_theory.specs.Contents.{contentsBytes, contentsOf, boardShows, netShows}
 use Rattle.cover_records.specs.CoverBytes.{Record, coverBytes}
-use Rattle.cover_records.specs.ForwardOutcome.{ForwardOutcome, forwardOutcome, contentsArea}
+use Rattle.cover_records.specs.ForwardOutcome.{ForwardOutcome, forwardOutcome}
 use Rattle.cover_records.specs.LoaderImage.{imageBytes}
 use Rattle.cover_records.specs.Marking.{TablesRight}
 use Rattle.cover_records.specs.Outcomes.{accepted, turnedBack, cleared, written}

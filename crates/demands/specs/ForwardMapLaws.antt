@@ -10,7 +10,7 @@ use borrow.Author.Tests.{lt-ltb, ltb-true, eqb-true, eq-eqb, ne-eqb}
 use lib.Dec.{ltb, eqb}
 use lib.ListN.{length, take, drop}
 use lib.Seq.{take-at}
-use Rattle.limits.specs.Limits.{coverArea, loaderArea, mostCount, mostOutputs, mostPeriod, scratchArea}
+use Rattle.limits.specs.Limits.{contentsArea, coverArea, loaderArea, mostCount, mostOutputs, mostPeriod, scratchArea}
 use Rattle.limits.specs.Courses.{long, is-long}
 use Rattle.net_model.specs.Net.{Net}
 use Rattle.net_model.specs.Checks.{Passed}
@@ -37,7 +37,7 @@ use Rattle.board_theory.specs.ContentsLaws.{bytes-front, bytes-bits, first-cont
 use Rattle.cover_records.specs.CoverBytes.{Record, coverBytes, coverReader}
 use Rattle.cover_records.specs.Found.{Found, found}
 use Rattle.cover_records.specs.ForwardLaws.{forward-early, forward-small, forward-loader, forward-fails, forward-lacking, forward-unmet, forward-written, section-read, entries-tabled, contents-length}
-use Rattle.cover_records.specs.ForwardOutcome.{ForwardOutcome, contentsArea, contentsShort, sectionOf, lacking, outcomeFrom, forwardOutcome}
+use Rattle.cover_records.specs.ForwardOutcome.{ForwardOutcome, contentsShort, sectionOf, lacking, outcomeFrom, forwardOutcome}
 use Rattle.cover_records.specs.KeyRecord.{roomy, WithinLimits, key-back, key-length}
 use Rattle.cover_records.specs.LoaderImage.{isLent, imageBytes, loaded}
 use Rattle.cover_records.specs.LoaderLaws.{not-lent}

@@ -13,7 +13,7 @@ use lib.Signed.{_≤ℤ_}
 use Rattle.integers.specs.Parts.{ints, +-parts}
 use Rattle.sequences.specs.Member.{_∈_, here, there, not-in-nil}
 use Rattle.limits.specs.Courses.{long}
-use Rattle.limits.specs.Limits.{scratchArea}
+use Rattle.limits.specs.Limits.{contentsArea, scratchArea}
 use Rattle.net_model.specs.Net.{Net, Pin, IsGate, gate, pins}
 use Rattle.net_model.specs.Checks.{Passed}
 use Rattle.net_model.specs.Copies.{Copy, copy, Leads, stop, step}
@@ -34,7 +34,7 @@ use Rattle.cover_theory.specs.Period.{gates-reach-in}
 use Rattle.board_theory.specs.Contents.{cells, leafCells, lutCells, outputCells, contentsBytes, contentsOf}
 use Rattle.cover_records.specs.CoverBytes.{coverBytes}
 use Rattle.cover_records.specs.ForwardLaws.{forward-unmet, forward-written, none-lacking}
-use Rattle.cover_records.specs.ForwardOutcome.{ForwardOutcome, contentsArea, contentsShort, sectionOf, lacking, forwardOutcome}
+use Rattle.cover_records.specs.ForwardOutcome.{ForwardOutcome, contentsShort, sectionOf, lacking, forwardOutcome}
 use Rattle.cover_records.specs.LoaderImage.{isLent, loaded}
 use Rattle.cover_records.specs.Outcomes.{accepted, turnedBack, cleared, written, covered, unreachable, forTarget, mappedIn}
 use Rattle.examples.specs.Statements.{lut, Room}

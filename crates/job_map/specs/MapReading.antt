@@ -12,7 +12,7 @@ use lib.Seq.{length-take-le}
 use Rattle.net_model.specs.Net.{Net, size}
 use Rattle.net_model.specs.Arrays.{netIn}
 use Rattle.net_model.specs.ArrayLaws.{size-netIn}
-use Rattle.limits.specs.Limits.{loaderArea, mostGates, mostPacked}
+use Rattle.limits.specs.Limits.{contentsArea, loaderArea, mostGates, mostPacked}
 use Rattle.limits.specs.Courses.{Offered}
 use Rattle.limits.specs.CourseLaws.{offered-within}
 use Rattle.limits.specs.declared.Rules.{Rules}
@@ -21,7 +21,7 @@ use Rattle.net_bytes.specs.Walk.{Drawn, drawn, drawnReader, netReader}
 use Rattle.net_bytes.specs.Sound.{walk-sound, walk-fits, drawn-facts}
 use Rattle.label_theory.specs.Labels.{Mode}
 use Rattle.cover_records.specs.Outcomes.{Answer, turnedBack}
-use Rattle.cover_records.specs.ForwardOutcome.{contentsArea, sectionOf, lacking}
+use Rattle.cover_records.specs.ForwardOutcome.{sectionOf, lacking}
 use Rattle.cover_records.specs.ForwardLaws.{section-read}
 use Rattle.net_fields.specs.Verdicts.{outcome}
 use Rattle.net_fields.specs.FieldLaws.{went}

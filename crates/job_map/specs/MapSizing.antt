@@ -6,14 +6,14 @@ use Prim.Native.Nat.{ℕ, zero, suc, _<_}
 use native.Mathlib.Omega.{arith}
 use lib.ListN.{length, drop, replicate}
 use lib.Seq.{drop-at}
-use Rattle.limits.specs.Limits.{loaderArea}
+use Rattle.limits.specs.Limits.{contentsArea, loaderArea}
 use Rattle.limits.specs.declared.Rules.{Rules}
 use Rattle.run_theory.specs.BenchBytes.{sectionIn}
 use Rattle.label_theory.specs.Labels.{Mode, plain}
 use Rattle.cover_records.specs.Outcomes.{Answer, turnedBack, MapOutcome, mapOutcome, mapSizes, cleared}
 use Rattle.cover_records.specs.LoaderOutcome.{LoaderOutcome, beside, tooShort, loaderFitIn, loaderOutcome}
 use Rattle.cover_records.specs.LoaderLaws.{no-loader}
-use Rattle.cover_records.specs.ForwardOutcome.{ForwardOutcome, withContents, contentsArea, contentsShort, sizesWith, sectionOf, outcomeFit, outcomeSized, outcomeFrom}
+use Rattle.cover_records.specs.ForwardOutcome.{ForwardOutcome, withContents, contentsShort, sizesWith, sectionOf, outcomeFit, outcomeSized, outcomeFrom}
 use Rattle.cover_records.specs.ForwardLaws.{plain-outcome}
 use Rattle.job_sizes.specs.Sizes.{sizesOf, lentSize}
 use Rattle.job_sizes.specs.SizeLaws.{map-sizes-are, told-short, told-fits}

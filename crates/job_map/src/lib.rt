@@ -9,6 +9,7 @@ use job_scratch::clear_first;
 use job_settle::Call;
 use job_sizes::check_lent;
 use job_sizes::check_sizes;
+use limits::CONTENTS;
 use limits::GATES;
 use limits::LOADER;
 use limits::PACKED;
@@ -21,18 +22,16 @@ ghost use mathlib.Core.Path.{_≡_};
 ghost use mathlib.Core.Bool.{true, _&&_};
 ghost use lib.Dec.{ltb, eqb};
 ghost use lib.ListN.{length};
-ghost use Rattle.limits.specs.Limits.{loaderArea};
+ghost use Rattle.limits.specs.Limits.{contentsArea, loaderArea};
 ghost use Rattle.limits.specs.Courses.{long, short, Offered};
 ghost use Rattle.cover_records.specs.Outcomes.{mapOutcome};
 ghost use Rattle.cover_records.specs.LoaderOutcome.{loaderOutcome};
-ghost use Rattle.cover_records.specs.ForwardOutcome.{contentsArea, forwardOutcome};
+ghost use Rattle.cover_records.specs.ForwardOutcome.{forwardOutcome};
 ghost use Rattle.label_aim.specs.Aims.{modeOf};
 ghost use Rattle.job_sizes.specs.Sizes.{Fit, LentFits};
 ghost use Rattle.job_record.specs.MapAnswers.{answerOf, InRange};
 ghost use Rattle.job_record.specs.Mapping.{MapsTo};
 ghost use Rattle.job_map.specs.Areas.{areasOutcome};
-
-const CONTENTS: usize = 20592;
 
 // Whether a contents area of this length is lent and the net has no section.
 fn lacks_section(contents: usize, section: usize) -> bool

@@ -10,7 +10,7 @@ use lib.ListN.{length, length-replicate}
 use Rattle.net_model.specs.Net.{Net}
 use Rattle.net_model.specs.Arrays.{netIn}
 use Rattle.net_model.specs.ArrayLaws.{outputs-netIn, length-pinsIn}
-use Rattle.limits.specs.Limits.{mostNodes, mostCount, mostOutputs, scratchArea}
+use Rattle.limits.specs.Limits.{contentsArea, mostNodes, mostCount, mostOutputs, scratchArea}
 use Rattle.run_theory.specs.Bench.{Counts}
 use Rattle.run_theory.specs.BenchBytes.{sectionIn}
 use Rattle.run_values.specs.Sheets.{Runnable}
@@ -25,7 +25,6 @@ use Rattle.cover_records.specs.Kept.{Kept, entriesIn}
 use Rattle.cover_records.specs.Rows.{keptIn, sizesIn, nodesIn, backsIn}
 use Rattle.cover_records.specs.Outcomes.{written}
 use Rattle.cover_records.specs.LoaderImage.{isLent}
-use Rattle.cover_records.specs.ForwardOutcome.{contentsArea}
 use Rattle.cover_records.specs.ForwardLaws.{contents-length}
 use Rattle.cover_registers.specs.LagLaws.{leaves-held}
 use Rattle.cover_contents.specs.TablesApart.{tables-apart}

@@ -5,7 +5,7 @@ use mathlib.Core.List.{List, []}
 use Prim.Native.Nat.{ℕ, _+_, _≤_}
 use lib.ListN.{length}
 use Rattle.net_model.specs.Net.{Net}
-use Rattle.limits.specs.Limits.{coverArea, loaderArea, scratchArea}
+use Rattle.limits.specs.Limits.{contentsArea, coverArea, loaderArea, scratchArea}
 use Rattle.limits.specs.Courses.{Offered}
 use Rattle.limits.specs.declared.Rules.{Rules}
 use Rattle.net_bytes.specs.Reading.{got}
@@ -17,7 +17,7 @@ use Rattle.board_theory.specs.Contents.{contentsOf}
 use Rattle.cover_records.specs.Outcomes.{Answer, MapOutcome, Checked, checkNet, mapCheckedIn, cleared, written}
 use Rattle.cover_records.specs.LoaderImage.{isLent}
 use Rattle.cover_records.specs.LoaderOutcome.{loaderCheckedIn}
-use Rattle.cover_records.specs.ForwardOutcome.{contentsArea, sectionOf, lacking, sectioned, contentsChecked}
+use Rattle.cover_records.specs.ForwardOutcome.{sectionOf, lacking, sectioned, contentsChecked}
 use Rattle.job_sizes.specs.Sizes.{LentFits}
 use Rattle.net_reader.specs.declared.NetSizes.{NetSizes}
 use Rattle.label_aim.specs.Aims.{modeOf}

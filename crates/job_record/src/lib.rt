@@ -47,7 +47,17 @@ fn fill_contents(
     }
     let mut kept = [0u8; NODES];
     write_contents(
-        z, net, tables, section, &mut kept, known, head, labels, rows, work, contents,
+        z,
+        net,
+        tables,
+        section,
+        &mut kept,
+        known,
+        head,
+        labels,
+        rows,
+        work,
+        contents,
     );
 }
 
@@ -95,7 +105,16 @@ pub fn map_read(
     let n = write_cover(head, &labels, &rows, &luts, area);
     write_image(&rows, &luts, z.gates, loader);
     fill_contents(
-        z, net, tables, section, &mut noted, head, &labels, &rows, work, contents,
+        z,
+        net,
+        tables,
+        section,
+        &mut noted,
+        head,
+        &labels,
+        &rows,
+        work,
+        contents,
     );
     Answer::Length(n)
 }

@@ -1,4 +1,4 @@
-// The library for other programs: map and mark of both courses, map with a loader area, the root lookup and align, each with one number for its answer, and the classes
+// The library for other programs: map and mark of both courses, map with a loader area and in forward mode, the root lookup and align, each with one number for its answer, and the classes
 // of three-input tables.
 use captures::Alignment;
 use captures::NO_SHIFT;
@@ -7,6 +7,7 @@ use job_find::Found;
 use job_find::find_root;
 use job_judge::Grade;
 use job_map::map;
+use job_map::map_forward;
 use job_map::map_loader;
 use job_map::short_map;
 use job_mark::mark;
@@ -22,6 +23,7 @@ ghost use Rattle.lutclass.specs.Classes.{IsClass};
 ghost use Rattle.lutclass.specs.ClassTable.{shipped};
 ghost use Rattle.cover_records.specs.Outcomes.{mapOutcome, markOutcome};
 ghost use Rattle.cover_records.specs.LoaderOutcome.{loaderOutcome};
+ghost use Rattle.cover_records.specs.ForwardOutcome.{forwardOutcome};
 ghost use Rattle.job_record.specs.MapAnswers as map;
 ghost use Rattle.job_judge.specs.MarkAnswers as mark;
 ghost use Rattle.captures.specs.AlignOutcome.{alignOutcome};
@@ -83,6 +85,27 @@ pub extern "C" fn kamfelu_map_loader(
     ensures loader { λ _. ⌜ now (loader .exit) ≡ loaderOutcome long (now (net .entry)) k target (now (cover .entry)) (now (scratch .entry)) (now (loader .entry)) .loader ⌝ }
 {
     let answer = map_loader(net, k, target, cover, scratch, loader);
+    map_code(answer)
+}
+
+// Map in forward mode, with a loader area, which gets the image, and a contents area, which gets the first contents; of length 0 an area is not lent.
+#[no_mangle]
+pub extern "C" fn kamfelu_map_forward(
+    net: &[u8],
+    k: u32,
+    target: u32,
+    cover: &mut [u8],
+    scratch: &mut [u8],
+    loader: &mut [u8],
+    contents: &mut [u8],
+) -> i64
+    ensures answer { λ r. ⌜ r ≡ coded (forwardOutcome long (now (net .entry)) k target (now (cover .entry)) (now (scratch .entry)) (now (loader .entry)) (now (contents .entry)) .answer) ⌝ }
+    ensures area { λ _. ⌜ now (cover .exit) ≡ forwardOutcome long (now (net .entry)) k target (now (cover .entry)) (now (scratch .entry)) (now (loader .entry)) (now (contents .entry)) .area ⌝ }
+    ensures scratch { λ _. ⌜ now (scratch .exit) ≡ forwardOutcome long (now (net .entry)) k target (now (cover .entry)) (now (scratch .entry)) (now (loader .entry)) (now (contents .entry)) .scratch ⌝ }
+    ensures loader { λ _. ⌜ now (loader .exit) ≡ forwardOutcome long (now (net .entry)) k target (now (cover .entry)) (now (scratch .entry)) (now (loader .entry)) (now (contents .entry)) .loader ⌝ }
+    ensures contents { λ _. ⌜ now (contents .exit) ≡ forwardOutcome long (now (net .entry)) k target (now (cover .entry)) (now (scratch .entry)) (now (loader .entry)) (now (contents .entry)) .contents ⌝ }
+{
+    let answer = map_forward(net, k, target, cover, scratch, loader, contents);
     map_code(answer)
 }
 

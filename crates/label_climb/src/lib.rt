@@ -1,8 +1,8 @@
 // Labels that climb for ever: a trial raises those that rose of late by far; where each rises further and a ceiling is passed, the target is not reachable.
 use cut_circuit::Extent;
+use label_aim::Aim;
 use label_pass::sweep;
 use label_pass::sweep_some;
-use label_aim::Aim;
 use label_visit::top_of;
 use limits::NODES;
 use signed::no_higher;

@@ -1,7 +1,7 @@
 // The labels at the start: a floor for each gate, 1 − φ times the registers on a path from an input that goes along the order.
 use cut_circuit::Extent;
-use label_pass::nth;
 use label_aim::Aim;
+use label_pass::nth;
 use label_visit::higher;
 use label_visit::highest;
 use label_visit::raise;

@@ -1,11 +1,11 @@
 // The label sweep: labels raised from below, sweep after sweep, until nothing can change or a label would pass its ceiling.
 use cut_circuit::Extent;
+use label_aim::Aim;
 use label_climb::next_width;
 use label_climb::round;
 use label_pins::pin_height;
 use label_start::floors;
 use label_visit::higher;
-use label_aim::Aim;
 use limits::PINS;
 use signed::whole;
 ghost use mathlib.Core.Path.{_≡_};

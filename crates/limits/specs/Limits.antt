@@ -38,6 +38,10 @@ scratchArea = 65536
 abbrev pub loaderArea : ℕ
 loaderArea = 256
 
+-- document 02, E6: "3, a lent contents area is under 20,592 bytes"
+abbrev pub contentsArea : ℕ
+contentsArea = 20592
+
 -- document 02, E8: "nets of at most 8 gates and k at most 4"
 abbrev pub shortGates : ℕ
 shortGates = 8

@@ -3,7 +3,7 @@
 ghost use mathlib.Core.Path.{_≡_};
 ghost use Prim.Native.Nat.{_≤_};
 ghost use Rattle.limits.specs.Courses.{long, short};
-ghost use Rattle.limits.specs.Limits.{mostInputs, mostGates, mostOutputs, leastK, mostK, mostCount, mostPeriod, mostLuts, coverArea, scratchArea, loaderArea, shortGates, shortK, mostPins, mostItems, mostNodes, mostPlaces, mostRows, mostCopies, mostReach, mostBeyond, mostTable, mostList, mostStack, mostHeld, mostPacked, textRoom, refusalRoom, lineRoom, inputRoom, mostSteps, benchInput, benchRoom};
+ghost use Rattle.limits.specs.Limits.{mostInputs, mostGates, mostOutputs, leastK, mostK, mostCount, mostPeriod, mostLuts, coverArea, scratchArea, loaderArea, contentsArea, shortGates, shortK, mostPins, mostItems, mostNodes, mostPlaces, mostRows, mostCopies, mostReach, mostBeyond, mostTable, mostList, mostStack, mostHeld, mostPacked, textRoom, refusalRoom, lineRoom, inputRoom, mostSteps, benchInput, benchRoom};
 
 pub const INPUTS: usize = 16;
 
@@ -26,6 +26,8 @@ pub const AREA: usize = 962;
 pub const SCRATCH: usize = 65536;
 
 pub const LOADER: usize = 256;
+
+pub const CONTENTS: usize = 20592;
 
 pub const SHORT_GATES: usize = 8;
 
@@ -97,6 +99,7 @@ pub struct Limits {
     pub area: usize,
     pub scratch: usize,
     pub loader: usize,
+    pub contents: usize,
     pub short_gates: usize,
     pub short_k: u32,
     pub pins: usize,
@@ -135,6 +138,7 @@ pub fn agree() -> Limits
     ensures area { λ r. ⌜ r .area ≡ coverArea ⌝ }
     ensures scratch { λ r. ⌜ r .scratch ≡ scratchArea ⌝ }
     ensures loader { λ r. ⌜ r .loader ≡ loaderArea ⌝ }
+    ensures contents { λ r. ⌜ r .contents ≡ contentsArea ⌝ }
     ensures short_gates { λ r. ⌜ r .«short_gates» ≡ shortGates ⌝ }
     ensures short_k { λ r. ⌜ r .«short_k» ≡ shortK ⌝ }
     ensures pins { λ r. ⌜ r .pins ≡ mostPins ⌝ }
@@ -171,6 +175,7 @@ pub fn agree() -> Limits
         area: AREA,
         scratch: SCRATCH,
         loader: LOADER,
+        contents: CONTENTS,
         short_gates: SHORT_GATES,
         short_k: SHORT_K,
         pins: PINS,

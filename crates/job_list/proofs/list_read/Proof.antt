@@ -53,10 +53,10 @@ returns : tie.Need-returns
 returns c = lists-refused (c .before .before .before .before .before .before .before .before .before .before .before .before .before .settle .ensures .0) (c .before .before .before .before .if1 .taken) (c .before .before .write-refusal .ensures)
 
 outs-at-requires : tie.Need-outs-at-requires
-outs-at-requires c κs = omega (arith, c .before .before .before .before .before .before .before .before .before .before .before .before .before .before .before .before .before .before .before .before .before .pre .settling .room .packed, c .before .before .before .before .before .before .before .before .before .before .settle .ensures .1 .long)
+outs-at-requires c κs = omega (arith, c .before .before .before .before .before .before .before .before .before .before .before .before .before .before .before .before .before .before .before .before .before .pre .settling .room .packed, c .before .before .before .before .before .before .before .before .before .before .settle .ensures .1 .kept .long)
 
 delays-at-requires : tie.Need-delays-at-requires
-delays-at-requires c κs = omega (arith, c .before .before .before .before .before .before .before .before .before .before .before .before .before .before .before .before .before .before .before .before .before .before .pre .settling .room .packed, c .before .before .before .before .before .before .before .before .before .before .before .settle .ensures .1 .long)
+delays-at-requires c κs = omega (arith, c .before .before .before .before .before .before .before .before .before .before .before .before .before .before .before .before .before .before .before .before .before .before .pre .settling .room .packed, c .before .before .before .before .before .before .before .before .before .before .before .settle .ensures .1 .kept .long)
 
 slice-aggregate-write-text : tie.Need-slice-aggregate-write-text
 slice-aggregate-write-text c = search needs
@@ -70,17 +70,17 @@ slice-aggregate-write-text-3 c = search needs
 mul-write-text : tie.Need-mul-write-text
 mul-write-text c =
     let start = c .before .before .before .before .before .before .before .before .before .before .before .before .before .before .before .before .before .before .before .before .before .before .before .before .before .before in
-    omega (arith, start .pre .settling .room .packed, c .before .before .before .before .before .before .before .before .before .before .before .before .before .before .before .settle .ensures .1 .long, start .good, c .before .before .before .before .outs-at .ensures, c .before .before .before .delays-at .ensures)
+    omega (arith, start .pre .settling .room .packed, c .before .before .before .before .before .before .before .before .before .before .before .before .before .before .before .settle .ensures .1 .kept .long, start .good, c .before .before .before .before .outs-at .ensures, c .before .before .before .delays-at .ensures)
 
 sub-write-text : tie.Need-sub-write-text
 sub-write-text c =
     let start = c .before .before .before .before .before .before .before .before .before .before .before .before .before .before .before .before .before .before .before .before .before .before .before .before .before .before in
-    omega (arith, start .pre .settling .room .packed, c .before .before .before .before .before .before .before .before .before .before .before .before .before .before .before .settle .ensures .1 .long, start .good, c .before .before .before .before .outs-at .ensures, c .before .before .before .delays-at .ensures)
+    omega (arith, start .pre .settling .room .packed, c .before .before .before .before .before .before .before .before .before .before .before .before .before .before .before .settle .ensures .1 .kept .long, start .good, c .before .before .before .before .outs-at .ensures, c .before .before .before .delays-at .ensures)
 
 part-write-text-start : tie.Need-part-write-text-start
 part-write-text-start c =
     let start = c .before .before .before .before .before .before .before .before .before .before .before .before .before .before .before .before .before .before .before .before .before .before .before .before .before .before in
-    omega (arith, start .pre .settling .room .packed, c .before .before .before .before .before .before .before .before .before .before .before .before .before .before .before .settle .ensures .1 .long, start .good, c .before .before .before .before .outs-at .ensures, c .before .before .before .delays-at .ensures)
+    omega (arith, start .pre .settling .room .packed, c .before .before .before .before .before .before .before .before .before .before .before .before .before .before .before .settle .ensures .1 .kept .long, start .good, c .before .before .before .before .outs-at .ensures, c .before .before .before .delays-at .ensures)
 
 part-write-text-end : tie.Need-part-write-text-end
 part-write-text-end c = search needs
@@ -88,17 +88,17 @@ part-write-text-end c = search needs
 mul-write-text-2 : tie.Need-mul-write-text-2
 mul-write-text-2 c =
     let start = c .before .before .before .before .before .before .before .before .before .before .before .before .before .before .before .before .before .before .before .before .before .before .before .before .before .before .before in
-    omega (arith, start .pre .settling .room .packed, c .before .before .before .before .before .before .before .before .before .before .before .before .before .before .before .before .settle .ensures .1 .long, start .good, c .before .before .before .before .before .outs-at .ensures, c .before .before .before .before .delays-at .ensures)
+    omega (arith, start .pre .settling .room .packed, c .before .before .before .before .before .before .before .before .before .before .before .before .before .before .before .before .settle .ensures .1 .kept .long, start .good, c .before .before .before .before .before .outs-at .ensures, c .before .before .before .before .delays-at .ensures)
 
 sub-write-text-2 : tie.Need-sub-write-text-2
 sub-write-text-2 c =
     let start = c .before .before .before .before .before .before .before .before .before .before .before .before .before .before .before .before .before .before .before .before .before .before .before .before .before .before .before in
-    omega (arith, start .pre .settling .room .packed, c .before .before .before .before .before .before .before .before .before .before .before .before .before .before .before .before .settle .ensures .1 .long, start .good, c .before .before .before .before .before .outs-at .ensures, c .before .before .before .before .delays-at .ensures)
+    omega (arith, start .pre .settling .room .packed, c .before .before .before .before .before .before .before .before .before .before .before .before .before .before .before .before .settle .ensures .1 .kept .long, start .good, c .before .before .before .before .before .outs-at .ensures, c .before .before .before .before .delays-at .ensures)
 
 part-write-text-start-2 : tie.Need-part-write-text-start-2
 part-write-text-start-2 c =
     let start = c .before .before .before .before .before .before .before .before .before .before .before .before .before .before .before .before .before .before .before .before .before .before .before .before .before .before .before in
-    omega (arith, start .pre .settling .room .packed, c .before .before .before .before .before .before .before .before .before .before .before .before .before .before .before .before .settle .ensures .1 .long, start .good, c .before .before .before .before .before .outs-at .ensures, c .before .before .before .before .delays-at .ensures)
+    omega (arith, start .pre .settling .room .packed, c .before .before .before .before .before .before .before .before .before .before .before .before .before .before .before .before .settle .ensures .1 .kept .long, start .good, c .before .before .before .before .before .outs-at .ensures, c .before .before .before .before .delays-at .ensures)
 
 part-write-text-end-2 : tie.Need-part-write-text-end-2
 part-write-text-end-2 c = search needs
@@ -115,7 +115,7 @@ write-text-requires c κs =
       rw (c .before .before .before .before .before .before .before .outs-at .ensures, c .before .before .before .before .before .before .delays-at .ensures)
           (two-parts (λ (os oc : List ℕ). Listable (keptIn (z .inputs) (z .gates) (settle .result .period) (last .0) (last .1 .0) (last .1 .1 .0)) os oc (z .outputs) (start .args .out .now))
           (settle .last .1 .0) (outsAt (z .inputs) (z .gates)) (delaysAt (z .inputs) (z .gates) (z .outputs))
-          (cover-listable (start .pre .settling) (settle .ensures .1) (start .pre .room) refl refl (rows-long h (k .0) (k .1 .0) (k .1 .1 .0)) u)),
+          (cover-listable (start .pre .settling) (settle .ensures .1 .kept) (start .pre .room) refl refl (rows-long h (k .0) (k .1 .0) (k .1 .1 .0)) u)),
       omega (arith, h, k .1 .0),
     )
 
@@ -132,7 +132,7 @@ returns-2 c =
     let z = start .args .z in
     let last = settle .last .1 .1 .1 .1 .1 .1 .1 in
     let text = c .before .before .write-text in
-    lists-cover (start .pre .settling) (settle .ensures .1) (cover-settled (settle .ensures .0) (omega (arith, c .before .before .before .before .before .before .before .before .before .before .before .before .if1 .left)))
+    lists-cover (start .pre .settling) (settle .ensures .1 .kept) (cover-settled (settle .ensures .0) (omega (arith, c .before .before .before .before .before .before .before .before .before .before .before .before .if1 .left)))
     (two-wholes (λ (os oc : List ℕ). Lists (keptIn (z .inputs) (z .gates) (settle .result .period) (last .0) (last .1 .0) (last .1 .1 .0)) os oc (z .outputs) (start .args .out .now) (text .last .1 .1 .1 .1 .1 .1 .1 .0) (text .result))
     (settle .last .1 .0) (outsAt (z .inputs) (z .gates)) (delaysAt (z .inputs) (z .gates) (z .outputs)) (rw (c .before .before .before .before .before .before .before .before .before .before .outs-at .ensures, c .before .before .before .before .before .before .before .before .before .delays-at .ensures) at (text .ensures)))
 

@@ -4,8 +4,7 @@ use mathlib.Core.Path.{sym, _∙_}
 use native.Mathlib.Omega.{arith}
 use lib.ListN.{length, drop, length-append}
 use lib.Seq.{length-take-le}
-use Rattle.limits.specs.Limits.{loaderArea}
-use Rattle.cover_records.specs.ForwardOutcome.{contentsArea}
+use Rattle.limits.specs.Limits.{contentsArea, loaderArea}
 use Rattle.label_aim.specs.Aims.{modeOf}
 use Rattle.job_sizes.specs.SizeLaws.{fit, sizes-small, zero-of, told-short, told-fits}
 use Rattle.job_map.specs.MapSizing.{map-sizes, map-contents, map-short, map-rest}
@@ -83,8 +82,7 @@ map-bytes-requires c κs =
     let f = fit (a .rules) (a .k) (a .target) (length (now (a .area))) (length (now (a .scratch))) z in
     let e = length-take-le (a .rules .scratch) (now (a .scratch)) (f .space) in
     let y = zero-of (c .before .before .before .before .before .before .before .before .check-lent .ensures) (omega (arith, c .before .before .before .before .before .if2 .left)) in
-    let x = zero-of (c .before .before .before .before .before .before .before .check-lent2 .ensures) (omega (arith, c .before .before .before .before .if3 .left)) in
-    (
+    let x = zero-of (c .before .before .before .before .before .before .before .check-lent2 .ensures) (omega (arith, c .before .before .before .before .if3 .left)) in (
       c .before .before .before .before .before .before .before .before .before .before .before .before .before .before .before .pre .0,
       (
         record { low = f .low; high = f .high; near = f .near; room = f .room; space = omega arith },

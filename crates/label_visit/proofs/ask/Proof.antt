@@ -54,8 +54,7 @@ returns-2 : tie.Need-returns-2
 returns-2 c =
     let start = c .before .before .before .before .before .before .before .before .before .before .before .before .before .before .before .before .before .before .before .before .before .before .before .before .before .before .before .before .before in
     let narrowed = c .before .before .before .before .before .before .before .before .before .before .before .before .before .before .before .before .before .before .before .narrowed in
-    let question = c .before .before .before .before .before .before .before .before .before .before .before .before .question in
-    (
+    let question = c .before .before .before .before .before .before .before .before .before .before .before .before .question in (
       rest-from (narrowed .ensures) (start .pre .0) (question .ensures .0),
       answered-at (back (start .args .p) (start .fits .p)) (answered (narrowed .ensures) (c .before .before .before .before .before .before .before .before .before .before .before .before .before .before .before .before .before .before .before .before .before .too-high .ensures .1 (c .before .before .before .before .before .before .before .before .before .before .before .before .before .before .before .before .before .before .before .before .if1 .left)) (question .ensures .1)),
     )
