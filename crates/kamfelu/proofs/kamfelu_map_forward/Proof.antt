@@ -11,7 +11,7 @@ map-forward-requires : tie.Need-map-forward-requires
 map-forward-requires c κs = search needs
 
 map-code-requires : tie.Need-map-code-requires
-map-code-requires c κs = c .before .before .before .before .before .before .before .map-forward .ensures .1
+map-code-requires c κs = c .before .before .before .before .before .before .before .before .map-forward .ensures .1
 
 same-length : tie.Need-same-length
 same-length c = search needs
@@ -27,7 +27,7 @@ same-length-4 c = search needs
 
 returns : tie.Need-returns
 returns c =
-    let e = c .before .before .before .before .before .before .before .before .map-forward .ensures .0 in (
+    let e = c .before .before .before .before .before .before .before .before .before .map-forward .ensures .0 in (
       coded-as (ap (λ (o : ForwardOutcome). o .answer) e) (back (c .map-code .result) (record { sfits = c .map-code .ok }) ∙ c .map-code .ensures),
       (
         sym (ap (λ (o : ForwardOutcome). o .area) e),
