@@ -6,16 +6,18 @@ use Prim.Native.Nat.{ℕ, zero, suc, _+_, _-_, _*_, _≤_, _<_}
 use native.Mathlib.Nat.{not-suc-le-zero, suc-mul}
 use native.Mathlib.Decide.{ℕ-discrete}
 use native.Mathlib.Omega.{arith}
-use lib.ListN.{length, getD, set, length-set}
+use lib.ListN.{length, getD, set, drop, length-set}
 use lib.Seq.{getD-set-same, getD-set-other}
 use Rattle.sequences.specs.Member.{_∈_}
 use Rattle.net_model.specs.Arrays.{stride, copyAt}
 use Rattle.net_model.specs.Copies.{Copy, copy}
+use Rattle.net_model.specs.PackedNet.{sourcesAt, countsAt}
 use Rattle.cone_copies.specs.CopyLists.{copiesIn}
 use Rattle.cone_copies.specs.CopyListLaws.{length-copiesIn, getD-copiesIn, missing}
 use Rattle.sequences.specs.Tests.{First}
 use Rattle.cone_descent.specs.Descent.{nobody, place, Inside, Field, pinOf, pinsOf, Known, State, Wiped, seatMark}
 use Rattle.cone_descent.specs.TrailLaws.{place-below, marked-met, copyAt-other}
+use Rattle.cone_descent.specs.PinRead.{source-inside, count-inside, source-read}
 use Rattle.cone_descent.specs.DescentLaws.{inside-gate, state-turn, state-touch, state-push, push-known, state-pop}
 use Rattle.cone_descent.specs.DescentEnds.{denied-input, denied-beyond, denied-full}
 use Rattle.cone_descent.specs.DescentSteps.{Meet, Leaves, TopPin, rest, work, Advanced, Advances, Turn, Ran}
@@ -87,9 +89,33 @@ module _ (I border room size : ℕ) (ln lb : List ℕ) (n : ℕ) (y : Copy) (mar
 
 -- ---- a pin passed
 
-module _ (I width border room : ℕ) (so co : List ℕ) (L : List Copy) (len : ℕ) (hs bs ts : List ℕ) (d : ℕ) (marks seen seen′ : List ℕ) (r : ℕ) (t : TopPin I width room len so co hs bs ts d marks)
+-- the pin in the net's slice
+module _ (G : ℕ) (net : List ℕ) {I width room len : ℕ} {hs bs ts : List ℕ} {d : ℕ} {marks : List ℕ}
+    (t : TopPin I width room len (drop (sourcesAt G) net) (drop (countsAt G) net) hs bs ts d marks) where
+  abbrev at : ℕ
+  at = stride * (getD hs d 0 - I) + getD ts d 0
+
+  abbrev source : Copy
+  source = copy (getD net (sourcesAt G + at) 0) (getD bs d 0 + getD net (countsAt G + at) 0)
+
+  pub pin-source : sourcesAt G + at < length net
+  pin-source = source-inside G net (t .source)
+
+  pub pin-count : countsAt G + at < length net
+  pin-count = count-inside G net (t .count)
+
+  pub pin-read : source ≡ pinOf I (drop (sourcesAt G) net) (drop (countsAt G) net) (copyAt hs bs d) (getD ts d 0)
+  pin-read = source-read G net (getD hs d 0 - I) (getD bs d 0) (getD ts d 0)
+
+  pub pin-table : place width source < length marks
+  pin-table = subst (λ (y : Copy). place width y < length marks) (sym pin-read) (t .table)
+
+pub leaves-long : {ln lb : List ℕ} {n : ℕ} {seen : List ℕ} → Leaves ln lb n seen → length (copiesIn ln lb n) ≤ length seen
+leaves-long {ln} {lb} {n} l = omega (arith, l .touched, length-copiesIn ln lb n)
+
+module _ {I width border room : ℕ} {so co : List ℕ} {L : List Copy} {len : ℕ} {hs bs ts : List ℕ} {d : ℕ} {marks seen seen′ : List ℕ} {r : ℕ} (t : TopPin I width room len so co hs bs ts d marks)
     (long : length L ≤ length seen)
-    (y : Copy) (this : y ≡ pinOf I so co (copyAt hs bs d) (getD ts d 0)) (m : Meet I border room (len + (d + 1)) L y (getD marks (place width y) 0) seen r seen′) where
+    {y : Copy} (this : y ≡ pinOf I so co (copyAt hs bs d) (getD ts d 0)) (m : Meet I border room (len + (d + 1)) L y (getD marks (place width y) 0) seen r seen′) where
   module _ (G v : ℕ) (ps us ds : List ℕ) (field : Field I G width border ps so co marks) (limit : length L * G ≤ room) (few : getD ts d 0 < pinsOf I ps (copyAt hs bs d)) (s : State I G width
       border ps so co L v us ds len hs bs ts (d + 1) marks seen) where
     top-met : copyAt hs bs d ∈ s .met

@@ -3,6 +3,7 @@ pub mod TrailLaws
 pub mod DescentLaws
 pub mod DescentEnds
 pub mod DescentSteps
+pub mod PinRead
 pub mod DescentStepLaws
 pub mod DescentTold
 pub mod Owner

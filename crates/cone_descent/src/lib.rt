@@ -11,10 +11,11 @@ use limits::PINS;
 use limits::REACH;
 ghost use mathlib.Core.Path.{_≡_};
 ghost use Prim.Native.Nat.{ℕ, _+_, _≤_, _<_};
-ghost use lib.ListN.{length, getD, set};
+ghost use lib.ListN.{length, getD, set, drop};
 ghost use Rattle.sequences.specs.Tests.{First};
 ghost use Rattle.net_model.specs.Arrays.{copyAt};
 ghost use Rattle.net_model.specs.Copies.{copy, Rising};
+ghost use Rattle.net_model.specs.PackedNet.{sourcesAt, countsAt};
 ghost use Rattle.limits.specs.Limits.{mostPins, mostTable};
 ghost use Rattle.cone_copies.specs.CopyLists.{copiesIn, SmallWires};
 ghost use Rattle.cone_walk.specs.WalkTold.{Walk};
@@ -24,6 +25,17 @@ ghost use Rattle.cone_descent.specs.DescentSteps.{Meet, Leaves, TopPin, 
 
 // Marks of listed copies: a place modulo ROUND, and 2.
 const ROUND: usize = 254;
+
+// A question: are the leaves a cut of the gate? The table has width places for a node, no copy with d above the border is opened, and there is room for so many copies.
+pub struct CutQuery {
+    pub inputs: usize,
+    pub gates: usize,
+    pub width: usize,
+    pub border: usize,
+    pub room: usize,
+    pub leaves: usize,
+    pub gate: usize,
+}
 
 // The copy is put on the stack, no pin passed, and marked as open.
 fn push(
@@ -65,37 +77,34 @@ fn leave(
 
 // One copy met by a pin, with its place in the table: 0 for no cut, 1 for a leaf or a copy met before, 2 for a new copy.
 fn meet(
-    inputs: usize,
+    q: CutQuery,
     leaf_nodes: &[usize],
     leaf_backs: &[usize],
-    n: usize,
     seen: &mut [usize],
-    border: usize,
     marks: &[u8],
     at: usize,
-    room: usize,
     size: usize,
     node: usize,
     back: usize,
 ) -> usize
-    requires { ⌜ Leaves (now «leaf_nodes») (now «leaf_backs») n (now seen) × (at < length (now marks)) ⌝ }
-    ensures { λ r. ⌜ Meet inputs border room size (copiesIn (now («leaf_nodes» .entry)) (now («leaf_backs» .entry)) n) (copy node back) (getD (now (marks .entry)) at 0) (now (seen .entry)) r (now (seen .exit)) ⌝ }
+    requires { ⌜ Leaves (now «leaf_nodes») (now «leaf_backs») (q .leaves) (now seen) × (at < length (now marks)) ⌝ }
+    ensures { λ r. ⌜ Meet (q .inputs) (q .border) (q .room) size (copiesIn (now («leaf_nodes» .entry)) (now («leaf_backs» .entry)) (q .leaves)) (copy node back) (getD (now (marks .entry)) at 0) (now (seen .entry)) r (now (seen .exit)) ⌝ }
 {
-    let leaf = seek(leaf_nodes, leaf_backs, n, node, back);
-    if leaf < n {
+    let leaf = seek(leaf_nodes, leaf_backs, q.leaves, node, back);
+    if leaf < q.leaves {
         seen[leaf] = 1;
         return 1;
     }
-    if node < inputs {
+    if node < q.inputs {
         return 0;
     }
-    if border < back {
+    if q.border < back {
         return 0;
     }
     if marks[at] != 0 {
         return 1;
     }
-    if room <= size {
+    if q.room <= size {
         return 0;
     }
     2
@@ -103,16 +112,11 @@ fn meet(
 
 // One pin more of the copy at place top, the last of the stack. The result is the new depth, or 0 for no cut.
 fn advance(
-    inputs: usize,
-    sources: &[usize],
-    counts: &[usize],
+    q: CutQuery,
+    net: &[usize],
     leaf_nodes: &[usize],
     leaf_backs: &[usize],
-    n: usize,
     seen: &mut [usize],
-    border: usize,
-    width: usize,
-    room: usize,
     len: usize,
     stack_nodes: &mut [usize],
     stack_backs: &mut [usize],
@@ -120,26 +124,23 @@ fn advance(
     top: usize,
     marks: &mut [u8],
 ) -> usize
-    requires { ⌜ Leaves (now «leaf_nodes») (now «leaf_backs») n (now seen) × TopPin inputs width room len (now sources) (now counts) (now «stack_nodes») (now «stack_backs») (now turns) top (now marks) ⌝ }
-    ensures { λ r. ⌜ Advances inputs width border room (now (sources .entry)) (now (counts .entry)) (copiesIn (now («leaf_nodes» .entry)) (now («leaf_backs» .entry)) n) len (now («stack_nodes» .entry)) (now («stack_backs» .entry)) (now (turns .entry)) top (now (marks .entry)) (now (seen .entry)) r (now («stack_nodes» .exit)) (now («stack_backs» .exit)) (now (turns .exit)) (now (marks .exit)) (now (seen .exit)) ⌝ }
+    requires { ⌜ Leaves (now «leaf_nodes») (now «leaf_backs») (q .leaves) (now seen) × TopPin (q .inputs) (q .width) (q .room) len (drop (sourcesAt (q .gates)) (now net)) (drop (countsAt (q .gates)) (now net)) (now «stack_nodes») (now «stack_backs») (now turns) top (now marks) ⌝ }
+    ensures { λ r. ⌜ Advances (q .inputs) (q .width) (q .border) (q .room) (drop (sourcesAt (q .gates)) (now (net .entry))) (drop (countsAt (q .gates)) (now (net .entry))) (copiesIn (now («leaf_nodes» .entry)) (now («leaf_backs» .entry)) (q .leaves)) len (now («stack_nodes» .entry)) (now («stack_backs» .entry)) (now (turns .entry)) top (now (marks .entry)) (now (seen .entry)) r (now («stack_nodes» .exit)) (now («stack_backs» .exit)) (now (turns .exit)) (now (marks .exit)) (now (seen .exit)) ⌝ }
 {
     let j = turns[top];
     let next = j + 1;
-    let pin = PINS * (stack_nodes[top] - inputs) + j;
-    let node = sources[pin];
-    let back = stack_backs[top] + counts[pin];
-    let at = node * width + back;
+    let pin = PINS * (stack_nodes[top] - q.inputs) + j;
+    let node = net[2 * q.gates + pin];
+    let back = stack_backs[top] + net[(2 + PINS) * q.gates + pin];
+    let at = node * q.width + back;
     let depth = top + 1;
     let r = meet(
-        inputs,
+        q,
         leaf_nodes,
         leaf_backs,
-        n,
         seen,
-        border,
         marks,
         at,
-        room,
         len + depth,
         node,
         back,
@@ -173,19 +174,11 @@ struct Pace {
 
 // The walk from a stack with the root alone.
 fn run(
-    inputs: usize,
-    gates: usize,
-    pins: &[usize],
-    sources: &[usize],
-    counts: &[usize],
+    q: CutQuery,
+    net: &[usize],
     leaf_nodes: &[usize],
     leaf_backs: &[usize],
-    n: usize,
     seen: &mut [usize],
-    border: usize,
-    width: usize,
-    root: usize,
-    room: usize,
     nodes: &mut [usize],
     backs: &mut [usize],
     stack_nodes: &mut [usize],
@@ -193,26 +186,21 @@ fn run(
     turns: &mut [usize],
     marks: &mut [u8],
 ) -> Pace
-    requires { ⌜ Turn inputs gates width border room (now pins) (now sources) (now counts) (now «leaf_nodes») (now «leaf_backs») n root (now nodes) (now backs) 0 (now «stack_nodes») (now «stack_backs») (now turns) 1 (now seen) (now marks) ⌝ }
-    ensures { λ r. ⌜ Ran inputs gates width border room (now (pins .entry)) (now (sources .entry)) (now (counts .entry)) (now («leaf_nodes» .entry)) (now («leaf_backs» .entry)) n root (now (nodes .exit)) (now (backs .exit)) (r .len) (now («stack_nodes» .exit)) (now («stack_backs» .exit)) (now (turns .exit)) (r .depth) (now (seen .exit)) (now (marks .exit)) ⌝ }
+    requires { ⌜ Turn (q .inputs) (q .gates) (q .width) (q .border) (q .room) (now net) (drop (sourcesAt (q .gates)) (now net)) (drop (countsAt (q .gates)) (now net)) (now «leaf_nodes») (now «leaf_backs») (q .leaves) (q .inputs + q .gate) (now nodes) (now backs) 0 (now «stack_nodes») (now «stack_backs») (now turns) 1 (now seen) (now marks) ⌝ }
+    ensures { λ r. ⌜ Ran (q .inputs) (q .gates) (q .width) (q .border) (q .room) (now (net .entry)) (drop (sourcesAt (q .gates)) (now (net .entry))) (drop (countsAt (q .gates)) (now (net .entry))) (now («leaf_nodes» .entry)) (now («leaf_backs» .entry)) (q .leaves) (q .inputs + q .gate) (now (nodes .exit)) (now (backs .exit)) (r .len) (now («stack_nodes» .exit)) (now («stack_backs» .exit)) (now (turns .exit)) (r .depth) (now (seen .exit)) (now (marks .exit)) ⌝ }
 {
     let mut len = 0;
     let mut depth = 1;
     while 0 < depth {
         let top = depth - 1;
         let node = stack_nodes[top];
-        if turns[top] < pins[node - inputs] {
+        if turns[top] < net[node - q.inputs] {
             let r = advance(
-                inputs,
-                sources,
-                counts,
+                q,
+                net,
                 leaf_nodes,
                 leaf_backs,
-                n,
                 seen,
-                border,
-                width,
-                room,
                 len,
                 stack_nodes,
                 stack_backs,
@@ -229,7 +217,7 @@ fn run(
             depth = r;
         } else {
             let back = stack_backs[top];
-            leave(nodes, backs, len, marks, node * width + back, node, back);
+            leave(nodes, backs, len, marks, node * q.width + back, node, back);
             len += 1;
             depth = top;
         }
@@ -264,21 +252,13 @@ fn untouched(seen: &[usize], n: usize) -> usize
     n
 }
 
-// The walk from gate g back to the n leaves, over lent arrays of any length: the length of the list, or 0 for no cut. Marks stay where there is a cut: those of the listed copies.
+// The walk from the gate back to the leaves, over lent arrays of any length: the length of the list, or 0 for no cut. Marks stay where there is a cut: those of the listed copies.
 pub fn descend(
-    inputs: usize,
-    gates: usize,
-    pins: &[usize],
-    sources: &[usize],
-    counts: &[usize],
+    q: CutQuery,
+    net: &[usize],
     leaf_nodes: &[usize],
     leaf_backs: &[usize],
-    n: usize,
     seen: &mut [usize],
-    border: usize,
-    width: usize,
-    g: usize,
-    room: usize,
     nodes: &mut [usize],
     backs: &mut [usize],
     stack_nodes: &mut [usize],
@@ -286,12 +266,12 @@ pub fn descend(
     turns: &mut [usize],
     marks: &mut [u8],
 ) -> usize
-    requires { ⌜ Asked inputs gates width border room (now pins) (now sources) (now counts) (now «leaf_nodes») (now «leaf_backs») n g (now nodes) (now backs) (now «stack_nodes») (now «stack_backs») (now turns) (now seen) (now marks) ⌝ }
-    ensures { λ r. ⌜ descent.Told inputs gates width border (now (pins .entry)) (now (sources .entry)) (now (counts .entry)) (copiesIn (now («leaf_nodes» .entry)) (now («leaf_backs» .entry)) n) (inputs + g) r (now (nodes .exit)) (now (backs .exit)) (now (marks .exit)) ⌝ }
+    requires { ⌜ Asked (q .inputs) (q .gates) (q .width) (q .border) (q .room) (now net) (drop (sourcesAt (q .gates)) (now net)) (drop (countsAt (q .gates)) (now net)) (now «leaf_nodes») (now «leaf_backs») (q .leaves) (q .gate) (now nodes) (now backs) (now «stack_nodes») (now «stack_backs») (now turns) (now seen) (now marks) ⌝ }
+    ensures { λ r. ⌜ descent.Told (q .inputs) (q .gates) (q .width) (q .border) (now (net .entry)) (drop (sourcesAt (q .gates)) (now (net .entry))) (drop (countsAt (q .gates)) (now (net .entry))) (copiesIn (now («leaf_nodes» .entry)) (now («leaf_backs» .entry)) (q .leaves)) (q .inputs + q .gate) r (now (nodes .exit)) (now (backs .exit)) (now (marks .exit)) ⌝ }
 {
-    let root = inputs + g;
-    let leaf = seek(leaf_nodes, leaf_backs, n, root, 0);
-    if leaf < n {
+    let root = q.inputs + q.gate;
+    let leaf = seek(leaf_nodes, leaf_backs, q.leaves, root, 0);
+    if leaf < q.leaves {
         return 0;
     }
     push(
@@ -300,24 +280,16 @@ pub fn descend(
         turns,
         0,
         marks,
-        root * width,
+        root * q.width,
         root,
         0,
     );
     let end = run(
-        inputs,
-        gates,
-        pins,
-        sources,
-        counts,
+        q,
+        net,
         leaf_nodes,
         leaf_backs,
-        n,
         seen,
-        border,
-        width,
-        root,
-        room,
         nodes,
         backs,
         stack_nodes,
@@ -328,32 +300,30 @@ pub fn descend(
     let len = end.len;
     let depth = end.depth;
     if 0 < depth {
-        clear(nodes, backs, len, width, marks);
-        clear(stack_nodes, stack_backs, depth, width, marks);
+        clear(nodes, backs, len, q.width, marks);
+        clear(stack_nodes, stack_backs, depth, q.width, marks);
         return 0;
     }
-    if untouched(seen, n) < n {
-        clear(nodes, backs, len, width, marks);
+    if untouched(seen, q.leaves) < q.leaves {
+        clear(nodes, backs, len, q.width, marks);
         return 0;
     }
     len
 }
 
-// The walk with document 01's limits: the cone with sources first and the root last, or no cut. Marks stay where there is a cut: those of the cone's copies.
+// The walk from gate g to the n leaves, with document 01's limits: the cone with sources first and the root last, or no cut. Marks stay where there is a cut: those of the cone's copies.
 pub fn walk(
     inputs: usize,
     gates: usize,
-    pins: &[usize],
-    sources: &[usize],
-    counts: &[usize],
+    net: &[usize],
     leaf_nodes: &[usize],
     leaf_backs: &[usize],
     n: usize,
     g: usize,
     marks: &mut [u8],
 ) -> Cone
-    requires { ⌜ SmallWires inputs gates (now pins) (now sources) (now counts) × (n ≤ mostPins) × (n ≤ length (now «leaf_nodes»)) × (n ≤ length (now «leaf_backs»)) × (g < gates) × Rising (copiesIn (now «leaf_nodes») (now «leaf_backs») n) × (mostTable ≤ length (now marks)) × Clear (now marks) ⌝ }
-    ensures { λ r. ⌜ Walk inputs gates (now (pins .entry)) (now (sources .entry)) (now (counts .entry)) (now («leaf_nodes» .entry)) (now («leaf_backs» .entry)) n g r × Placed inputs g r (now (marks .exit)) ⌝ }
+    requires { ⌜ SmallWires inputs gates (now net) (drop (sourcesAt gates) (now net)) (drop (countsAt gates) (now net)) × (n ≤ mostPins) × (n ≤ length (now «leaf_nodes»)) × (n ≤ length (now «leaf_backs»)) × (g < gates) × Rising (copiesIn (now «leaf_nodes») (now «leaf_backs») n) × (mostTable ≤ length (now marks)) × Clear (now marks) ⌝ }
+    ensures { λ r. ⌜ Walk inputs gates (now (net .entry)) (drop (sourcesAt gates) (now (net .entry))) (drop (countsAt gates) (now (net .entry))) (now («leaf_nodes» .entry)) (now («leaf_backs» .entry)) n g r × Placed inputs g r (now (marks .exit)) ⌝ }
 {
     let mut nodes = [0usize; COPIES];
     let mut backs = [0usize; COPIES];
@@ -361,20 +331,22 @@ pub fn walk(
     let mut stack_backs = [0usize; COPIES];
     let mut turns = [0usize; COPIES];
     let mut seen = [0usize; PINS];
+    let width = REACH + BEYOND;
+    let q = CutQuery {
+        inputs: inputs,
+        gates: gates,
+        width: width,
+        border: REACH,
+        room: COPIES,
+        leaves: n,
+        gate: g,
+    };
     let len = descend(
-        inputs,
-        gates,
-        pins,
-        sources,
-        counts,
+        q,
+        net,
         leaf_nodes,
         leaf_backs,
-        n,
         &mut seen,
-        REACH,
-        REACH + BEYOND,
-        g,
-        COPIES,
         &mut nodes,
         &mut backs,
         &mut stack_nodes,

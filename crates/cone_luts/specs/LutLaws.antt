@@ -13,8 +13,6 @@ use Rattle.net_model.specs.Copies.{Copy, copy, Rising}
 use Rattle.net_model.specs.CopyLaws.{copy-path}
 use Rattle.net_model.specs.Arrays.{stride, copyAt, copiesFrom}
 use Rattle.net_model.specs.ArrayLaws.{length-copiesFrom, getD-copiesFrom}
-use Rattle.net_model.specs.PackedNet.{sourcesAt, countsAt}
-use Rattle.net_model.specs.PackedNetLaws.{to-part, from-part}
 use Rattle.cover_records.specs.Rows.{sizesIn, nodesIn, backsIn}
 use Rattle.cone_theory.specs.CopyOrder.{levels}
 use Rattle.cone_theory.specs.Part.{cone-determined}
@@ -102,20 +100,9 @@ module _ (rows : List ℕ) (n i : ℕ) where
   pub row-few : Row (sizesIn n rows) (nodesIn n rows) (backsIn n rows) i → leafCount ≤ stride
   row-few r = let f = r .few in omega (arith, f, getD-drop n rows i 0)
 
-  module _ {I G : ℕ} {ts : List ℕ} (net : List ℕ) {g : ℕ} {r : Tried} where
-    pub tried-row : LutTried I G net (take (length net - sourcesAt G) (drop (sourcesAt G) net)) (take (length net - countsAt G) (drop (countsAt G) net)) ts lentLeaves g r
-        → LutTried I G net (drop (sourcesAt G) net) (drop (countsAt G) net) ts (copiesFrom (nodesIn n rows) (backsIn n rows) (stride * i) (getD (sizesIn n rows) i 0)) g r
-    tried-row t =
-        subst (λ (L : List Copy). LutTried I G net (drop (sourcesAt G) net) (drop (countsAt G) net) ts L g r) row-part
-        (from-part (λ (l : List ℕ). LutTried I G net (drop (sourcesAt G) net) l ts lentLeaves g r) net (countsAt G)
-        (from-part (λ (l : List ℕ). LutTried I G net l (take (length net - countsAt G) (drop (countsAt G) net)) ts lentLeaves g r) net (sourcesAt G) t))
-
--- the wiring in parts of the net's slice
-pub wires-part : {I G : ℕ} (net : List ℕ) → SmallWires I G net (drop (sourcesAt G) net) (drop (countsAt G) net)
-    → SmallWires I G net (take (length net - sourcesAt G) (drop (sourcesAt G) net)) (take (length net - countsAt G) (drop (countsAt G) net))
-wires-part {I} {G} net w =
-    to-part (λ (l : List ℕ). SmallWires I G net l (take (length net - countsAt G) (drop (countsAt G) net))) net (sourcesAt G)
-    (to-part (λ (l : List ℕ). SmallWires I G net (drop (sourcesAt G) net) l) net (countsAt G) w)
+  pub tried-row : {I G : ℕ} {ps so co ts : List ℕ} {g : ℕ} {r : Tried} → LutTried I G ps so co ts lentLeaves g r
+      → LutTried I G ps so co ts (copiesFrom (nodesIn n rows) (backsIn n rows) (stride * i) (getD (sizesIn n rows) i 0)) g r
+  tried-row {I} {G} {ps} {so} {co} {ts} {g} {r} = subst (λ (L : List Copy). LutTried I G ps so co ts L g r) row-part
 
 module _ {I G : ℕ} {ps so co ts marks sizes nodes backs : List ℕ} where
   -- a gate with a mark has its row

@@ -28,9 +28,7 @@ pub struct Tried {
 fn try_lut(
     inputs: usize,
     gates: usize,
-    pins: &[usize],
-    sources: &[usize],
-    counts: &[usize],
+    net: &[usize],
     tables: &[u64],
     leaf_nodes: &[usize],
     leaf_backs: &[usize],
@@ -38,23 +36,12 @@ fn try_lut(
     g: usize,
     work: &mut [u8],
 ) -> Tried
-    requires { ⌜ SmallWires inputs gates (now pins) (now sources) (now counts) × (gates ≤ length (now tables)) × (n ≤ mostPins) × (n ≤ length (now «leaf_nodes»)) × (n ≤ length (now «leaf_backs»)) × (g < gates) × Rising (copiesIn (now «leaf_nodes») (now «leaf_backs») n) ⌝ }
+    requires { ⌜ SmallWires inputs gates (now net) (drop (sourcesAt gates) (now net)) (drop (countsAt gates) (now net)) × (gates ≤ length (now tables)) × (n ≤ mostPins) × (n ≤ length (now «leaf_nodes»)) × (n ≤ length (now «leaf_backs»)) × (g < gates) × Rising (copiesIn (now «leaf_nodes») (now «leaf_backs») n) ⌝ }
     requires { ⌜ (mostTable ≤ length (now work)) × Clear (now work) ⌝ }
-    ensures { λ r. ⌜ LutTried inputs gates (now (pins .entry)) (now (sources .entry)) (now (counts .entry)) (now (tables .entry)) (copiesIn (now («leaf_nodes» .entry)) (now («leaf_backs» .entry)) n) g r ⌝ }
+    ensures { λ r. ⌜ LutTried inputs gates (now (net .entry)) (drop (sourcesAt gates) (now (net .entry))) (drop (countsAt gates) (now (net .entry))) (now (tables .entry)) (copiesIn (now («leaf_nodes» .entry)) (now («leaf_backs» .entry)) n) g r ⌝ }
     ensures { λ _. ⌜ Clear (now (work .exit)) ⌝ }
 {
-    let cone = walk(
-        inputs,
-        gates,
-        pins,
-        sources,
-        counts,
-        leaf_nodes,
-        leaf_backs,
-        n,
-        g,
-        work,
-    );
+    let cone = walk(inputs, gates, net, leaf_nodes, leaf_backs, n, g, work);
     let verdict = cone.verdict;
     if let Told::NoCut = verdict {
         return Tried {
@@ -65,9 +52,7 @@ fn try_lut(
     let t = table(
         inputs,
         gates,
-        pins,
-        sources,
-        counts,
+        net,
         tables,
         leaf_nodes,
         leaf_backs,
@@ -102,20 +87,16 @@ pub fn try_row(
     ensures { λ r. ⌜ LutTried inputs gates (now (net .entry)) (drop (sourcesAt gates) (now (net .entry))) (drop (countsAt gates) (now (net .entry))) (now (tables .entry)) (copiesFrom (nodesIn n (now (rows .entry))) (backsIn n (now (rows .entry))) (stride * i) (getD (sizesIn n (now (rows .entry))) i 0)) g r ⌝ }
     ensures { λ _. ⌜ Clear (now (work .exit)) ⌝ }
 {
-    let a = 2 * gates;
-    let b = (2 + PINS) * gates;
-    let c = 2 * n + PINS * i;
-    let d = (2 + PINS) * n + PINS * i;
+    let a = 2 * n + PINS * i;
+    let b = (2 + PINS) * n + PINS * i;
     let m = rows[n + i];
     try_lut(
         inputs,
         gates,
         net,
-        &net[a..],
-        &net[b..],
         tables,
-        &rows[c..],
-        &rows[d..],
+        &rows[a..],
+        &rows[b..],
         m,
         g,
         work,

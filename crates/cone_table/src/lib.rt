@@ -8,13 +8,22 @@ use limits::PINS;
 use limits::REACH;
 ghost use mathlib.Core.Path.{_≡_};
 ghost use Prim.Native.Nat.{ℕ, _-_, _*_, _≤_, _<_};
-ghost use lib.ListN.{length, getD};
+ghost use lib.ListN.{length, getD, drop};
 ghost use Rattle.limits.specs.Limits.{mostPins, mostNodes, mostTable};
 ghost use Rattle.net_model.specs.Arrays.{copyAt};
 ghost use Rattle.net_model.specs.Copies.{copy, Rising};
+ghost use Rattle.net_model.specs.PackedNet.{sourcesAt, countsAt};
 ghost use Rattle.cone_copies.specs.CopyLists.{copiesIn, members, most, Place, sourceAt};
 ghost use Rattle.cone_descent.specs.Descent.{wideMost, Marked};
 ghost use Rattle.cone_table.specs.ConeWords.{Given, Carries, WordAt, WordsSettled, TableOver};
+
+// How many inputs and gates the net has, how many leaves the cone, and how many copies.
+struct ConeSizes {
+    inputs: usize,
+    gates: usize,
+    leaves: usize,
+    copies: usize,
+}
 
 // The word of a copy: a leaf's own, or a listed copy's from `words`.
 fn source_word(
@@ -41,25 +50,24 @@ fn source_word(
     if at < len { words[at] } else { 0 }
 }
 
-// The words of the copies that feed the copy of gate g, `base` registers back, at m pins.
+// The words of the copies that feed the listed copy of gate g at place p, from the words of the copies before it.
 fn gather(
-    sources: &[usize],
-    counts: &[usize],
+    s: ConeSizes,
+    net: &[usize],
     leaf_nodes: &[usize],
     leaf_backs: &[usize],
-    n: usize,
     cone_nodes: &[usize],
     cone_backs: &[usize],
-    len: usize,
     words: &[u64],
     marks: &[u8],
+    p: usize,
     g: usize,
-    m: usize,
-    base: usize,
 ) -> [u64; PINS]
-    requires { ⌜ ((n ≤ mostPins) × (n ≤ length (now «leaf_nodes»)) × (n ≤ length (now «leaf_backs»)) × (len ≤ length (now «cone_nodes»)) × (len ≤ length (now «cone_backs»)) × (len ≤ length (now words)) × Rising (copiesIn (now «leaf_nodes») (now «leaf_backs») n) × (mostTable ≤ length (now marks)) × Marked wideMost (now «cone_nodes») (now «cone_backs») len (now marks)) × ((j : ℕ) → j < m → Place (now sources) (now counts) g j) × (g ≤ members) × (m ≤ mostPins) × (base ≤ most * members) ⌝ }
-    ensures { λ r. ⌜ (m ≤ length r) × ((j : ℕ) → j < m → Carries (copiesIn (now («leaf_nodes» .entry)) (now («leaf_backs» .entry)) n) (copiesIn (now («cone_nodes» .entry)) (now («cone_backs» .entry)) len) (now (words .entry)) (sourceAt (now (sources .entry)) (now (counts .entry)) g base j) (getD r j 0)) ⌝ }
+    requires { ⌜ ((s .leaves ≤ mostPins) × (s .leaves ≤ length (now «leaf_nodes»)) × (s .leaves ≤ length (now «leaf_backs»)) × (p ≤ length (now «cone_nodes»)) × (p < length (now «cone_backs»)) × (p ≤ length (now words)) × Rising (copiesIn (now «leaf_nodes») (now «leaf_backs») (s .leaves)) × (mostTable ≤ length (now marks)) × Marked wideMost (now «cone_nodes») (now «cone_backs») p (now marks)) × ((j : ℕ) → j < getD (now net) g 0 → Place (drop (sourcesAt (s .gates)) (now net)) (drop (countsAt (s .gates)) (now net)) g j) × (g < length (now net)) × (getD (now net) g 0 ≤ mostPins) × (getD (now «cone_backs») p 0 ≤ most * members) ⌝ }
+    ensures { λ r. ⌜ (getD (now (net .entry)) g 0 ≤ length r) × ((j : ℕ) → j < getD (now (net .entry)) g 0 → Carries (copiesIn (now («leaf_nodes» .entry)) (now («leaf_backs» .entry)) (s .leaves)) (copiesIn (now («cone_nodes» .entry)) (now («cone_backs» .entry)) p) (now (words .entry)) (sourceAt (drop (sourcesAt (s .gates)) (now (net .entry))) (drop (countsAt (s .gates)) (now (net .entry))) g (getD (now («cone_backs» .entry)) p 0) j) (getD r j 0)) ⌝ }
 {
+    let m = net[g];
+    let base = cone_backs[p];
     let mut fed = [0u64; PINS];
     let mut j = 0;
     while j < m {
@@ -67,14 +75,14 @@ fn gather(
         fed[j] = source_word(
             leaf_nodes,
             leaf_backs,
-            n,
+            s.leaves,
             cone_nodes,
             cone_backs,
-            len,
+            p,
             words,
             marks,
-            sources[at],
-            base + counts[at],
+            net[2 * s.gates + at],
+            base + net[(2 + PINS) * s.gates + at],
         );
         j += 1;
     }
@@ -83,80 +91,61 @@ fn gather(
 
 // The word of the listed copy at place p, from the words of the copies before it.
 fn copy_word(
-    inputs: usize,
-    gates: usize,
-    pins: &[usize],
-    sources: &[usize],
-    counts: &[usize],
+    s: ConeSizes,
+    net: &[usize],
     tables: &[u64],
     leaf_nodes: &[usize],
     leaf_backs: &[usize],
-    n: usize,
     cone_nodes: &[usize],
     cone_backs: &[usize],
-    len: usize,
     words: &[u64],
     marks: &[u8],
     p: usize,
 ) -> u64
-    requires { ⌜ Given inputs gates (now pins) (now sources) (now counts) (now tables) (now «leaf_nodes») (now «leaf_backs») n (now «cone_nodes») (now «cone_backs») len (now marks) × (len ≤ length (now words)) × (p < len) ⌝ }
-    ensures { λ r. ⌜ WordAt inputs (now (pins .entry)) (now (sources .entry)) (now (counts .entry)) (now (tables .entry)) (copiesIn (now («leaf_nodes» .entry)) (now («leaf_backs» .entry)) n) (now («cone_nodes» .entry)) (now («cone_backs» .entry)) p (now (words .entry)) 64 r ⌝ }
+    requires { ⌜ Given (s .inputs) (s .gates) (now net) (drop (sourcesAt (s .gates)) (now net)) (drop (countsAt (s .gates)) (now net)) (now tables) (now «leaf_nodes») (now «leaf_backs») (s .leaves) (now «cone_nodes») (now «cone_backs») (s .copies) (now marks) × (s .copies ≤ length (now words)) × (p < s .copies) ⌝ }
+    ensures { λ r. ⌜ WordAt (s .inputs) (now (net .entry)) (drop (sourcesAt (s .gates)) (now (net .entry))) (drop (countsAt (s .gates)) (now (net .entry))) (now (tables .entry)) (copiesIn (now («leaf_nodes» .entry)) (now («leaf_backs» .entry)) (s .leaves)) (now («cone_nodes» .entry)) (now («cone_backs» .entry)) p (now (words .entry)) 64 r ⌝ }
 {
-    let g = cone_nodes[p] - inputs;
-    let m = pins[g];
+    let g = cone_nodes[p] - s.inputs;
     let fed = gather(
-        sources,
-        counts,
+        s,
+        net,
         leaf_nodes,
         leaf_backs,
-        n,
         cone_nodes,
         cone_backs,
-        p,
         words,
         marks,
+        p,
         g,
-        m,
-        cone_backs[p],
     );
-    cone_words::compose(tables[g], fed, m)
+    cone_words::compose(tables[g], fed, net[g])
 }
 
 // The words of the listed copies, one after the other.
 fn fill_words(
-    inputs: usize,
-    gates: usize,
-    pins: &[usize],
-    sources: &[usize],
-    counts: &[usize],
+    s: ConeSizes,
+    net: &[usize],
     tables: &[u64],
     leaf_nodes: &[usize],
     leaf_backs: &[usize],
-    n: usize,
     cone_nodes: &[usize],
     cone_backs: &[usize],
-    len: usize,
     marks: &[u8],
 ) -> [u64; COPIES]
-    requires { ⌜ Given inputs gates (now pins) (now sources) (now counts) (now tables) (now «leaf_nodes») (now «leaf_backs») n (now «cone_nodes») (now «cone_backs») len (now marks) ⌝ }
-    ensures { λ r. ⌜ (length r ≡ members) × WordsSettled inputs gates (now (pins .entry)) (now (sources .entry)) (now (counts .entry)) (now (tables .entry)) (copiesIn (now («leaf_nodes» .entry)) (now («leaf_backs» .entry)) n) (now («cone_nodes» .entry)) (now («cone_backs» .entry)) len r 64 len ⌝ }
+    requires { ⌜ Given (s .inputs) (s .gates) (now net) (drop (sourcesAt (s .gates)) (now net)) (drop (countsAt (s .gates)) (now net)) (now tables) (now «leaf_nodes») (now «leaf_backs») (s .leaves) (now «cone_nodes») (now «cone_backs») (s .copies) (now marks) ⌝ }
+    ensures { λ r. ⌜ (length r ≡ members) × WordsSettled (s .inputs) (s .gates) (now (net .entry)) (drop (sourcesAt (s .gates)) (now (net .entry))) (drop (countsAt (s .gates)) (now (net .entry))) (now (tables .entry)) (copiesIn (now («leaf_nodes» .entry)) (now («leaf_backs» .entry)) (s .leaves)) (now («cone_nodes» .entry)) (now («cone_backs» .entry)) (s .copies) r 64 (s .copies) ⌝ }
 {
     let mut words = [0u64; COPIES];
     let mut p = 0;
-    while p < len {
+    while p < s.copies {
         let word = copy_word(
-            inputs,
-            gates,
-            pins,
-            sources,
-            counts,
+            s,
+            net,
             tables,
             leaf_nodes,
             leaf_backs,
-            n,
             cone_nodes,
             cone_backs,
-            len,
             &words,
             marks,
             p,
@@ -171,9 +160,7 @@ fn fill_words(
 pub fn table(
     inputs: usize,
     gates: usize,
-    pins: &[usize],
-    sources: &[usize],
-    counts: &[usize],
+    net: &[usize],
     tables: &[u64],
     leaf_nodes: &[usize],
     leaf_backs: &[usize],
@@ -181,25 +168,26 @@ pub fn table(
     cone: Cone,
     marks: &[u8],
 ) -> u64
-    requires { ⌜ Given inputs gates (now pins) (now sources) (now counts) (now tables) (now «leaf_nodes») (now «leaf_backs») n (cone .nodes) (cone .backs) (cone .len) (now marks) ⌝ }
-    ensures { λ r. ⌜ ((v : ℕ) → copyAt (cone .nodes) (cone .backs) (cone .len - 1) ≡ copy v 0 → TableOver inputs gates (now (pins .entry)) (now (sources .entry)) (now (counts .entry)) (now (tables .entry)) (copiesIn (now («leaf_nodes» .entry)) (now («leaf_backs» .entry)) n) (copiesIn (cone .nodes) (cone .backs) (cone .len)) v r) ⌝ }
+    requires { ⌜ Given inputs gates (now net) (drop (sourcesAt gates) (now net)) (drop (countsAt gates) (now net)) (now tables) (now «leaf_nodes») (now «leaf_backs») n (cone .nodes) (cone .backs) (cone .len) (now marks) ⌝ }
+    ensures { λ r. ⌜ ((v : ℕ) → copyAt (cone .nodes) (cone .backs) (cone .len - 1) ≡ copy v 0 → TableOver inputs gates (now (net .entry)) (drop (sourcesAt gates) (now (net .entry))) (drop (countsAt gates) (now (net .entry))) (now (tables .entry)) (copiesIn (now («leaf_nodes» .entry)) (now («leaf_backs» .entry)) n) (copiesIn (cone .nodes) (cone .backs) (cone .len)) v r) ⌝ }
 {
     let cone_nodes = cone.nodes;
     let cone_backs = cone.backs;
     let len = cone.len;
+    let s = ConeSizes {
+        inputs: inputs,
+        gates: gates,
+        leaves: n,
+        copies: len,
+    };
     let words = fill_words(
-        inputs,
-        gates,
-        pins,
-        sources,
-        counts,
+        s,
+        net,
         tables,
         leaf_nodes,
         leaf_backs,
-        n,
         &cone_nodes,
         &cone_backs,
-        len,
         marks,
     );
     words[len - 1]

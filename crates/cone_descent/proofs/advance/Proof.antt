@@ -1,15 +1,10 @@
 -- `cone_descent::advance` meets its contract: one law for each way out.
 use borrow.Author.Needs.{needs}
 use denote.Ref.{now}
-use mathlib.Core.Path.{refl}
-use Prim.Native.Nat.{_*_, _≤_, _<_, _^_}
+use Prim.Native.Nat.{_*_, _<_, _^_}
 use native.Mathlib.Omega.{arith}
-use lib.ListN.{length, getD}
-use Rattle.net_model.specs.Arrays.{copyAt}
-use Rattle.cone_copies.specs.CopyLists.{copiesIn}
-use Rattle.cone_copies.specs.CopyListLaws.{length-copiesIn}
-use Rattle.cone_descent.specs.Descent.{pinOf}
-use Rattle.cone_descent.specs.DescentStepLaws.{advance-denied, advance-known, advance-pushed, fresh-free}
+use lib.ListN.{length}
+use Rattle.cone_descent.specs.DescentStepLaws.{pin-source, pin-count, pin-read, pin-table, leaves-long, advance-denied, advance-known, advance-pushed, fresh-free}
 use Rattle.cone_descent.proofs.advance.Statement.{statement}
 use Rattle.cone_descent.proofs.advance.Tie as tie
 
@@ -20,7 +15,10 @@ slice-read-j : tie.Need-slice-read-j
 slice-read-j c = search needs
 
 add-next : tie.Need-add-next
-add-next c = search needs
+add-next c =
+    let start = c .before .before .before .before .before .before .before .before .before in
+    let i = pin-source (start .args .q .gates) (now (start .args .net)) (start .pre .1) in
+    omega (arith, i, start .good .1 .0 .1)
 
 mul-pin : tie.Need-mul-pin
 mul-pin c = search needs
@@ -32,16 +30,39 @@ sub-pin : tie.Need-sub-pin
 sub-pin c = search needs
 
 mul-pin-2 : tie.Need-mul-pin-2
-mul-pin-2 c = search needs
+mul-pin-2 c =
+    let start = c .before .before .before .before .before .before .before .before .before .before .before in
+    let i = pin-source (start .args .q .gates) (now (start .args .net)) (start .pre .1) in
+    omega (arith, i, start .good .1 .0 .1)
 
 add-pin : tie.Need-add-pin
-add-pin c = search needs
+add-pin c =
+    let start = c .before .before .before .before .before .before .before .before .before .before .before in
+    let i = pin-source (start .args .q .gates) (now (start .args .net)) (start .pre .1) in
+    omega (arith, i, start .good .1 .0 .1)
 
 mul-node : tie.Need-mul-node
-mul-node c = search needs
+mul-node c =
+    let start = c .before .before .before .before .before .before .before .before .before .before .before .before in
+    let i = pin-source (start .args .q .gates) (now (start .args .net)) (start .pre .1) in
+    omega (arith, i, start .good .1 .0 .1)
+
+add-node : tie.Need-add-node
+add-node c =
+    let start = c .before .before .before .before .before .before .before .before .before .before .before .before in
+    let i = pin-source (start .args .q .gates) (now (start .args .net)) (start .pre .1) in
+    omega (arith, i, start .good .1 .0 .1)
+
+mul-node-2 : tie.Need-mul-node-2
+mul-node-2 c =
+    let start = c .before .before .before .before .before .before .before .before .before .before .before .before in
+    let i = pin-source (start .args .q .gates) (now (start .args .net)) (start .pre .1) in
+    omega (arith, i, start .good .1 .0 .1)
 
 shared-slice-read-node : tie.Need-shared-slice-read-node
-shared-slice-read-node c = search needs
+shared-slice-read-node c =
+    let start = c .before .before .before .before .before .before .before .before .before .before .before .before .before in
+    pin-source (start .args .q .gates) (now (start .args .net)) (start .pre .1)
 
 mul-back : tie.Need-mul-back
 mul-back c = search needs
@@ -49,29 +70,66 @@ mul-back c = search needs
 slice-read-back : tie.Need-slice-read-back
 slice-read-back c = search needs
 
-mul-back-2 : tie.Need-mul-back-2
-mul-back-2 c = search needs
-
-shared-slice-read-back : tie.Need-shared-slice-read-back
-shared-slice-read-back c = search needs
-
 add-back : tie.Need-add-back
 add-back c = search needs
 
+mul-back-2 : tie.Need-mul-back-2
+mul-back-2 c =
+    let start = c .before .before .before .before .before .before .before .before .before .before .before .before .before .before .before in
+    let i = pin-count (start .args .q .gates) (now (start .args .net)) (start .pre .1) in
+    omega (arith, i, start .good .1 .0 .1)
+
+add-back-2 : tie.Need-add-back-2
+add-back-2 c =
+    let start = c .before .before .before .before .before .before .before .before .before .before .before .before .before .before .before in
+    let i = pin-count (start .args .q .gates) (now (start .args .net)) (start .pre .1) in
+    omega (arith, i, start .good .1 .0 .1)
+
+mul-back-3 : tie.Need-mul-back-3
+mul-back-3 c =
+    let start = c .before .before .before .before .before .before .before .before .before .before .before .before .before .before .before in
+    let i = pin-count (start .args .q .gates) (now (start .args .net)) (start .pre .1) in
+    omega (arith, i, start .good .1 .0 .1)
+
+shared-slice-read-back : tie.Need-shared-slice-read-back
+shared-slice-read-back c =
+    let start = c .before .before .before .before .before .before .before .before .before .before .before .before .before .before .before .before in
+    pin-count (start .args .q .gates) (now (start .args .net)) (start .pre .1)
+
+add-back-3 : tie.Need-add-back-3
+add-back-3 c =
+    let start = c .before .before .before .before .before .before .before .before .before .before .before .before .before .before .before .before in
+    let i = pin-table (start .args .q .gates) (now (start .args .net)) (start .pre .1) in
+    omega (arith, i, start .good .1 .1 .1 .1 .1 .1 .1 .1 .1 .1 .0 .1)
+
 mul-at : tie.Need-mul-at
-mul-at c = search needs
+mul-at c =
+    let start = c .before .before .before .before .before .before .before .before .before .before .before .before .before .before .before .before .before in
+    let i = pin-table (start .args .q .gates) (now (start .args .net)) (start .pre .1) in
+    omega (arith, i, start .good .1 .1 .1 .1 .1 .1 .1 .1 .1 .1 .0 .1)
 
 add-at : tie.Need-add-at
-add-at c = search needs
+add-at c =
+    let start = c .before .before .before .before .before .before .before .before .before .before .before .before .before .before .before .before .before in
+    let i = pin-table (start .args .q .gates) (now (start .args .net)) (start .pre .1) in
+    omega (arith, i, start .good .1 .1 .1 .1 .1 .1 .1 .1 .1 .1 .0 .1)
 
 add-depth : tie.Need-add-depth
-add-depth c = search needs
+add-depth c =
+    let start = c .before .before .before .before .before .before .before .before .before .before .before .before .before .before .before .before .before in
+    let p = start .pre .1 in
+    omega (arith, p .fits, p .turns, start .good .1 .1 .1 .1 .1 .1 .1 .1 .0 .1)
 
 add-meet : tie.Need-add-meet
-add-meet c = search needs
+add-meet c =
+    let start = c .before .before .before .before .before .before .before .before .before .before .before .before .before .before .before .before .before .before .before in
+    let p = start .pre .1 in
+    omega (arith, p .fits, p .turns, start .good .1 .1 .1 .1 .1 .1 .1 .1 .0 .1)
 
 meet-requires : tie.Need-meet-requires
-meet-requires c κs = search needs
+meet-requires c κs =
+    let start = c .before .before .before .before .before .before .before .before .before .before .before .before .before .before .before .before .before .before .before in
+    (start .pre .0, pin-table (start .args .q .gates) (now (start .args .net)) (start .pre .1))
 
 same-length : tie.Need-same-length
 same-length c = search needs
@@ -81,25 +139,22 @@ same-length-2 c = search needs
 
 returns : tie.Need-returns
 returns c =
-    let meet = c .before .before .before .meet in
-    let start = c .before .before .before .before .before .before .before .before .before .before .before .before .before .before .before .before .before .before .before .before in
+    let start = c .before .before .before .before .before .before .before .before .before .before .before .before .before .before .before .before .before .before .before .before .before .before .before in
     let a = start .args in
     let p = start .pre .1 in
-    let L = copiesIn (now (a .leaf-nodes)) (now (a .leaf-backs)) (a .n) in
-    let long : length L ≤ length (now (a .seen)) = omega (arith, start .pre .0 .touched, length-copiesIn (now (a .leaf-nodes)) (now (a .leaf-backs)) (a .n)) in
-    let y = pinOf (a .inputs) (now (a .sources)) (now (a .counts)) (copyAt (now (a .stack-nodes)) (now (a .stack-backs)) (a .top)) (getD (now (a .turns)) (a .top) 0) in
-    advance-denied (a .inputs) (a .width) (a .border) (a .room) (now (a .sources)) (now (a .counts)) L (a .len) (now (a .stack-nodes)) (now (a .stack-backs)) (now (a .turns)) (a .top)
-    (now (a .marks)) (now (a .seen)) _ (meet .result) p long y refl (meet .ensures) (c .if1 .taken)
+    advance-denied p (leaves-long (start .pre .0)) (pin-read (a .q .gates) (now (a .net)) p) (c .before .before .before .meet .ensures) (c .if1 .taken)
 
 mul-turns : tie.Need-mul-turns
 mul-turns c =
-    let start = c .before .before .before .before .before .before .before .before .before .before .before .before .before .before .before .before .before .before .before .before .before in
+    let start = c .before .before .before .before .before .before .before .before .before .before .before .before .before .before .before .before .before .before .before .before .before .before .before .before in
     let p = start .pre .1 in
-    let q : length (now (start .args .turns)) * 8 < 2 ^ 63 = start .good .1 .1 .1 .1 .1 .1 .1 .1 .1 .1 .1 .1 .1 .0 .1 in
+    let q : length (now (start .args .turns)) * 8 < 2 ^ 63 = start .good .1 .1 .1 .1 .1 .1 .1 .1 .0 .1 in
     omega (arith, p .fits, p .turns)
 
 slice-write-turns : tie.Need-slice-write-turns
-slice-write-turns c = search needs
+slice-write-turns c =
+    let p = c .before .before .before .before .before .before .before .before .before .before .before .before .before .before .before .before .before .before .before .before .before .before .before .before .pre .1 in
+    omega (arith, p .fits, p .turns)
 
 same-length-3 : tie.Need-same-length-3
 same-length-3 c = search needs
@@ -112,59 +167,38 @@ same-length-5 c = search needs
 
 returns-2 : tie.Need-returns-2
 returns-2 c =
-    let meet = c .before .before .before .before .meet in
-    let start = c .before .before .before .before .before .before .before .before .before .before .before .before .before .before .before .before .before .before .before .before .before in
+    let start = c .before .before .before .before .before .before .before .before .before .before .before .before .before .before .before .before .before .before .before .before .before .before .before .before in
     let a = start .args in
     let p = start .pre .1 in
-    let L = copiesIn (now (a .leaf-nodes)) (now (a .leaf-backs)) (a .n) in
-    let long : length L ≤ length (now (a .seen)) = omega (arith, start .pre .0 .touched, length-copiesIn (now (a .leaf-nodes)) (now (a .leaf-backs)) (a .n)) in
-    let y = pinOf (a .inputs) (now (a .sources)) (now (a .counts)) (copyAt (now (a .stack-nodes)) (now (a .stack-backs)) (a .top)) (getD (now (a .turns)) (a .top) 0) in
-    advance-known (a .inputs) (a .width) (a .border) (a .room) (now (a .sources)) (now (a .counts)) L (a .len) (now (a .stack-nodes)) (now (a .stack-backs)) (now (a .turns)) (a .top)
-    (now (a .marks)) (now (a .seen)) _ (meet .result) p long y refl (meet .ensures) (c .if2 .taken)
+    advance-known p (leaves-long (start .pre .0)) (pin-read (a .q .gates) (now (a .net)) p) (c .before .before .before .before .meet .ensures) (c .if2 .taken)
 
 push-requires : tie.Need-push-requires
 push-requires c κs =
-    let meet = c .before .before .before .before .before .before .before .before .meet in
-    let start = c .before .before .before .before .before .before .before .before .before .before .before .before .before .before .before .before .before .before .before .before .before .before
-    .before .before .before in
+    let start = c .before .before .before .before .before .before .before .before .before .before .before .before .before .before .before .before .before .before .before .before .before .before .before .before .before .before .before .before in
     let a = start .args in
     let p = start .pre .1 in
-    let L = copiesIn (now (a .leaf-nodes)) (now (a .leaf-backs)) (a .n) in
-    let long : length L ≤ length (now (a .seen)) = omega (arith, start .pre .0 .touched, length-copiesIn (now (a .leaf-nodes)) (now (a .leaf-backs)) (a .n)) in
-    let y = pinOf (a .inputs) (now (a .sources)) (now (a .counts)) (copyAt (now (a .stack-nodes)) (now (a .stack-backs)) (a .top)) (getD (now (a .turns)) (a .top) 0) in
-    let f = fresh-free (a .inputs) (a .width) (a .border) (a .room) (now (a .sources)) (now (a .counts)) L (a .len) (now (a .stack-nodes)) (now (a .stack-backs)) (now (a .turns)) (a .top)
-    (now (a .marks)) (now (a .seen)) _ (meet .result) p long y refl (meet .ensures) (c .before .before .before .before .before .if1 .left) (c .before .before .before .before .if2 .left) in
-    (omega (arith, f, p .nodes), omega (arith, f, p .backs), omega (arith, f, p .turns), p .table)
+    let f = fresh-free p (leaves-long (start .pre .0)) (pin-read (a .q .gates) (now (a .net)) p) (c .before .before .before .before .before .before .before .before .meet .ensures) (c .before .before .before .before .before .if1 .left) (c .before .before .before .before .if2 .left) in
+    (omega (arith, f, p .nodes), omega (arith, f, p .backs), omega (arith, f, p .turns), pin-table (a .q .gates) (now (a .net)) p)
 
 mul-turns-2 : tie.Need-mul-turns-2
 mul-turns-2 c =
-    let start = c .before .before .before .before .before .before .before .before .before .before .before .before .before .before .before .before .before .before .before .before .before .before
-    .before .before .before .before .before .before .before .before .before .before .before .before in
+    let start = c .before .before .before .before .before .before .before .before .before .before .before .before .before .before .before .before .before .before .before .before .before .before .before .before .before .before .before .before .before .before .before .before .before .before .before .before .before in
     let p = start .pre .1 in
-    let q : length (now (start .args .turns)) * 8 < 2 ^ 63 = start .good .1 .1 .1 .1 .1 .1 .1 .1 .1 .1 .1 .1 .1 .0 .1 in
+    let q : length (now (start .args .turns)) * 8 < 2 ^ 63 = start .good .1 .1 .1 .1 .1 .1 .1 .1 .0 .1 in
     omega (arith, p .fits, p .turns)
 
 slice-write-turns-2 : tie.Need-slice-write-turns-2
 slice-write-turns-2 c =
-    let p = c .before .before .before .before .before .before .before .before .before .before .before .before .before .before .before .before .before .before .before .before .before .before
-    .before .before .before .before .before .before .before .before .before .before .before .before .pre .1 in
+    let p = c .before .before .before .before .before .before .before .before .before .before .before .before .before .before .before .before .before .before .before .before .before .before .before .before .before .before .before .before .before .before .before .before .before .before .before .before .before .pre .1 in
     omega (arith, p .fits, p .turns, c .before .before .before .before .before .before .before .before .push .kept .1 .1 .0)
 
 add-result : tie.Need-add-result
 add-result c =
-    let meet = c .before .before .before .before .before .before .before .before .before .before .before .before .before .before .before .before .before .meet in
-    let start = c .before .before .before .before .before .before .before .before .before .before .before .before .before .before .before .before .before .before .before .before .before .before
-    .before .before .before .before .before .before .before .before .before .before .before .before in
+    let start = c .before .before .before .before .before .before .before .before .before .before .before .before .before .before .before .before .before .before .before .before .before .before .before .before .before .before .before .before .before .before .before .before .before .before .before .before .before in
     let a = start .args in
     let p = start .pre .1 in
-    let L = copiesIn (now (a .leaf-nodes)) (now (a .leaf-backs)) (a .n) in
-    let long : length L ≤ length (now (a .seen)) = omega (arith, start .pre .0 .touched, length-copiesIn (now (a .leaf-nodes)) (now (a .leaf-backs)) (a .n)) in
-    let y = pinOf (a .inputs) (now (a .sources)) (now (a .counts)) (copyAt (now (a .stack-nodes)) (now (a .stack-backs)) (a .top)) (getD (now (a .turns)) (a .top) 0) in
-    let f = fresh-free (a .inputs) (a .width) (a .border) (a .room) (now (a .sources)) (now (a .counts)) L (a .len) (now (a .stack-nodes)) (now (a .stack-backs)) (now (a .turns)) (a .top)
-    (now (a .marks)) (now (a .seen)) _ (meet .result) p long y refl (meet .ensures)
-    (c .before .before .before .before .before .before .before .before .before .before .before .before .before .before .if1 .left)
-    (c .before .before .before .before .before .before .before .before .before .before .before .before .before .if2 .left) in
-    omega (arith, f, start .fits .room)
+    let f = fresh-free p (leaves-long (start .pre .0)) (pin-read (a .q .gates) (now (a .net)) p) (c .before .before .before .before .before .before .before .before .before .before .before .before .before .before .before .before .before .meet .ensures) (c .before .before .before .before .before .before .before .before .before .before .before .before .before .before .if1 .left) (c .before .before .before .before .before .before .before .before .before .before .before .before .before .if2 .left) in
+    omega (arith, f, p .turns, start .good .1 .1 .1 .1 .1 .1 .1 .1 .0 .1)
 
 same-length-6 : tie.Need-same-length-6
 same-length-6 c = search needs
@@ -183,19 +217,11 @@ same-length-10 c = search needs
 
 returns-3 : tie.Need-returns-3
 returns-3 c =
-    let meet = c .before .before .before .before .before .before .before .before .before .before .before .before .before .before .before .before .before .meet in
-    let start = c .before .before .before .before .before .before .before .before .before .before .before .before .before .before .before .before .before .before .before .before .before .before
-    .before .before .before .before .before .before .before .before .before .before .before .before in
+    let start = c .before .before .before .before .before .before .before .before .before .before .before .before .before .before .before .before .before .before .before .before .before .before .before .before .before .before .before .before .before .before .before .before .before .before .before .before .before in
     let a = start .args in
     let p = start .pre .1 in
-    let L = copiesIn (now (a .leaf-nodes)) (now (a .leaf-backs)) (a .n) in
-    let long : length L ≤ length (now (a .seen)) = omega (arith, start .pre .0 .touched, length-copiesIn (now (a .leaf-nodes)) (now (a .leaf-backs)) (a .n)) in
-    let y = pinOf (a .inputs) (now (a .sources)) (now (a .counts)) (copyAt (now (a .stack-nodes)) (now (a .stack-backs)) (a .top)) (getD (now (a .turns)) (a .top) 0) in
     let e = c .before .before .before .before .before .before .before .before .push .ensures in
-    advance-pushed (a .inputs) (a .width) (a .border) (a .room) (now (a .sources)) (now (a .counts)) L (a .len) (now (a .stack-nodes)) (now (a .stack-backs)) (now (a .turns)) (a .top)
-    (now (a .marks)) (now (a .seen)) _ (meet .result) p long y refl (meet .ensures)
-    (c .before .before .before .before .before .before .before .before .before .before .before .before .before .before .if1 .left)
-    (c .before .before .before .before .before .before .before .before .before .before .before .before .before .if2 .left) (e .0) (e .1) (e .2) (e .3)
+    advance-pushed p (leaves-long (start .pre .0)) (pin-read (a .q .gates) (now (a .net)) p) (c .before .before .before .before .before .before .before .before .before .before .before .before .before .before .before .before .before .meet .ensures) (c .before .before .before .before .before .before .before .before .before .before .before .before .before .before .if1 .left) (c .before .before .before .before .before .before .before .before .before .before .before .before .before .if2 .left) (e .0) (e .1) (e .2) (e .3)
 
 pub advance-spec : {M : Type 1} → statement M
 advance-spec =
@@ -210,12 +236,17 @@ advance-spec =
     mul-pin-2
     add-pin
     mul-node
+    add-node
+    mul-node-2
     shared-slice-read-node
     mul-back
     slice-read-back
-    mul-back-2
-    shared-slice-read-back
     add-back
+    mul-back-2
+    add-back-2
+    mul-back-3
+    shared-slice-read-back
+    add-back-3
     mul-at
     add-at
     add-depth

@@ -25,31 +25,31 @@ same-length c = search needs
 
 returns : tie.Need-returns
 returns c =
-    let start = c .before .before .before .before .before .before in
-    let a = start .args in
-    let y = copy (a .node) (a .back) in
-    let found = c .before .seek in
-    let first = array-first (now (a .leaf-nodes)) (now (a .leaf-backs)) (a .n) y (start .pre .0 .rising) (found .ensures) in
-    meet-leaf (a .inputs) (a .border) (a .room) (a .size) (now (a .leaf-nodes)) (now (a .leaf-backs)) (a .n) y (getD (now (a .marks)) (a .at) 0) (now (a .seen)) (found .result) first (omega arith)
-
-returns-2 : tie.Need-returns-2
-returns-2 c =
     let start = c .before .before .before .before .before .before .before in
     let a = start .args in
     let y = copy (a .node) (a .back) in
     let found = c .before .before .seek in
-    let first = array-first (now (a .leaf-nodes)) (now (a .leaf-backs)) (a .n) y (start .pre .0 .rising) (found .ensures) in
-    meet-input (a .inputs) (a .border) (a .room) (a .size) (now (a .leaf-nodes)) (now (a .leaf-backs)) (a .n) y (getD (now (a .marks)) (a .at) 0) (now (a .seen)) (found .result) first
+    let first = array-first (now (a .leaf-nodes)) (now (a .leaf-backs)) (a .q .leaves) y (start .pre .0 .rising) (found .ensures) in
+    meet-leaf (a .q .inputs) (a .q .border) (a .q .room) (a .size) (now (a .leaf-nodes)) (now (a .leaf-backs)) (a .q .leaves) y (getD (now (a .marks)) (a .at) 0) (now (a .seen)) (found .result) first (omega arith)
+
+returns-2 : tie.Need-returns-2
+returns-2 c =
+    let start = c .before .before .before .before .before .before .before .before .before in
+    let a = start .args in
+    let y = copy (a .node) (a .back) in
+    let found = c .before .before .before .before .seek in
+    let first = array-first (now (a .leaf-nodes)) (now (a .leaf-backs)) (a .q .leaves) y (start .pre .0 .rising) (found .ensures) in
+    meet-input (a .q .inputs) (a .q .border) (a .q .room) (a .size) (now (a .leaf-nodes)) (now (a .leaf-backs)) (a .q .leaves) y (getD (now (a .marks)) (a .at) 0) (now (a .seen)) (found .result) first
     (omega arith) (omega arith)
 
 returns-3 : tie.Need-returns-3
 returns-3 c =
-    let start = c .before .before .before .before .before .before .before .before in
+    let start = c .before .before .before .before .before .before .before .before .before .before .before in
     let a = start .args in
     let y = copy (a .node) (a .back) in
-    let found = c .before .before .before .seek in
-    let first = array-first (now (a .leaf-nodes)) (now (a .leaf-backs)) (a .n) y (start .pre .0 .rising) (found .ensures) in
-    meet-beyond (a .inputs) (a .border) (a .room) (a .size) (now (a .leaf-nodes)) (now (a .leaf-backs)) (a .n) y (getD (now (a .marks)) (a .at) 0) (now (a .seen)) (found .result) first
+    let found = c .before .before .before .before .before .before .seek in
+    let first = array-first (now (a .leaf-nodes)) (now (a .leaf-backs)) (a .q .leaves) y (start .pre .0 .rising) (found .ensures) in
+    meet-beyond (a .q .inputs) (a .q .border) (a .q .room) (a .size) (now (a .leaf-nodes)) (now (a .leaf-backs)) (a .q .leaves) y (getD (now (a .marks)) (a .at) 0) (now (a .seen)) (found .result) first
     (omega arith) (omega arith) (omega arith)
 
 shared-slice-read-if4 : tie.Need-shared-slice-read-if4
@@ -60,23 +60,23 @@ returns-4 c = Meet.known refl refl (c .if4 .taken)
 
 returns-5 : tie.Need-returns-5
 returns-5 c =
-    let start = c .before .before .before .before .before .before .before .before .before .before .before in
+    let start = c .before .before .before .before .before .before .before .before .before .before .before .before .before .before .before in
     let a = start .args in
     let y = copy (a .node) (a .back) in
-    let found = c .before .before .before .before .before .before .seek in
-    let first = array-first (now (a .leaf-nodes)) (now (a .leaf-backs)) (a .n) y (start .pre .0 .rising) (found .ensures) in
-    meet-full (a .inputs) (a .border) (a .room) (a .size) (now (a .leaf-nodes)) (now (a .leaf-backs)) (a .n) y (getD (now (a .marks)) (a .at) 0) (now (a .seen)) (found .result) first
-    (omega arith) (omega arith) (c .before .if4 .left) (omega arith)
+    let found = c .before .before .before .before .before .before .before .before .before .before .seek in
+    let first = array-first (now (a .leaf-nodes)) (now (a .leaf-backs)) (a .q .leaves) y (start .pre .0 .rising) (found .ensures) in
+    meet-full (a .q .inputs) (a .q .border) (a .q .room) (a .size) (now (a .leaf-nodes)) (now (a .leaf-backs)) (a .q .leaves) y (getD (now (a .marks)) (a .at) 0) (now (a .seen)) (found .result) first
+    (omega arith) (omega arith) (c .before .before .if4 .left) (omega arith)
 
 returns-6 : tie.Need-returns-6
 returns-6 c =
-    let start = c .before .before .before .before .before .before .before .before .before .before .before in
+    let start = c .before .before .before .before .before .before .before .before .before .before .before .before .before .before .before in
     let a = start .args in
     let y = copy (a .node) (a .back) in
-    let found = c .before .before .before .before .before .before .seek in
-    let first = array-first (now (a .leaf-nodes)) (now (a .leaf-backs)) (a .n) y (start .pre .0 .rising) (found .ensures) in
-    meet-fresh (a .inputs) (a .border) (a .room) (a .size) (now (a .leaf-nodes)) (now (a .leaf-backs)) (a .n) y (getD (now (a .marks)) (a .at) 0) (now (a .seen)) (found .result) first
-    (omega arith) (omega arith) (omega arith) (c .before .if4 .left) (omega arith)
+    let found = c .before .before .before .before .before .before .before .before .before .before .seek in
+    let first = array-first (now (a .leaf-nodes)) (now (a .leaf-backs)) (a .q .leaves) y (start .pre .0 .rising) (found .ensures) in
+    meet-fresh (a .q .inputs) (a .q .border) (a .q .room) (a .size) (now (a .leaf-nodes)) (now (a .leaf-backs)) (a .q .leaves) y (getD (now (a .marks)) (a .at) 0) (now (a .seen)) (found .result) first
+    (omega arith) (omega arith) (omega arith) (c .before .before .if4 .left) (omega arith)
 
 pub meet-spec : {M : Type 1} → statement M
 meet-spec =

@@ -4,26 +4,25 @@ use denote.Ref.{now}
 use mathlib.Core.Path.{_≡_, refl, _∙_}
 use Prim.Native.Nat.{_+_, _-_, _*_, _<_, _^_}
 use native.Mathlib.Omega.{arith}
-use lib.ListN.{length}
+use lib.ListN.{length, drop}
+use Rattle.net_model.specs.PackedNet.{sourcesAt, countsAt}
 use Rattle.cone_descent.specs.DescentSteps.{work, Turn}
 use Rattle.cone_descent.specs.DescentStepLaws.{top-low, top-gate, top-below, top-table, top-pin, run-moved, run-denied, run-left, run-done, work-left}
 use Rattle.cone_descent.proofs.run.Statement.{statement}
 use Rattle.cone_descent.proofs.run.Tie as tie
 
 abbrev Inv-loop : tie.InvT-loop
-Inv-loop inputs gates pins sources counts leaf-nodes leaf-backs n seen₀ border width root room nodes₀ backs₀ stack-nodes₀ stack-backs₀ turns₀ marks₀ len₀ depth₀ seen nodes backs stack-nodes
-    stack-backs turns marks len depth =
-    Turn inputs gates width border room pins sources counts leaf-nodes leaf-backs n root nodes backs len stack-nodes stack-backs turns depth seen marks × (length seen ≡ length seen₀) ×
-    (length marks ≡ length marks₀)
+Inv-loop q net leaf-nodes leaf-backs seen₀ nodes₀ backs₀ stack-nodes₀ stack-backs₀ turns₀ marks₀ len₀ depth₀ seen nodes backs stack-nodes stack-backs turns marks len depth =
+    Turn (q .inputs) (q .gates) (q .width) (q .border) (q .room) net (drop (sourcesAt (q .gates)) net) (drop (countsAt (q .gates)) net) leaf-nodes leaf-backs (q .leaves) (q .inputs + q .gate) nodes
+    backs len stack-nodes stack-backs turns depth seen marks × (length seen ≡ length seen₀) × (length marks ≡ length marks₀)
 
 abbrev μ-loop : tie.MeasureT-loop
-μ-loop inputs gates pins sources counts leaf-nodes leaf-backs n seen₀ border width root room nodes₀ backs₀ stack-nodes₀ stack-backs₀ turns₀ marks₀ len₀ depth₀ seen nodes backs stack-nodes
-    stack-backs turns marks len depth =
-    work room (len + depth) turns depth
+μ-loop q net leaf-nodes leaf-backs seen₀ nodes₀ backs₀ stack-nodes₀ stack-backs₀ turns₀ marks₀ len₀ depth₀ seen nodes backs stack-nodes stack-backs turns marks len depth =
+    work (q .room) (len + depth) turns depth
 
 loop-holds : tie.Need-loop-holds Inv-loop μ-loop
 loop-holds c =
-    (c .before .before .before .before .before .before .before .before .before .before .before .before .pre, refl, refl)
+    (c .before .before .before .before .before .before .before .before .before .before .pre, refl, refl)
 
 sub-top : tie.Need-sub-top Inv-loop μ-loop
 sub-top c =
@@ -31,10 +30,10 @@ sub-top c =
 
 mul-node : tie.Need-mul-node Inv-loop μ-loop
 mul-node c =
-    let start = c .before .before .before .before .before .before .before .before .before .before .before .before .before .before in
+    let start = c .before .before .before .before .before .before .before .before .before .before .before .before in
     let t = c .before .loop .inv .0 in
     let b = top-below t (omega arith) in
-    let q : length (now (start .args .stack-nodes)) * 8 < 2 ^ 63 = start .good .1 .1 .1 .1 .1 .1 .1 .1 .1 .1 .1 .1 .1 .1 .1 .0 .1 in
+    let q : length (now (start .args .stack-nodes)) * 8 < 2 ^ 63 = start .good .1 .1 .1 .1 .1 .1 .1 .0 .1 in
     let z = start .pre in
     omega (arith, b, q, z .nodes)
 
@@ -46,10 +45,10 @@ slice-read-node c =
 
 mul-if1 : tie.Need-mul-if1 Inv-loop μ-loop
 mul-if1 c =
-    let start = c .before .before .before .before .before .before .before .before .before .before .before .before .before .before .before in
+    let start = c .before .before .before .before .before .before .before .before .before .before .before .before .before in
     let t = c .before .before .loop .inv .0 in
     let b = top-below t (omega arith) in
-    let q : length (now (start .args .turns)) * 8 < 2 ^ 63 = start .good .1 .1 .1 .1 .1 .1 .1 .1 .1 .1 .1 .1 .1 .1 .1 .1 .1 .0 .1 in
+    let q : length (now (start .args .turns)) * 8 < 2 ^ 63 = start .good .1 .1 .1 .1 .1 .1 .1 .1 .1 .0 .1 in
     let z = start .pre in
     omega (arith, b, q, z .turns)
 
@@ -61,24 +60,24 @@ slice-read-if1 c =
 
 sub-if1 : tie.Need-sub-if1 Inv-loop μ-loop
 sub-if1 c =
-    let t = c .before .before .before .loop .inv .0 in
+    let t = c .before .before .before .before .loop .inv .0 in
     omega (arith, top-low t (omega arith))
 
 mul-if1-2 : tie.Need-mul-if1-2 Inv-loop μ-loop
 mul-if1-2 c =
-    let start = c .before .before .before .before .before .before .before .before .before .before .before .before .before .before .before .before in
-    let t = c .before .before .before .loop .inv .0 in
-    let q : length (now (start .args .pins)) * 8 < 2 ^ 63 = start .good .1 .1 .0 .1 in
+    let start = c .before .before .before .before .before .before .before .before .before .before .before .before .before .before .before in
+    let t = c .before .before .before .before .loop .inv .0 in
+    let q : length (now (start .args .net)) * 8 < 2 ^ 63 = start .good .1 .0 .1 in
     omega (arith, q, top-gate t (omega arith))
 
 shared-slice-read-if1 : tie.Need-shared-slice-read-if1 Inv-loop μ-loop
 shared-slice-read-if1 c =
-    let t = c .before .before .before .before .loop .inv .0 in
+    let t = c .before .before .before .before .before .loop .inv .0 in
     top-gate t (omega arith)
 
 advance-requires : tie.Need-advance-requires Inv-loop μ-loop
 advance-requires c κs =
-    let t = c .before .before .before .before .before .before .before .before .before .before .loop .inv .0 in
+    let t = c .before .before .before .before .before .before .before .before .before .before .before .loop .inv .0 in
     (t .leaves, top-pin t (omega arith) (c .before .before .before .before .before .if1 .taken))
 
 same-length : tie.Need-same-length Inv-loop μ-loop
@@ -104,109 +103,105 @@ same-length-7 c = search needs
 
 returns : tie.Need-returns Inv-loop μ-loop
 returns c =
-    let t = c .before .before .before .before .before .before .before .before .before .before .before .before .before .before .before .before .before .before .before .before .before .before .loop
+    let t = c .before .before .before .before .before .before .before .before .before .before .before .before .before .before .before .before .before .before .before .before .before .before .before .loop
     .inv .0 in
     let k = c .before .before .before .before .before .before .before .before .before .before .before .advance .kept in
     run-denied t (omega arith) (c .before .before .before .before .before .before .before .before .before .before .before .advance .result) _ _ _ _ _
     (c .before .before .before .before .before .before .before .before .before .before .before .before .before .before .before .before .before .if1 .taken)
-    (c .before .before .before .before .before .before .before .before .before .before .before .advance .ensures) (k .1 .1 .1 .1 .1 .1 .1 .1 .1 .1 .1 .0)
-    (k .1 .1 .1 .1 .1 .1 .1 .1 .1 .1 .1 .1 .0) (k .1 .1 .1 .1 .1 .1 .1 .1 .1 .1 .1 .1 .1 .0) (k .1 .1 .1 .1 .1 .1 .1 .1 .1 .1 .1 .1 .1 .1 .1 .0) (k .1 .1 .1 .1 .1 .1 .0) (c .if2 .taken)
+    (c .before .before .before .before .before .before .before .before .before .before .before .advance .ensures) (k .1 .1 .1 .1 .1 .1 .0)
+    (k .1 .1 .1 .1 .1 .1 .1 .0) (k .1 .1 .1 .1 .1 .1 .1 .1 .0) (k .1 .1 .1 .1 .1 .1 .1 .1 .1 .1 .0) (k .1 .1 .1 .1 .0) (c .if2 .taken)
 
 loop-less : tie.Need-loop-less Inv-loop μ-loop
 loop-less c =
-    let t = c .before .before .before .before .before .before .before .before .before .before .before .before .before .before .before .before .before .before .before .before .before .before .loop
+    let t = c .before .before .before .before .before .before .before .before .before .before .before .before .before .before .before .before .before .before .before .before .before .before .before .loop
     .inv .0 in
     let k = c .before .before .before .before .before .before .before .before .before .before .before .advance .kept in
     let step = run-moved t (omega arith) (c .before .before .before .before .before .before .before .before .before .before .before .advance .result) _ _ _ _ _
     (c .before .before .before .before .before .before .before .before .before .before .before .before .before .before .before .before .before .if1 .taken)
-    (c .before .before .before .before .before .before .before .before .before .before .before .advance .ensures) (k .1 .1 .1 .1 .1 .1 .1 .1 .1 .1 .1 .0)
-    (k .1 .1 .1 .1 .1 .1 .1 .1 .1 .1 .1 .1 .0) (k .1 .1 .1 .1 .1 .1 .1 .1 .1 .1 .1 .1 .1 .0) (k .1 .1 .1 .1 .1 .1 .1 .1 .1 .1 .1 .1 .1 .1 .1 .0) (k .1 .1 .1 .1 .1 .1 .0) (c .if2 .left) in
+    (c .before .before .before .before .before .before .before .before .before .before .before .advance .ensures) (k .1 .1 .1 .1 .1 .1 .0)
+    (k .1 .1 .1 .1 .1 .1 .1 .0) (k .1 .1 .1 .1 .1 .1 .1 .1 .0) (k .1 .1 .1 .1 .1 .1 .1 .1 .1 .1 .0) (k .1 .1 .1 .1 .0) (c .if2 .left) in
     step .1
 
 loop-again : tie.Need-loop-again Inv-loop μ-loop
 loop-again c =
-    let t = c .before .before .before .before .before .before .before .before .before .before .before .before .before .before .before .before .before .before .before .before .before .before .loop
+    let t = c .before .before .before .before .before .before .before .before .before .before .before .before .before .before .before .before .before .before .before .before .before .before .before .loop
     .inv .0 in
     let k = c .before .before .before .before .before .before .before .before .before .before .before .advance .kept in
     let step = run-moved t (omega arith) (c .before .before .before .before .before .before .before .before .before .before .before .advance .result) _ _ _ _ _
     (c .before .before .before .before .before .before .before .before .before .before .before .before .before .before .before .before .before .if1 .taken)
-    (c .before .before .before .before .before .before .before .before .before .before .before .advance .ensures) (k .1 .1 .1 .1 .1 .1 .1 .1 .1 .1 .1 .0)
-    (k .1 .1 .1 .1 .1 .1 .1 .1 .1 .1 .1 .1 .0) (k .1 .1 .1 .1 .1 .1 .1 .1 .1 .1 .1 .1 .1 .0) (k .1 .1 .1 .1 .1 .1 .1 .1 .1 .1 .1 .1 .1 .1 .1 .0) (k .1 .1 .1 .1 .1 .1 .0) (c .if2 .left) in (
+    (c .before .before .before .before .before .before .before .before .before .before .before .advance .ensures) (k .1 .1 .1 .1 .1 .1 .0)
+    (k .1 .1 .1 .1 .1 .1 .1 .0) (k .1 .1 .1 .1 .1 .1 .1 .1 .0) (k .1 .1 .1 .1 .1 .1 .1 .1 .1 .1 .0) (k .1 .1 .1 .1 .0) (c .if2 .left) in (
       step .0,
-      k .1 .1 .1 .1 .1 .1 .0 ∙ c .before .before .before .before .before .before .before .before .before .before .before .before .before .before .before .before .before .before .before
-          .before .before .before .loop .inv .1,
-      k .1 .1 .1 .1 .1 .1 .1 .1 .1 .1 .1 .1 .1 .1 .1 .0 ∙ c .before .before .before .before .before .before .before .before .before .before .before .before
-          .before .before .before .before .before .before .before .before .before .before .loop .inv .2,
+      k .1 .1 .1 .1 .0 ∙ c .before .before .before .before .before .before .before .before .before .before .before .before .before .before .before .before .before .before .before .before .before .before .before .loop .inv .1,
+      k .1 .1 .1 .1 .1 .1 .1 .1 .1 .1 .0 ∙ c .before .before .before .before .before .before .before .before .before .before .before .before .before .before .before .before .before .before .before .before .before .before .before .loop .inv .2,
     )
 
 mul-back : tie.Need-mul-back Inv-loop μ-loop
 mul-back c =
-    let start = c .before .before .before .before .before .before .before .before .before .before .before .before .before .before .before .before .before .before in
-    let t = c .before .before .before .before .before .loop .inv .0 in
+    let start = c .before .before .before .before .before .before .before .before .before .before .before .before .before .before .before .before .before in
+    let t = c .before .before .before .before .before .before .loop .inv .0 in
     let b = top-below t (omega arith) in
-    let q : length (now (start .args .stack-backs)) * 8 < 2 ^ 63 = start .good .1 .1 .1 .1 .1 .1 .1 .1 .1 .1 .1 .1 .1 .1 .1 .1 .0 .1 in
+    let q : length (now (start .args .stack-backs)) * 8 < 2 ^ 63 = start .good .1 .1 .1 .1 .1 .1 .1 .1 .0 .1 in
     let z = start .pre in
     omega (arith, b, q, z .backs)
 
 slice-read-back : tie.Need-slice-read-back Inv-loop μ-loop
 slice-read-back c =
-    let t = c .before .before .before .before .before .before .loop .inv .0 in
+    let t = c .before .before .before .before .before .before .before .loop .inv .0 in
     let b = top-below t (omega arith) in
     omega (arith, b, t .backs)
 
 mul-leave : tie.Need-mul-leave Inv-loop μ-loop
 mul-leave c =
-    let loop = c .before .before .before .before .before .before .before .before .before .loop in
+    let loop = c .before .before .before .before .before .before .before .before .before .before .before .loop in
     let t = loop .inv .0 in
     omega (
       arith,
       top-table t (omega arith),
       loop .inv .2,
-      c .before .before .before .before .before .before .before .before .before .before .before .before .before .before .before .before
-          .before .before .before .before .before .before .good .1 .1 .1 .1 .1 .1 .1 .1 .1 .1 .1 .1 .1 .1 .1 .1 .1 .1 .0 .1,
+      c .before .before .before .before .before .before .before .before .before .before .before .before .before .before .before .before .before .before .before .before .before .before .good .1 .1 .1 .1 .1 .1 .1 .1 .1 .1 .0 .1,
     )
 
 add-leave : tie.Need-add-leave Inv-loop μ-loop
 add-leave c =
-    let loop = c .before .before .before .before .before .before .before .before .before .loop in
+    let loop = c .before .before .before .before .before .before .before .before .before .before .before .loop in
     let t = loop .inv .0 in
     omega (
       arith,
       top-table t (omega arith),
       loop .inv .2,
-      c .before .before .before .before .before .before .before .before .before .before .before .before .before .before .before .before
-          .before .before .before .before .before .before .good .1 .1 .1 .1 .1 .1 .1 .1 .1 .1 .1 .1 .1 .1 .1 .1 .1 .1 .0 .1,
+      c .before .before .before .before .before .before .before .before .before .before .before .before .before .before .before .before .before .before .before .before .before .before .good .1 .1 .1 .1 .1 .1 .1 .1 .1 .1 .0 .1,
     )
 
 leave-requires : tie.Need-leave-requires Inv-loop μ-loop
 leave-requires c κs =
-    let t = c .before .before .before .before .before .before .before .before .before .loop .inv .0 in
+    let t = c .before .before .before .before .before .before .before .before .before .before .before .loop .inv .0 in
     let b = top-below t (omega arith) in
     (omega (arith, t .fits, t .listNodes), omega (arith, t .fits, t .listBacks), top-table t (omega arith))
 
 add-len : tie.Need-add-len Inv-loop μ-loop
 add-len c =
-    let t = c .before .before .before .before .before .before .before .before .before .before .before .before .before .before .before .before .loop .inv .0 in
+    let t = c .before .before .before .before .before .before .before .before .before .before .before .before .before .before .before .before .before .before .loop .inv .0 in
     let b = top-below t (omega arith) in
     omega (
       arith,
       t .fits,
-      c .before .before .before .before .before .before .before .before .before .before .before .before .before .before .before .before .before .before .before .before
-          .before .before .before .before .before .before .before .before .before .fits .room,
+      c .before .before .before .before .before .before .before .before .before .before .before .before .before .before .before .before .before .before .before .before .before .before .before .before .before .before .before .before .before .pre .listNodes,
+      c .before .before .before .before .before .before .before .before .before .before .before .before .before .before .before .before .before .before .before .before .before .before .before .before .before .before .before .before .before .good .1 .1 .1 .1 .1 .0 .1,
     )
 
 loop-less-2 : tie.Need-loop-less-2 Inv-loop μ-loop
 loop-less-2 c =
-    let t = c .before .before .before .before .before .before .before .before .before .before .before .before .before .before .before .before .loop .inv .0 in
+    let t = c .before .before .before .before .before .before .before .before .before .before .before .before .before .before .before .before .before .before .loop .inv .0 in
     work-left t (omega arith)
 
 loop-again-2 : tie.Need-loop-again-2 Inv-loop μ-loop
 loop-again-2 c =
     let leave = c .before .before .before .before .before .before .leave in
-    let loop = c .before .before .before .before .before .before .before .before .before .before .before .before .before .before .before .before .loop in
+    let loop = c .before .before .before .before .before .before .before .before .before .before .before .before .before .before .before .before .before .before .loop in
     let t = loop .inv .0 in
     let e = leave .ensures in (
-      run-left t (omega arith) (omega (arith, c .before .before .before .before .before .before .before .before .before .before .before .if1 .left)) (e .0) (e .1)
+      run-left t (omega arith) (omega (arith, c .before .before .before .before .before .before .before .before .before .before .before .before .if1 .left)) (e .0) (e .1)
           (e .2),
       loop .inv .1,
       leave .kept .1 .1 .1 .0 ∙ loop .inv .2,

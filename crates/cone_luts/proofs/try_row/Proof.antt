@@ -1,7 +1,7 @@
--- `cone_luts::try_row` meets its contract: the wiring and the leaves are parts of two slices.
+-- `cone_luts::try_row` meets its contract: the leaves are parts of a slice.
 use native.Mathlib.Omega.{arith}
 use Rattle.sequences.specs.Behind.{length-behind}
-use Rattle.cone_luts.specs.LutLaws.{nodesFrom, backsFrom, leafCount, row-few, rising-row, tried-row, wires-part}
+use Rattle.cone_luts.specs.LutLaws.{nodesFrom, backsFrom, leafCount, row-few, rising-row, tried-row}
 use borrow.Author.Needs.{needs}
 use Rattle.cone_luts.proofs.try_row.Statement.{statement}
 use Rattle.cone_luts.proofs.try_row.Tie as tie
@@ -9,32 +9,23 @@ use Rattle.cone_luts.proofs.try_row.Tie as tie
 mul-a : tie.Need-mul-a
 mul-a c = search needs
 
+mul-a-2 : tie.Need-mul-a-2
+mul-a-2 c = search needs
+
+add-a : tie.Need-add-a
+add-a c = search needs
+
 add-b : tie.Need-add-b
 add-b c = search needs
 
 mul-b : tie.Need-mul-b
 mul-b c = search needs
 
-mul-c : tie.Need-mul-c
-mul-c c = search needs
+mul-b-2 : tie.Need-mul-b-2
+mul-b-2 c = search needs
 
-mul-c-2 : tie.Need-mul-c-2
-mul-c-2 c = search needs
-
-add-c : tie.Need-add-c
-add-c c = search needs
-
-add-d : tie.Need-add-d
-add-d c = search needs
-
-mul-d : tie.Need-mul-d
-mul-d c = search needs
-
-mul-d-2 : tie.Need-mul-d-2
-mul-d-2 c = search needs
-
-add-d-2 : tie.Need-add-d-2
-add-d-2 c = search needs
+add-b-2 : tie.Need-add-b-2
+add-b-2 c = search needs
 
 add-m : tie.Need-add-m
 add-m c = search needs
@@ -69,39 +60,15 @@ part-try-lut-start-2 c = search needs
 part-try-lut-end-2 : tie.Need-part-try-lut-end-2
 part-try-lut-end-2 c = search needs
 
-mul-try-lut-3 : tie.Need-mul-try-lut-3
-mul-try-lut-3 c = search needs
-
-sub-try-lut-3 : tie.Need-sub-try-lut-3
-sub-try-lut-3 c = search needs
-
-part-try-lut-start-3 : tie.Need-part-try-lut-start-3
-part-try-lut-start-3 c = search needs
-
-part-try-lut-end-3 : tie.Need-part-try-lut-end-3
-part-try-lut-end-3 c = search needs
-
-mul-try-lut-4 : tie.Need-mul-try-lut-4
-mul-try-lut-4 c = search needs
-
-sub-try-lut-4 : tie.Need-sub-try-lut-4
-sub-try-lut-4 c = search needs
-
-part-try-lut-start-4 : tie.Need-part-try-lut-start-4
-part-try-lut-start-4 c = search needs
-
-part-try-lut-end-4 : tie.Need-part-try-lut-end-4
-part-try-lut-end-4 c = search needs
-
 try-lut-requires : tie.Need-try-lut-requires
 try-lut-requires c κs =
-    let start = c .before .before .before .before .before .before .before .before .before .before in
+    let start = c@start in
     let a = start .args in
     let p = start .pre .0 in
     let q = start .pre .1 .0 in
     let f = row-few (a .rows .now) (a .n) (a .i) (p .2) in (
       (
-        wires-part (a .net .now) (p .0),
+        p .0,
         p .1,
         f,
         length-behind (a .rows .now) (nodesFrom (a .rows .now) (a .n) (a .i)) (leafCount (a .rows .now) (a .n) (a .i)) (omega (arith, f, q .1, q .2)),
@@ -117,23 +84,20 @@ same-length c = search needs
 
 returns : tie.Need-returns
 returns c =
-    let a = c .before .before .before .before .before .before .before .before .before .before .before .before .before .args in
-    (tried-row (a .rows .now) (a .n) (a .i) (a .net .now) (c .before .before .try-lut .ensures .0), c .before .before .try-lut .ensures .1)
+    let a = c@start .args in
+    (tried-row (a .rows .now) (a .n) (a .i) (c@try-lut .ensures .0), c@try-lut .ensures .1)
 
 pub try-row-spec : {M : Type 1} → statement M
 try-row-spec =
     tie.close
     (tie.spec
     mul-a
+    mul-a-2
+    add-a
     add-b
     mul-b
-    mul-c
-    mul-c-2
-    add-c
-    add-d
-    mul-d
-    mul-d-2
-    add-d-2
+    mul-b-2
+    add-b-2
     add-m
     mul-m
     shared-slice-read-m
@@ -145,14 +109,6 @@ try-row-spec =
     sub-try-lut-2
     part-try-lut-start-2
     part-try-lut-end-2
-    mul-try-lut-3
-    sub-try-lut-3
-    part-try-lut-start-3
-    part-try-lut-end-3
-    mul-try-lut-4
-    sub-try-lut-4
-    part-try-lut-start-4
-    part-try-lut-end-4
     try-lut-requires
     same-length
     returns)

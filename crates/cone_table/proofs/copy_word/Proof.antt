@@ -14,47 +14,21 @@ shared-slice-read-g c = search needs
 
 sub-g : tie.Need-sub-g
 sub-g c =
-    let start = c .before .before .before .before .before .before .before .before .before .before .before in
-    let m = member (now (start .args .cone-nodes)) (now (start .args .cone-backs)) (start .args .len) (start .args .p) (start .pre .0 .bounded) (start .pre .2) in
+    let start = c .before .before .before .before .before .before .before .before .before .before in
+    let m = member (now (start .args .cone-nodes)) (now (start .args .cone-backs)) (start .args .s .copies) (start .args .p) (start .pre .0 .bounded) (start .pre .2) in
     m .low
-
-mul-m : tie.Need-mul-m
-mul-m c =
-    let start = c .before .before .before .before .before .before .before .before .before .before .before in
-    let w = start .pre .0 .wires in
-    let r = start .pre .0 .room in
-    let m = member (now (start .args .cone-nodes)) (now (start .args .cone-backs)) (start .args .len) (start .args .p) (start .pre .0 .bounded) (start .pre .2) in
-    let g = m .gate in
-    let d = w .gates in
-    omega arith
-
-shared-slice-read-m : tie.Need-shared-slice-read-m
-shared-slice-read-m c =
-    let start = c .before .before .before .before .before .before .before .before .before .before .before .before in
-    let w = start .pre .0 .wires in
-    let r = start .pre .0 .room in
-    let m = member (now (start .args .cone-nodes)) (now (start .args .cone-backs)) (start .args .len) (start .args .p) (start .pre .0 .bounded) (start .pre .2) in
-    let g = m .gate in
-    let d = w .gates in
-    let s = w .wires .sizes in
-    omega arith
-
-mul-gather : tie.Need-mul-gather
-mul-gather c = search needs
-
-shared-slice-read-gather : tie.Need-shared-slice-read-gather
-shared-slice-read-gather c = search needs
 
 gather-requires : tie.Need-gather-requires
 gather-requires c κs =
-    let start = c .before .before .before .before .before .before .before .before .before .before .before .before .before in
+    let start = c .before .before .before .before .before .before .before .before .before .before in
     let w = start .pre .0 .wires in
     let r = start .pre .0 .room in
-    let m = member (now (start .args .cone-nodes)) (now (start .args .cone-backs)) (start .args .len) (start .args .p) (start .pre .0 .bounded) (start .pre .2) in
+    let m = member (now (start .args .cone-nodes)) (now (start .args .cone-backs)) (start .args .s .copies) (start .args .p) (start .pre .0 .bounded) (start .pre .2) in
     let g = m .gate in
     let d = w .gates in
     let n = m .near in
-    let f = r .fits in (
+    let f = r .fits in
+    let s = w .wires .sizes in (
       (
         start .pre .0 .few,
         start .pre .0 .leafNodes,
@@ -75,40 +49,60 @@ gather-requires c κs =
 
 mul-compose : tie.Need-mul-compose
 mul-compose c =
-    let start = c .before .before .before .before .before .before .before .before .before .before .before .before .before .before in
+    let start = c .before .before .before .before .before .before .before .before .before .before .before in
     let w = start .pre .0 .wires in
     let r = start .pre .0 .room in
-    let m = member (now (start .args .cone-nodes)) (now (start .args .cone-backs)) (start .args .len) (start .args .p) (start .pre .0 .bounded) (start .pre .2) in
+    let m = member (now (start .args .cone-nodes)) (now (start .args .cone-backs)) (start .args .s .copies) (start .args .p) (start .pre .0 .bounded) (start .pre .2) in
     let g = m .gate in
     let d = w .gates in
     omega arith
 
 shared-slice-read-compose : tie.Need-shared-slice-read-compose
 shared-slice-read-compose c =
-    let start = c .before .before .before .before .before .before .before .before .before .before .before .before .before .before .before in
+    let start = c .before .before .before .before .before .before .before .before .before .before .before .before in
     let w = start .pre .0 .wires in
     let r = start .pre .0 .room in
-    let m = member (now (start .args .cone-nodes)) (now (start .args .cone-backs)) (start .args .len) (start .args .p) (start .pre .0 .bounded) (start .pre .2) in
+    let m = member (now (start .args .cone-nodes)) (now (start .args .cone-backs)) (start .args .s .copies) (start .args .p) (start .pre .0 .bounded) (start .pre .2) in
     let g = m .gate in
     let d = w .gates in
     let s = start .pre .0 .tables in
     omega arith
 
-compose-requires : tie.Need-compose-requires
-compose-requires c κs =
-    let start = c .before .before .before .before .before .before .before .before .before .before .before .before .before .before .before in
+mul-compose-2 : tie.Need-mul-compose-2
+mul-compose-2 c =
+    let start = c .before .before .before .before .before .before .before .before .before .before .before .before in
     let w = start .pre .0 .wires in
     let r = start .pre .0 .room in
-    let m = member (now (start .args .cone-nodes)) (now (start .args .cone-backs)) (start .args .len) (start .args .p) (start .pre .0 .bounded) (start .pre .2) in
+    let m = member (now (start .args .cone-nodes)) (now (start .args .cone-backs)) (start .args .s .copies) (start .args .p) (start .pre .0 .bounded) (start .pre .2) in
+    let g = m .gate in
+    let d = w .gates in
+    omega arith
+
+shared-slice-read-compose-2 : tie.Need-shared-slice-read-compose-2
+shared-slice-read-compose-2 c =
+    let start = c .before .before .before .before .before .before .before .before .before .before .before .before .before in
+    let w = start .pre .0 .wires in
+    let r = start .pre .0 .room in
+    let m = member (now (start .args .cone-nodes)) (now (start .args .cone-backs)) (start .args .s .copies) (start .args .p) (start .pre .0 .bounded) (start .pre .2) in
+    let g = m .gate in
+    let s = w .wires .sizes in
+    omega arith
+
+compose-requires : tie.Need-compose-requires
+compose-requires c κs =
+    let start = c .before .before .before .before .before .before .before .before .before .before .before .before .before in
+    let w = start .pre .0 .wires in
+    let r = start .pre .0 .room in
+    let m = member (now (start .args .cone-nodes)) (now (start .args .cone-backs)) (start .args .s .copies) (start .args .p) (start .pre .0 .bounded) (start .pre .2) in
     let g = m .gate in
     let d = w .gates in
     w .wires .pins _ g
 
 returns : tie.Need-returns
 returns c =
-    let start = c .before .before .before .before .before .before .before .before .before .before .before .before .before .before .before .before in
-    let e = c .before .before .gather .ensures in
-    record { fed = c .before .before .gather .result; size = e .0; each = e .1; word = c .compose .ensures }
+    let start = c .before .before .before .before .before .before .before .before .before .before .before .before .before .before in
+    let e = c .before .before .before .gather .ensures in
+    record { fed = c .before .before .before .gather .result; size = e .0; each = e .1; word = c .compose .ensures }
 
 pub copy-word-spec : {M : Type 1} → statement M
 copy-word-spec =
@@ -117,12 +111,10 @@ copy-word-spec =
     mul-g
     shared-slice-read-g
     sub-g
-    mul-m
-    shared-slice-read-m
-    mul-gather
-    shared-slice-read-gather
     gather-requires
     mul-compose
     shared-slice-read-compose
+    mul-compose-2
+    shared-slice-read-compose-2
     compose-requires
     returns)

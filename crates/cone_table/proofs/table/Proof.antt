@@ -20,22 +20,22 @@ fill-words-requires : tie.Need-fill-words-requires
 fill-words-requires c κs = search needs
 
 sub-result : tie.Need-sub-result
-sub-result c = let r = c .before .before .before .before .before .before .before .before .before .before .before .before .pre .room in omega arith
+sub-result c = let r = c .before .before .before .before .before .before .before .before .before .before .pre .room in omega arith
 
 mul-result : tie.Need-mul-result
-mul-result c = let r = c .before .before .before .before .before .before .before .before .before .before .before .before .pre .room in omega arith
+mul-result c = let r = c .before .before .before .before .before .before .before .before .before .before .pre .room in omega arith
 
 array-read-result : tie.Need-array-read-result
 array-read-result c =
-    let r = c .before .before .before .before .before .before .before .before .before .before .before .before .pre .room in
+    let r = c .before .before .before .before .before .before .before .before .before .before .pre .room in
     let e = c .fill-words .ensures .0 in
     omega arith
 
 returns : tie.Need-returns
 returns c v e N w tabled cone leaves first =
-    let a = c .before .before .before .before .before .before .before .before .before .before .before .before .args in
+    let a = c .before .before .before .before .before .before .before .before .before .before .args in
     let b = a .cone in
-    table-last (copiesIn (now (a .leaf-nodes)) (now (a .leaf-backs)) (a .n)) (b .nodes) (b .backs) (b .len) (c .fill-words .result) v (c .before .before .before .before .before .before .before .before .before .before .before .before .pre .room .some) (c .fill-words .ensures .1) e
+    table-last (copiesIn (now (a .leaf-nodes)) (now (a .leaf-backs)) (a .n)) (b .nodes) (b .backs) (b .len) (c .fill-words .result) v (c .before .before .before .before .before .before .before .before .before .before .pre .room .some) (c .fill-words .ensures .1) e
     N w tabled cone leaves first
 
 pub table-spec : {M : Type 1} → statement M
