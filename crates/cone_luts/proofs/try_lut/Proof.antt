@@ -12,7 +12,7 @@ use Rattle.cone_luts.proofs.try_lut.Tie as tie
 
 walk-requires : tie.Need-walk-requires
 walk-requires c κs =
-    let p = c@start .pre in
+    let p = c .before .before .before .before .before .before .pre in
     (p .0 .0, p .0 .2, p .0 .3, p .0 .4, p .0 .5, p .0 .6, p .1 .0, p .1 .1)
 
 enum-told : tie.Need-enum-told
@@ -23,8 +23,8 @@ same-length c = search needs
 
 returns : tie.Need-returns
 returns c =
-    let w = c@walk .ensures in
-    let e = ap numberOf (c@enum-told .given .1) in
+    let w = c .before .before .before .before .walk .ensures in
+    let e = ap numberOf (c .enum-told .given .1) in
     (tried-none (w .0) e, w .1 .clear e)
 
 enum-told-2 : tie.Need-enum-told-2
@@ -32,10 +32,10 @@ enum-told-2 c = search needs
 
 table-requires : tie.Need-table-requires
 table-requires c κs =
-    let p = c@start .pre in
-    let walk = c@walk in
+    let p = c .before .before .before .before .before .before .before .before .before .before .before .before .pre in
+    let walk = c .before .before .before .before .before .walk in
     let w = walk .ensures in
-    cone-given (w .0) (ap numberOf (c@enum-told2 .given .1)) (p .0 .0) (p .0 .1) (p .0 .2) (p .0 .3) (p .0 .4) (p .0 .6)
+    cone-given (w .0) (ap numberOf (c .before .enum-told2 .given .1)) (p .0 .0) (p .0 .1) (p .0 .2) (p .0 .3) (p .0 .4) (p .0 .6)
     (omega (arith, walk .kept .1 .1 .1 .1 .1 .1 .1 .0, p .1 .0)) (w .1)
 
 slice-aggregate-clear : tie.Need-slice-aggregate-clear
@@ -49,10 +49,10 @@ add-clear c = search needs
 
 clear-requires : tie.Need-clear-requires
 clear-requires c κs =
-    let p = c@start .pre in
-    let walk = c@walk in
+    let p = c .before .before .before .before .before .before .before .before .before .before .before .before .before .before .before .before .before .before .pre in
+    let walk = c .before .before .before .before .before .before .before .before .before .before .before .walk in
     let w = walk .ensures in
-    let e = ap numberOf (c@enum-told2 .given .1) in
+    let e = ap numberOf (c .before .before .before .before .before .before .before .enum-told2 .given .1) in
     let r = w .0 .room e in (
       omega (arith, r .fits, r .nodes),
       omega (arith, r .fits, r .backs),
@@ -69,10 +69,10 @@ same-length-2 c = search needs
 
 returns-2 : tie.Need-returns-2
 returns-2 c =
-    let w = c@walk .ensures in
-    let e = ap numberOf (c@enum-told2 .given .1) in (
-      tried-cut (w .0) e (c@table .ensures _ (w .1 .last e)),
-      seated-clear _ _ _ _ _ _ (w .1 .seated) (c@clear
+    let w = c .before .before .before .before .before .before .before .before .before .before .before .before .before .before .walk .ensures in
+    let e = ap numberOf (c .before .before .before .before .before .before .before .before .before .before .enum-told2 .given .1) in (
+      tried-cut (w .0) e (c .before .before .before .before .before .before .before .before .table .ensures _ (w .1 .last e)),
+      seated-clear _ _ _ _ _ _ (w .1 .seated) (c .before .before .clear
           .ensures),
     )
 

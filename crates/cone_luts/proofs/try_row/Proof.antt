@@ -62,7 +62,7 @@ part-try-lut-end-2 c = search needs
 
 try-lut-requires : tie.Need-try-lut-requires
 try-lut-requires c κs =
-    let start = c@start in
+    let start = c .before .before .before .before .before .before .before .before in
     let a = start .args in
     let p = start .pre .0 in
     let q = start .pre .1 .0 in
@@ -84,8 +84,8 @@ same-length c = search needs
 
 returns : tie.Need-returns
 returns c =
-    let a = c@start .args in
-    (tried-row (a .rows .now) (a .n) (a .i) (c@try-lut .ensures .0), c@try-lut .ensures .1)
+    let a = c .before .before .before .before .before .before .before .before .before .before .before .args in
+    (tried-row (a .rows .now) (a .n) (a .i) (c .before .before .try-lut .ensures .0), c .before .before .try-lut .ensures .1)
 
 pub try-row-spec : {M : Type 1} → statement M
 try-row-spec =

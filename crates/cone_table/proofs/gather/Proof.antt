@@ -121,8 +121,7 @@ source-word-requires c κs =
     let start = c .before .before .before .before .before .before .before .before .before .before .before .before .before .before .before in
     let p = start .pre .1 (c .before .before .before .before .before .loop .j) (omega arith) in
     let this = source-read (start .args .s .gates) (now (start .args .net)) (start .args .g) (getD (now (start .args .cone-backs)) (start .args .p) 0) (c .before .before .before .before .before .loop .j) in
-    let q = start .pre .0 in
-    (
+    let q = start .pre .0 in (
       (q .0, q .1, q .2, q .3, omega (arith, q .4), q .5, q .6, q .7, q .8),
       omega (arith, p .node, ap (λ (y : Copy). y .node) this),
       omega (arith, p .count, start .pre .4, ap (λ (y : Copy). y .back) this),
