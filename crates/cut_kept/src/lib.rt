@@ -77,14 +77,7 @@ fn close_row(s: Extent, members: &mut [u32], g: usize, m: usize)
 }
 
 // Keeps the r leaves that a search found for the gate, where they are at most k.
-pub fn keep_cut(
-    s: Extent,
-    table: &[u8],
-    list: &[u32],
-    members: &mut [u32],
-    q: Query,
-    r: usize,
-)
+pub fn keep_cut(s: Extent, table: &[u8], list: &[u32], members: &mut [u32], q: Query, r: usize)
     requires { ⌜ RowAsked (s .gates) (now table) (now list) (now members) (q .gate) (s .border) ⌝ }
     ensures { λ _. ⌜ RowKept (s .gates) (now (table .entry)) (now (members .entry)) (now (members .exit)) (q .gate) (s .border) (q .k) r ⌝ }
 {
@@ -97,14 +90,7 @@ pub fn keep_cut(
 }
 
 // Whether the n copies from a place on are all low enough for leaves.
-fn all_low(
-    width: usize,
-    members: &[u32],
-    labels: &[i64],
-    q: Query,
-    at: usize,
-    n: usize,
-) -> bool
+fn all_low(width: usize, members: &[u32], labels: &[i64], q: Query, at: usize, n: usize) -> bool
     requires { ⌜ LowFromAsked width (now members) (now labels) (q .phi) at n ⌝ }
     ensures { λ r. ⌜ (r ≡ true → LowFrom width (now (members .entry)) at n (q .phi) (labelIn (now (labels .entry))) (q .height)) ⌝ }
 {

@@ -30,7 +30,17 @@ fn separate(
     ensures cleared { λ _. ⌜ Cleared (now (table .exit)) (now (list .exit)) ⌝ }
     ensures kept { λ r. ⌜ SeenKept (packedOf s (now (net .entry)) (now (slots .entry))) (q .k) (q .gate) (now (members .entry)) (now (members .exit)) r ⌝ }
 {
-    let r = min_cut(s, net, slots, table, list, stack, counts, &members[..f], q.k);
+    let r = min_cut(
+        s,
+        net,
+        slots,
+        table,
+        list,
+        stack,
+        counts,
+        &members[..f],
+        q.k,
+    );
     keep_cut(s, table, list, members, q, r);
     clear(table, list);
     r
