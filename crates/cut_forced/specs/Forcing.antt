@@ -192,6 +192,10 @@ pub record ForceAsked (W : Circuit) (ls : List ℤ) (φ k g : ℕ) (slots member
   pub some : 0 < k
   pub unforced : Unmarked (W .gates) slots
 
+-- from place n on, l′ is as l
+abbrev pub SameFrom : ℕ → List ℕ → List ℕ → Type 0
+SameFrom n l l′ = (i : ℕ) → n ≤ i → getD l′ i 0 ≡ getD l i 0
+
 -- ---- forced copies taken away
 -- The members are copies of gates, and only gates of members from place i on have forced copies.
 pub record Listed (inputs gates width : ℕ) (slots members : List ℕ) (i : ℕ) : Type 0 where

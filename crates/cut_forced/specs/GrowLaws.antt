@@ -1,20 +1,20 @@
 -- The forced set grown from its root, member by member, and taken back.
 use mathlib.Core.Path.{_≡_, refl, sym, ap, subst, _∙_}
-use mathlib.Core.List.{List}
+use mathlib.Core.List.{List, _++_}
 use Prim.Native.Nat.{ℕ, zero, suc, _+_, _-_, _*_, _/_, _%_, _^_, _≤_, _<_}
 use native.Mathlib.Nat.{not-suc-le-zero, mul-le-mul-right}
 use native.Mathlib.Omega.{arith}
 use native.Mathlib.Decide.{ℕ-discrete}
 use lib.IntN.{ℤ}
-use lib.ListN.{length, getD, set, length-set, take}
-use lib.Seq.{getD-set-same, getD-set-other, getD-take, length-take-le}
+use lib.ListN.{length, getD, set, take, drop, length-set, length-append, List·getD-append}
+use lib.Seq.{getD-set-same, getD-set-other, getD-append-add, getD-take, getD-drop, length-take-le}
 use Rattle.cone_theory.specs.Basics.{copy-path}
 use Rattle.label_theory.specs.Forced.{Forced}
 use Rattle.cut_circuit.specs.Circuit.{Circuit, total}
 use Rattle.cut_circuit.specs.CircuitLaws.{wide-positive, node-of, back-of, copy-inside}
 use Rattle.cut_forced.specs.Slots.{marked, Inner, gateAt, slotAt, holding, Slotted, Unmarked}
 use Rattle.cut_forced.specs.SlotLaws.{gate-inside, marked-inner, none-held, none-marked, none-slotted, slot-node, slot-marked, slotted-holding, marked-new, marked-before}
-use Rattle.cut_forced.specs.Forcing.{Target, target, Growing, Refutes, Told, AllSettled, HoldAsked, ForceTold, Progress, ForceAsked, Listed}
+use Rattle.cut_forced.specs.Forcing.{Target, target, Growing, Refutes, Told, AllSettled, HoldAsked, ForceTold, Progress, ForceAsked, SameFrom, Listed}
 use Rattle.cut_forced.specs.ForcedPinLaws.{settled-grew}
 
 -- ---- the members
@@ -44,6 +44,12 @@ module _ {W : Circuit} {T : Target} {k : ℕ} where
   pub progress-lost : {P : List ℕ → Type 0} {slots members slots′ members′ : List ℕ} {m r : ℕ} → k * W .gates < r
       → Told W T k P slots members m slots′ members′ r → ForceTold W T k slots′ members′ r
   progress-lost h o = record { growing = λ t. absurd (omega (arith, h, t)); closed = λ t. absurd (omega (arith, h, t)); refutes = o .refutes }
+
+-- what stands behind the first n places, where those were written anew
+getD-behind : (x l : List ℕ) (n : ℕ) → length x ≡ n → SameFrom n l (x ++ drop n l)
+getD-behind x l n e i h =
+    ap (λ (j : ℕ). getD (x ++ drop n l) j 0) (omega (arith, e, h))
+    ∙ (getD-append-add x (drop n l) (i - n) 0 ∙ (getD-drop n l (i - n) 0 ∙ ap (λ (j : ℕ). getD l j 0) (omega (arith, h))))
 
 -- ---- the root
 module _ {W : Circuit} {ls : List ℤ} {φ k g : ℕ} {slots members : List ℕ} (a : ForceAsked W ls φ k g slots members) where
@@ -118,6 +124,50 @@ module _ {W : Circuit} {ls : List ℤ} {φ k g : ℕ} {slots members : List ℕ}
 
   pub growing-root : (h : ℤ) {slots′ members′ : List ℕ} → slots′ ≡ slots₁ → members′ ≡ set members 0 x → Growing W (target ls φ (W .inputs + g) h) k slots′ members′ 1
   growing-root h e f = rw e (rw f (growing-start h))
+
+  -- what stands behind the members is kept
+  pub force-behind : (first : List ℕ) {members′ : List ℕ} → members′ ≡ set members 0 x → length first ≡ length (take (k * W .gates) members′)
+      → SameFrom (k * W .gates) members (first ++ drop (k * W .gates) members′)
+  force-behind first {members′} e l i h =
+      let s = ap length e ∙ length-set members 0 x in
+      getD-behind first members′ (k * W .gates) (l ∙ length-take-le (k * W .gates) members′ (omega (arith, s, a .space))) i h
+      ∙ (ap (λ (m : List ℕ). getD m i 0) e ∙ getD-set-other members 0 i x 0 (λ q. absurd (omega (arith, q, h, some-members))))
+
+-- ---- the members in another array
+module _ {W : Circuit} {T : Target} {k : ℕ} {slots members : List ℕ} where
+  pub growing-same : {members′ : List ℕ} {m : ℕ} → k * W .gates ≤ length members′ → ((i : ℕ) → i < k * W .gates → getD members′ i 0 ≡ getD members i 0) → Growing W T k slots members m
+      → Growing W T k slots members′ m
+  growing-same {members′} {m} space e G = record {
+    slotted = G .slotted;
+    space = space;
+    some = G .some;
+    few = G .few;
+    root = G .root;
+    listed = λ a h. subst (λ (x : ℕ). 0 < marked W slots x) (sym (at a h)) (G .listed a h);
+    all = λ x h. let r = G .all x h in (r .0, r .1, at (r .0) (r .1) ∙ r .2);
+    once = λ a b p q z. G .once a b p q (sym (at a (omega (arith, p, q))) ∙ (z ∙ at b q));
+    forced = G .forced;
+  }
+    where
+      at : (a : ℕ) → a < m → getD members′ a 0 ≡ getD members a 0
+      at a h = e a (omega (arith, h, G .few))
+
+  -- in the places that they may take
+  pub growing-part : {m : ℕ} → Growing W T k slots members m → Growing W T k slots (take (k * W .gates) members) m
+  growing-part G =
+      growing-same (let l = length-take-le (k * W .gates) members (G .space) in omega (arith, l)) (λ i h. getD-take (k * W .gates) members i 0 h) G
+
+  -- with other numbers behind them
+  growing-front : (rest : List ℕ) {m : ℕ} → Growing W T k slots members m → Growing W T k slots (members ++ rest) m
+  growing-front rest G =
+      growing-same (omega (arith, G .space, length-append members rest)) (λ i h. List·getD-append members rest 0 i (omega (arith, h, G .space))) G
+
+  pub told-front : (rest : List ℕ) {r : ℕ} → ForceTold W T k slots members r → ForceTold W T k slots (members ++ rest) r
+  told-front rest o = record {
+    growing = λ t. growing-front rest (o .growing t);
+    closed = o .closed;
+    refutes = λ t. let f = o .refutes t in record { count = f .count; sum = f .sum; growing = growing-front rest (f .growing); refuted = f .refuted };
+  }
 
 -- ---- forced copies taken away
 listed-step : {inputs gates width : ℕ} {slots members : List ℕ} {i : ℕ} → Listed inputs gates width slots members i → i < length members

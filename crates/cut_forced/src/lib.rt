@@ -19,7 +19,7 @@ ghost use Rattle.signed.specs.Range.{labelIn};
 ghost use Rattle.cut_circuit.specs.Packed.{packedOf, SlotAsked};
 ghost use Rattle.cut_forced.specs.Slots.{holding, Unmarked};
 ghost use Rattle.cut_forced.specs.Outside.{OneMore, OutsideAsked, PinsOutside, FewAsked, FewTold};
-ghost use Rattle.cut_forced.specs.Forcing.{target, HoldAsked, Added, AddAsked, LowAsked, PinAsked, PinTold, MemberAsked, MemberTold, GrowAsked, GrowTold, ForceAsked, ForceTold, Listed};
+ghost use Rattle.cut_forced.specs.Forcing.{target, HoldAsked, Added, AddAsked, LowAsked, PinAsked, PinTold, MemberAsked, MemberTold, GrowAsked, GrowTold, ForceAsked, ForceTold, SameFrom, Listed};
 
 // A question: has the gate a k-cut of at most this height, for period phi?
 pub struct Query {
@@ -30,7 +30,7 @@ pub struct Query {
 }
 
 // Whether the copy y is low enough for a leaf.
-fn low(width: usize, labels: &[i64], phi: usize, h: i64, y: usize) -> bool
+pub fn low(width: usize, labels: &[i64], phi: usize, h: i64, y: usize) -> bool
     requires { ⌜ LowAsked width (now labels) phi y ⌝ }
     ensures yes { λ r. ⌜ (r ≡ true → Low phi (labelIn (now (labels .entry))) h (copy (y / width) (y % width))) ⌝ }
     ensures no { λ r. ⌜ (r ≡ false → ¬ Low phi (labelIn (now (labels .entry))) h (copy (y / width) (y % width))) ⌝ }
@@ -154,6 +154,7 @@ fn grow(
 }
 
 // The forced set of gate g and threshold h, in slots and listed: how many copies it has. Above k for each gate there is no cut, and so many are forced as the result is above.
+// What stands behind the places of the members is kept.
 pub fn force(
     s: Extent,
     net: &[usize],
@@ -163,13 +164,15 @@ pub fn force(
     q: Query,
 ) -> usize
     requires { ⌜ ForceAsked (packedOf s (now net) []) (now labels) (q .phi) (q .k) (q .gate) (now slots) (now members) ⌝ }
-    ensures { λ r. ⌜ ForceTold (packedOf s (now (net .entry)) []) (target (now (labels .entry)) (q .phi) (s .inputs + q .gate) (q .height)) (q .k) (now (slots .exit)) (now (members .exit)) r ⌝ }
+    ensures told { λ r. ⌜ ForceTold (packedOf s (now (net .entry)) []) (target (now (labels .entry)) (q .phi) (s .inputs + q .gate) (q .height)) (q .k) (now (slots .exit)) (now (members .exit)) r ⌝ }
+    ensures behind { λ _. ⌜ SameFrom (q .k * s .gates) (now (members .entry)) (now (members .exit)) ⌝ }
 {
     let g = q.gate;
     let x = (s.inputs + g) * s.width;
+    let most = q.k * s.gates;
     hold(s.gates, slots, g, 0, 0);
     put_number(members, 0, x);
-    grow(s, net, slots, members, labels, q)
+    grow(s, net, slots, &mut members[..most], labels, q)
 }
 
 // Takes the forced copies of the members' gates away.

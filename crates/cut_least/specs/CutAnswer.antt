@@ -197,6 +197,10 @@ module _ {C : Circuit} {N : Net} {t l : List ℕ} {k r : ℕ} (L : Layout C) (H 
     leaf-mark : {y : ℕ} → Graphs.Leaf (graphOf C) (Found (graphOf C) (viewOf t)) y → LeafMark t y
     leaf-mark w = record { out = leaf-out (lawful L) done w; inn = leaf-apart (lawful L) done w .1 }
 
+    -- a leaf of the set found is marked, by its number
+    pub leaf-marked : {c : Copy} → Leaf N (coneOf C t) c → LeafMark t (encode C c) × (c ≡ decode C (encode C c))
+    leaf-marked {c} w = let n = leaf-number w in (leaf-mark (n .0), sym (decode-encode C c (n .1)))
+
     -- There are at most r of them.
     pub few-marks : (M : List ℕ) → Distinct M → ((y : ℕ) → y ∈ M → LeafMark t y) → length M ≤ r
     few-marks M d f = omega (arith, few-leaves (lawful L) done (order L H loopless) (o .flowing .state) d (λ y h. mark-leaf y (f y h)), o .flowing .count)
@@ -228,9 +232,9 @@ module _ {C : Circuit} {N : Net} {t l : List ℕ} {k r : ℕ} (L : Layout C) (H 
 
           complete : (y : Copy) → Leaf N (coneOf C t) y → y ∈ copiesFrom nodes backs 0 m
           complete y h =
-              let n = leaf-number h in
-              let q = w .all (encode C y) (leaf-mark (n .0)) in
-              in-equal (sym (decode-encode C y (n .1)) ∙ (ap (decode C) (sym (q .2)) ∙ at-place (q .0) (q .1))) (in-copiesFrom nodes backs 0 m (q .0) (omega arith) (omega (arith, q .1)))
+              let n = leaf-marked h in
+              let q = w .all (encode C y) (n .0) in
+              in-equal (n .1 ∙ (ap (decode C) (sym (q .2)) ∙ at-place (q .0) (q .1))) (in-copiesFrom nodes backs 0 m (q .0) (omega arith) (omega (arith, q .1)))
 
       pub collected-count : m ≡ r
       collected-count = sym (length-copiesFrom nodes backs 0 m) ∙ found-count collected-leaves

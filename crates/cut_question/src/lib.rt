@@ -4,15 +4,16 @@ use cut_forced::Query;
 use cut_forced::few_outside;
 use cut_forced::force;
 use cut_forced::unforce;
+use cut_kept::keep_cut;
 use cut_least::clear;
 use cut_least::leaves;
 use cut_least::min_cut;
 ghost use Rattle.cut_circuit.specs.Packed.{packedOf};
 ghost use Rattle.cut_least.specs.CutRounds.{Cleared, CutAsked};
 ghost use Rattle.cut_question.specs.Question.{Asks, Decides, Takes, Written};
-ghost use Rattle.cut_question.specs.Separating.{AtRest, CutSeen, LeavesAsked, LeavesTold, LeavesSeen};
+ghost use Rattle.cut_question.specs.Separating.{AtRest, SeparateAsked, SeenKept, LeavesAsked, LeavesTold, LeavesSeen};
 
-// The minimum cut of a forced set, or k + 1; the table is cleared again.
+// The minimum cut of the forced set of the first f members, or k + 1; its leaves are kept, and the table is cleared again.
 fn separate(
     s: Extent,
     net: &[usize],
@@ -21,14 +22,26 @@ fn separate(
     list: &mut [u32],
     stack: &mut [u32],
     counts: &mut [u32],
-    members: &[u32],
-    k: usize,
+    members: &mut [u32],
+    f: usize,
+    q: Query,
 ) -> usize
-    requires { ⌜ CutAsked (packedOf s (now net) (now slots)) (now members) (now table) (now list) (now stack) (now counts) k ⌝ }
+    requires { ⌜ SeparateAsked (packedOf s (now net) (now slots)) (now members) f (now table) (now list) (now stack) (now counts) (q .k) (q .gate) ⌝ }
     ensures cleared { λ _. ⌜ Cleared (now (table .exit)) (now (list .exit)) ⌝ }
-    ensures seen { λ r. ⌜ CutSeen (packedOf s (now (net .entry)) (now (slots .entry))) k r ⌝ }
+    ensures kept { λ r. ⌜ SeenKept (packedOf s (now (net .entry)) (now (slots .entry))) (q .k) (q .gate) (now (members .entry)) (now (members .exit)) r ⌝ }
 {
-    let r = min_cut(s, net, slots, table, list, stack, counts, members, k);
+    let r = min_cut(
+        s,
+        net,
+        slots,
+        table,
+        list,
+        stack,
+        counts,
+        &members[..f],
+        q.k,
+    );
+    keep_cut(s, table, list, members, q, r);
     clear(table, list);
     r
 }
@@ -105,7 +118,7 @@ pub fn question(
         unforce(s, slots, &members[..f]);
         return k;
     }
-    let r = separate(s, net, slots, table, list, stack, counts, &members[..f], k);
+    let r = separate(s, net, slots, table, list, stack, counts, members, f, q);
     unforce(s, slots, &members[..f]);
     r
 }

@@ -1,12 +1,12 @@
 // The least period of a net read, with checks 9 to 11 and without a cover: what mark asks of a net.
 use cut_circuit::Extent;
 use cut_circuit::link;
+use job_plan::MEMBERS;
 use job_plan::extent;
 use job_scratch::clear_first;
 use job_settle::Settled;
 use label_aim::Aim;
 use label_period::least_period;
-use limits::COPIES;
 use limits::GATES;
 use limits::HELD;
 use limits::LIST;
@@ -37,7 +37,7 @@ fn least_in(s: Extent, n: usize, net: &[usize], k: usize, table: &mut [u8]) -> u
     let mut list = [0u32; LIST];
     let mut stack = [0u32; STACK];
     let mut counts = [0u32; NODES];
-    let mut members = [0u32; COPIES];
+    let mut members = [0u32; MEMBERS];
     let mut labels = [0i64; NODES];
     let a = Aim {
         phi: 0,

@@ -8,13 +8,15 @@ use lib.IntN.{ℤ}
 use lib.ListN.{length, take, drop, replicate, length-replicate, length-append, length-drop}
 use lib.Seq.{length-take-le, take-at, getD-drop}
 use Rattle.sequences.specs.Zeros.{zeros}
-use Rattle.limits.specs.Limits.{mostPins, mostCopies, mostNodes, mostTable, mostList, mostStack, mostHeld}
+use Rattle.limits.specs.Limits.{mostGates, mostPins, mostCopies, mostNodes, mostTable, mostList, mostStack, mostHeld}
 use Rattle.cover_records.specs.Rows.{sizesIn, nodesIn, backsIn}
 use Rattle.cone_descent.specs.Descent.{Clear}
 use Rattle.label_theory.specs.Labels.{Mode}
 use Rattle.cut_circuit.specs.Circuit.{Circuit, total}
 use Rattle.cut_circuit.specs.Packed.{packedOf, sourcesAt, countsAt}
 use Rattle.cut_circuit.specs.declared.Extent.{Extent}
+use Rattle.cut_kept.specs.KeptCuts.{rowPlaces, unbordered}
+use Rattle.cut_kept.specs.KeptLaws.{kept-none}
 use Rattle.cut_question.specs.Separating.{AtRest}
 use Rattle.label_visit.specs.LabelVisits.{wiring, topsIn}
 use Rattle.label_sweep.specs.Sweeps.{outsIn, delaysIn}
@@ -23,6 +25,10 @@ use Rattle.cone_luts.specs.Luts.{Tabulates}
 use Rattle.job_plan.specs.Found.{capIn, PeriodFound}
 use Rattle.job_plan.specs.Planned.{Engine, Roomy}
 use Rattle.job_plan.specs.Covering.{few-leaves, rising-leaves}
+
+-- the members, and behind them the rows of kept cuts
+abbrev pub mostMembers : ℕ
+mostMembers = mostCopies + rowPlaces * mostGates
 
 -- ---- the first bytes of a table
 
@@ -49,13 +55,13 @@ module _ {M : Mode} {s : Extent} {n : ℕ} {net ts : List ℕ} {k target : ℕ} 
   part-size : length (take ((s .inputs + s .gates) * s .width) t) ≡ (s .inputs + s .gates) * s .width
   part-size = length-take-le ((s .inputs + s .gates) * s .width) t (let a = e .size in let b = e .fits in omega arith)
 
-  pub engine-rest : AtRest (packedOf s net (replicate mostHeld 0)) (take ((s .inputs + s .gates) * s .width) t) (replicate mostList 0) (replicate mostStack 0) (replicate mostNodes 0) (replicate mostCopies 0)
+  pub engine-rest : AtRest (packedOf s net (replicate mostHeld 0)) (take ((s .inputs + s .gates) * s .width) t) (replicate mostList 0) (replicate mostStack 0) (replicate mostNodes 0) (replicate mostMembers 0)
   engine-rest = record {
     resting = record {
       layout = e .layout;
       chains = e .chains;
       unforced = λ g h. zeros mostHeld g;
-      space = let c = length-replicate {A = ℕ} mostCopies 0 in let b = e .wires .gates in omega arith;
+      space = let c = length-replicate {A = ℕ} mostMembers 0 in let b = e .wires .gates in omega arith;
     };
     sized = record {
       room = part-size;
@@ -66,6 +72,7 @@ module _ {M : Mode} {s : Extent} {n : ℕ} {net ts : List ℕ} {k target : ℕ} 
       brief = let c = length-replicate {A = ℕ} mostList 0 in omega arith;
     };
     cleared = record { zero = clear-take ((s .inputs + s .gates) * s .width) t (e .clear); empty = zeros mostList 0 };
+    kept = kept-none (unbordered (packedOf s net (replicate mostHeld 0))) (replicate mostMembers 0) (let c = length-replicate {A = ℕ} mostMembers 0 in let b = e .wires .gates in omega arith) (zeros mostMembers);
   }
 
   pub engine-chooses : {rows luts : List ℕ} {ls′ : List ℤ} {r : ℕ} → Roomy (s .gates) rows luts → PeriodFound M (wiring s net) k target (topsIn s net (capIn M)) (outsIn s net) (delaysIn s net n) n ls′ r

@@ -3,6 +3,7 @@ use cone_luts::tabulate;
 use cover_roots::choose;
 use cut_circuit::Extent;
 use cut_circuit::link;
+use cut_kept::ROW;
 use job_scratch::clear_first;
 use label_aim::Aim;
 use label_lines::greater;
@@ -10,6 +11,7 @@ use label_period::least_period;
 use label_sweep::reach;
 use limits::BEYOND;
 use limits::COPIES;
+use limits::GATES;
 use limits::HELD;
 use limits::LIST;
 use limits::NODES;
@@ -34,6 +36,9 @@ ghost use Rattle.job_plan.specs.Counts.{MostCount, Counted, SumCounts, E
 ghost use Rattle.cover_records.specs.Rows.{keptIn};
 ghost use Rattle.job_plan.specs.Found.{capIn, PeriodAsked, PeriodFound};
 ghost use Rattle.job_plan.specs.Planned.{Planned, Planning, PlanKept, Roomy, Engine, CoverTold};
+
+// The places of the engine's members, and of the rows of kept cuts behind them.
+pub const MEMBERS: usize = COPIES + ROW * GATES;
 
 // The largest of n counts from a place on.
 fn most_count(counts: &[usize], at: usize, n: usize) -> usize
@@ -164,7 +169,7 @@ fn cover(
     let mut list = [0u32; LIST];
     let mut stack = [0u32; STACK];
     let mut counts = [0u32; NODES];
-    let mut members = [0u32; COPIES];
+    let mut members = [0u32; MEMBERS];
     let cap = cap_of(forward);
     let asked = Aim {
         phi: target,

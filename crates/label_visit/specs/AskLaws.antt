@@ -15,6 +15,9 @@ use Rattle.cut_circuit.specs.Circuit.{Circuit, Layout}
 use Rattle.cut_circuit.specs.Bridge.{Holds}
 use Rattle.cut_circuit.specs.Packed.{packedOf}
 use Rattle.cut_circuit.specs.declared.Extent.{Extent}
+use Rattle.cut_kept.specs.KeptCuts.{rowIn}
+use Rattle.cut_kept.specs.Keeping.{ServeAsked, Serves}
+use Rattle.cut_kept.specs.KeptLaws.{serving-cut}
 use Rattle.cut_question.specs.Question.{Asks, Decides}
 use Rattle.cut_question.specs.Separating.{AtRest}
 use Rattle.label_aim.specs.Aims.{Bordering}
@@ -47,6 +50,7 @@ module _ {s : Extent} {net slots t l stk cnt members : List ℕ} where
         };
         sized = record { room = r .sized .room; counters = r .sized .counters; deep = r .sized .deep; short = r .sized .short; long = r .sized .long; brief = r .sized .brief };
         cleared = r .cleared;
+        kept = r .kept;
       }
 
 -- and the larger one, which it had before
@@ -75,6 +79,7 @@ rest-widen b o r =
       };
       sized = record { room = r .sized .room; counters = r .sized .counters; deep = r .sized .deep; short = r .sized .short; long = r .sized .long; brief = r .sized .brief };
       cleared = r .cleared;
+      kept = r .kept;
     }
 
 module _ {M : Mode} {δ : ℕ} {s : Extent} {net : List ℕ} {ls : List ℤ} {φ k g : ℕ} {p : ℤ} where
@@ -106,6 +111,15 @@ module _ {M : Mode} {δ : ℕ} {s : Extent} {net : List ℕ} {ls : List ℤ} {φ
       holds : (N : Net) → Sane (wiring s net) k N → Holds (packedOf (bordered s (e .border)) net slots) N
       holds N S = record { inputs = S .holds .inputs; gates = S .holds .gates; lists = S .holds .lists }
 
+  -- the kept cut
+  answered-kept : {slots t l stk cnt members : List ℕ} {e : Extent} → AtRest (packedOf s net slots) t l stk cnt members → Bordering M φ (p -ℤ pos δ) s e → Topped M φ (p -ℤ pos δ) → g < s .gates
+      → Serves (rowIn (s .gates) members g) (s .width) (e .border) k φ (labelIn ls) p → Answered M δ (wiring s net) k φ ls g p k
+  answered-kept {e = e} o B t h w = record {
+    none = λ N S q. absurd (omega (arith, q));
+    some = λ N S few f.
+        serving-cut (o .kept .cut g h (w .some) N (record { inputs = S .holds .inputs; gates = S .holds .gates; lists = S .holds .lists }) (S .ranked) (S .loopless)) w (B .border .bordered _ (S .border) t .inside);
+  }
+
 -- what may be asked, whatever the border
 asks-narrow : {s : Extent} {net slots : List ℕ} {ls : List ℤ} {φ k g : ℕ} (b : ℕ) → Ready s ls φ k → g < s .gates → Asks (packedOf (bordered s b) net slots) ls φ k g
 asks-narrow b r h = record { labels = r .size; small = r .small; shift = r .shift; gate = h; least = r .least; limit = r .limit; fits = r .fits }
@@ -123,6 +137,19 @@ module _ {M : Mode} {φ : ℕ} {h : ℤ} {s e : Extent} (B : Bordering M φ h s 
 
   pub asks-to : {net slots : List ℕ} {ls : List ℤ} {k g : ℕ} → Ready s ls φ k → g < s .gates → Asks (packedOf e net slots) ls φ k g
   asks-to {net} {slots} {ls} {k} {g} r l = subst (λ (x : Extent). Asks (packedOf x net slots) ls φ k g) (sym (bordering-is B)) (asks-narrow (e .border) r l)
+
+  -- what may be asked of a kept cut
+  pub serve-asked : {net slots t l stk cnt members : List ℕ} {ls : List ℤ} {k g : ℕ} → AtRest (packedOf s net slots) t l stk cnt members → Ready s ls φ k → g < s .gates
+      → ServeAsked (e .inputs) (e .gates) (e .width) members ls φ g
+  serve-asked {members = members} {ls = ls} {g = g} o r h =
+      subst (λ (x : Extent). ServeAsked (x .inputs) (x .gates) (x .width) members ls φ g) (sym (bordering-is B))
+      (record { gate = h; places = o .kept .room; fits = o .kept .fits g h; wide = let w = o .resting .layout .wide in omega (arith, w); labels = r .size; small = r .small; shift = r .shift })
+
+-- **the kept cut**
+pub answered-served : {M : Mode} {δ φ k g : ℕ} {p : ℤ} {s e : Extent} {net slots t l stk cnt members : List ℕ} {ls : List ℤ} → AtRest (packedOf s net slots) t l stk cnt members
+    → Bordering M φ (p -ℤ pos δ) s e → Topped M φ (p -ℤ pos δ) → g < s .gates → Serves (rowIn (e .gates) members g) (e .width) (e .border) k φ (labelIn ls) p → Answered M δ (wiring s net) k φ ls g p k
+answered-served {φ = φ} {k = k} {g = g} {p = p} {s = s} {e = e} {members = members} {ls = ls} o B t h w =
+    answered-kept o B t h (subst (λ (x : Extent). Serves (rowIn (x .gates) members g) (x .width) (e .border) k φ (labelIn ls) p) (bordering-is B) w)
 
 -- **the engine's answer**
 pub answered : {M : Mode} {δ φ k g r : ℕ} {p : ℤ} {s e : Extent} {net slots : List ℕ} {ls : List ℤ} → Bordering M φ (p -ℤ pos δ) s e → Topped M φ (p -ℤ pos δ)

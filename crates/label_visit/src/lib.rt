@@ -1,6 +1,7 @@
 // One visit of a gate: its label raised to what every labelling reaches, unless nothing can change or it would pass its ceiling.
 use cut_circuit::Extent;
 use cut_forced::Query;
+use cut_kept::serves;
 use cut_question::question;
 use label_aim::Aim;
 use label_aim::narrowed;
@@ -65,7 +66,7 @@ pub fn top_of(s: Extent, net: &[usize], cap: usize, g: usize) -> usize
     net[(2 + 3 * PINS) * s.gates + (s.inputs + s.gates) + s.gates + g]
 }
 
-// Whether gate g has a k-cut no higher than p whose cone suits the mode: a number of at most k where it has one, else a number above k.
+// Whether gate g has a k-cut no higher than p whose cone suits the mode: a number of at most k where it has one, else a number above k. A kept cut that is low enough is one.
 fn ask(
     s: Extent,
     net: &[usize],
@@ -95,6 +96,9 @@ fn ask(
         gate: g,
         height: p,
     };
+    if serves(e, members, labels, q) {
+        return a.k;
+    }
     question(
         e,
         net,

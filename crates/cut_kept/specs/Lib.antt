@@ -1,0 +1,5 @@
+pub mod KeptCuts
+pub mod Keeping
+pub mod GatherLaws
+pub mod RowLaws
+pub mod KeptLaws
