@@ -23,18 +23,18 @@ library:
 	@.ci/progress .rt-library.log check kamfelu
 	@.ci/progress .rt-library.log staticlib kamfelu
 
-# Times of map, plain and forward, of mark and of the second mapper on the same nets, and ABC's periods where it is installed; then of align and a plain loop, of mark on records with large cones, and of the bench program.
+# Times of map, plain and forward, of mark and of the second mapper on the same nets, and ABC's periods where it is installed; then of align and a plain loop, of mark on records with large cones, and of the bench program and the change-over.
 bench: library programs
 	cd tests && cargo run --profile timing --offline --quiet -p library --bin timing
 	cd tests && cargo run --profile timing --offline --quiet -p library --bin bench_align
 	cd tests && cargo run --profile timing --offline --quiet -p library --bin bench_leaves
 	cd tests && cargo run --profile timing --offline --quiet -p library --bin bench_steps
 
-# The deepest stack use seen of a call of map, plain or forward.
+# The deepest stack use seen of a call of map, plain or forward, or of the change-over.
 depth: library
 	cd tests && cargo run --release --offline --quiet -p library --bin depth
 
-# Map, plain and forward, mark and the programs listing and bench against the second mapper for MINUTES minutes, with fresh nets.
+# Map, plain and forward, the change-over, mark and the programs listing and bench against the second mapper for MINUTES minutes, with fresh nets.
 MINUTES ?= 20
 soak: library programs
 	cd tests && cargo run --release --offline --quiet -p library --bin soak -- $(MINUTES) $(SEED)

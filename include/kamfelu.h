@@ -17,21 +17,23 @@ extern "C" {
    - Each pointer points to as many bytes as the length behind it says, for the whole call. A pointer may be NULL where
      its length is 0.
    - Areas that are written (cover, scratch, loader, contents) overlap no other area, and no other thread uses them
-     during the call. Net and record are only read.
+     during the call. Net, pairs and record are only read.
    - A call takes less than 256 KiB of the calling thread's stack.
    - The library keeps nothing between calls; calls on different areas may run at the same time.
    - A net record has at most 803 bytes. It may end with a section, the nodes' values before step 0, from which the bench
-     program starts and forward map's contents come; bit 7 of its first byte says so. All other answers and areas are then
-     those for the net without it.
+     program and the change-over start and forward map's contents come; bit 7 of its first byte says so. All other answers
+     and areas are then those for the net without it.
 
    Refusals. Map checks 1 to 12, and 20 between 3 and 4 where a loader area is lent; forward map 1 to 11, 20 in the same
-   way, then 21 where a contents area is lent, then 22; mark 1, 3 to 11 and 13 to 18, find root 19, align 23; the bench
-   program 1, 4 to 11, then 21. The first that fails is told, of 4 to 8 the first met in one walk over the net's bytes.
+   way, then 21 where a contents area is lent, then 22; the change-over as forward map, and 3 where no contents area is
+   lent; mark 1, 3 to 11 and 13 to 18, find root 19, align 23; the bench program 1, 4 to 11, then 21. The first that fails
+   is told, of 4 to 8 the first met in one walk over the net's bytes.
 
     1  k is not 2 to 6.
     2  The target is above 32.
-    3  The cover area has fewer than 962 bytes (map only), the scratch fewer than 65,536, or a contents area is lent that
-       has fewer than 20,592 (forward map only).
+    3  The cover area has fewer than 962 bytes (map, forward map and change-over only), the scratch fewer than 65,536, a
+       contents area is lent that has fewer than 20,592 (forward map and change-over only), or none is lent (change-over
+       only).
     4  The net ends where a byte is still due.
     5  The number of inputs is not 1 to 16, that of gates not 1 to 32, or that of outputs not 1 to 16.
     6  A byte of the net has a value that its place forbids: a pin map that is 0 or above 63, a register map with a
@@ -55,9 +57,9 @@ extern "C" {
    18  Some chain of LUTs without a register between them is longer than the period.
    19  The record ends or breaks its layout before a root that is not below the gate, or before its last LUT's end (find
        root only).
-   20  A loader area is lent that has fewer than 256 bytes (map with a loader area and forward map only).
-   21  A run or first contents are wanted of a net without a section (bench and forward map only).
-   22  No forward cover meets the target (forward map only).
+   20  A loader area is lent that has fewer than 256 bytes (map with a loader area, forward map and change-over only).
+   21  A run or contents are wanted of a net without a section (bench, forward map and change-over only).
+   22  No forward cover meets the target (forward map and change-over only).
    23  A capture has more than 4,096 words (align only). */
 
 /* Map: a cover of a net for LUTs with k inputs that meets the target, or the least period for target 0.
@@ -118,6 +120,32 @@ int64_t kamfelu_map_forward(const uint8_t *net, size_t net_length, uint32_t k, u
                             size_t cover_length, uint8_t *scratch, size_t scratch_length, uint8_t *loader,
                             size_t loader_length, uint8_t *contents, size_t contents_length);
 
+/* Change-over: forward map for a board that takes over from a running unit. The net first runs on input pairs from its
+   section, and the contents are those of the step behind them.
+
+   net, target, cover, scratch, loader   as for kamfelu_map_forward
+   k                                     as for kamfelu_map_forward, the new board's
+   pairs                                 two bytes for each step from 0 on, low first, input i in bit i; higher bits are
+                                         ignored, and a lone last byte is no step. Any number of steps; the length is in
+                                         bytes
+   contents                              the contents area, at least 20,592 bytes, else refusal 3, with length 0 too. The
+                                         net needs a section, else refusal 21
+
+   Returns what kamfelu_map_forward with this contents area returns, and leaves the same in cover area, scratch and loader
+   area: the pairs change no cover. A refusal leaves cover area, loader area and contents area as they were.
+
+   The contents stand in front of the contents area in the same order, and as many. With T the number of whole pairs,
+   register i of a connection, 1 the newest, holds the value that u has in the net at step T - i - q; below step 0 that is
+   the section's. Where that is step T or later no input from step T on plays a part. Without a whole pair the call is
+   kamfelu_map_forward. Bytes behind the contents are kept. The pairs are only read.
+
+   A board that starts with these contents at step T has at every step from T on, for all inputs, the outputs of the net
+   that ran on the pairs and goes on. */
+int64_t kamfelu_change_over(const uint8_t *net, size_t net_length, uint32_t k, uint32_t target, const uint8_t *pairs,
+                            size_t pairs_length, uint8_t *cover, size_t cover_length, uint8_t *scratch,
+                            size_t scratch_length, uint8_t *loader, size_t loader_length, uint8_t *contents,
+                            size_t contents_length);
+
 /* Mark: whether a record is that of a cover of a net for LUTs with k inputs that meets the period it states, and by how
    much that period is above the least one.
 
@@ -128,8 +156,8 @@ int64_t kamfelu_map_forward(const uint8_t *net, size_t net_length, uint32_t k, u
 
    Returns the excess, the stated period minus the least period, 0 or more; or minus the number of the refusal: 4 to 11
    for the net, 13 to 18 for the record. After refusals 1 and 3 the scratch is as it was; after every other outcome its
-   first 65,536 bytes are 0 and the rest is kept. Every record that kamfelu_map or kamfelu_map_forward writes is accepted
-   for the same net and k. */
+   first 65,536 bytes are 0 and the rest is kept. Every record that kamfelu_map, kamfelu_map_forward or kamfelu_change_over
+   writes is accepted for the same net and k. */
 int64_t kamfelu_mark(const uint8_t *net, size_t net_length, uint32_t k, const uint8_t *record, size_t record_length,
                      uint8_t *scratch, size_t scratch_length);
 

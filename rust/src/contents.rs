@@ -1,6 +1,6 @@
-//! The first contents of a board's registers, connection by connection.
+//! The contents of a board's registers, connection by connection.
 
-/// A connection of a board, and what its registers hold at first.
+/// A connection of a board, and what its registers hold at first, or at a change-over.
 #[derive(Clone, Copy, Debug, PartialEq, Eq)]
 pub struct Connection<'a> {
     pub reader: Reader,
@@ -20,14 +20,15 @@ pub enum Reader {
 }
 
 /// The connections of a cover in order, LUT by LUT and leaf by leaf, then the outputs, each with its
-/// part of the first contents.
+/// part of the contents.
 ///
 /// - `net`: a net record.
-/// - `record`: the cover record that [`map_forward`](crate::map_forward) wrote for it.
-/// - `contents`: the first contents, or the whole contents area.
+/// - `record`: the cover record that [`map_forward`](crate::map_forward) or
+///   [`change_over`](crate::change_over) wrote for it.
+/// - `contents`: the contents written with it, or the whole contents area.
 ///
 /// `None` if one of the records ends early, a leaf has no LUT, a connection would have fewer than 0
-/// registers, or the contents end before the last one; never for what map_forward wrote.
+/// registers, or the contents end before the last one; never for what these two wrote.
 ///
 /// ```
 /// use kamfelu::{connections, map_forward, Reader, CONTENTS_AREA, COVER_AREA, SCRATCH};

@@ -1,8 +1,9 @@
 //! Kamfelu's proved jobs, called through their static library: [`map`] and [`mark`] for LUT covers
 //! with moved registers, [`map_loader`] for a cover and its tables as a chip's loader takes them,
-//! [`map_forward`] for a forward cover and what its registers hold at first, [`connections`] for the
-//! registers of each connection, [`short_map`] and [`short_mark`] for the short course, [`find_root`] for a stored cover, [`class`]
-//! for three-input tables, [`align`] for two captures of one unit.
+//! [`map_forward`] for a forward cover and what its registers hold at first, [`change_over`] for a
+//! board that takes over from a running unit, [`connections`] for the registers of each connection,
+//! [`short_map`] and [`short_mark`] for the short course, [`find_root`] for a stored cover,
+//! [`class`] for three-input tables, [`align`] for two captures of one unit.
 //!
 //! `make library` in the repository writes `target/staticlib/libkamfelu.a`, which the build script
 //! links (x86-64 Linux). A project of your own names this folder:
@@ -18,8 +19,8 @@
 //! - Nothing is assumed of the contents of any argument. docs/FORMATS.md explains net records and
 //!   cover records.
 //! - A net record has at most 803 bytes. It may end with a section, the nodes' values before step 0,
-//!   from which the bench program starts and the first contents of [`map_forward`] come; all other
-//!   answers and areas are then those for the net without it.
+//!   from which the bench program and [`change_over`] start and the first contents of [`map_forward`]
+//!   come; all other answers and areas are then those for the net without it.
 //! - A call takes less than 256 KiB of the calling thread's stack.
 //!   See [`STACK`].
 //! - Nothing is kept between calls; threads may call at the same time.
@@ -83,6 +84,23 @@ extern "C" {
         net_len: usize,
         k: u32,
         target: u32,
+        cover: *mut u8,
+        cover_len: usize,
+        scratch: *mut u8,
+        scratch_len: usize,
+        loader: *mut u8,
+        loader_len: usize,
+        contents: *mut u8,
+        contents_len: usize,
+    ) -> i64;
+
+    fn kamfelu_change_over(
+        net: *const u8,
+        net_len: usize,
+        k: u32,
+        target: u32,
+        pairs: *const u8,
+        pairs_len: usize,
         cover: *mut u8,
         cover_len: usize,
         scratch: *mut u8,
@@ -334,6 +352,77 @@ pub fn map_forward(
     })
 }
 
+/// [`map_forward`] for a board that takes over from a running unit: the net first runs on input
+/// pairs from its section, and the contents are those of the step behind them.
+///
+/// - `net`, `k`, `target`, `cover`, `scratch`, `loader`: as for [`map_forward`]. `k` is the new
+///   board's.
+/// - `pairs`: two bytes for each step from 0 on, low first, input i in bit i; higher bits are
+///   ignored, and a lone last byte is no step. Any number of steps.
+/// - `contents`: the contents area, at least [`CONTENTS_AREA`] bytes. One must be lent, and the net
+///   needs a section.
+///
+/// `Ok` has the length of the cover record. Cover area, scratch and loader area are left as by
+/// [`map_forward`]: the pairs change no cover. The contents have the same order, and [`connections`]
+/// gives each connection its own. Register i of a connection, 1 the newest, from a node with lag q
+/// holds the value that the node has in the net at step T - i - q, where T is the number of whole
+/// pairs; below step 0 that is the section's. A board that starts with them at step T has the
+/// outputs of the net that ran all along, at every step from T on and for all inputs. Without a whole
+/// pair the call is [`map_forward`].
+///
+/// `Err` has the number of the refusal, in the order of [`map_forward`]; 3 for an empty contents
+/// area too.
+///
+/// ```
+/// use kamfelu::{change_over, CONTENTS_AREA, COVER_AREA, SCRATCH};
+///
+/// // Net C with a section: gate 2 = and(0:1, 1:1); one step before step 0 both inputs were 1.
+/// let net = [0x82, 1, 1, 3, 3, 0, 1, 1, 1, 8, 0, 2, 1, 1, 0];
+/// let (mut cover, mut scratch) = ([0; COVER_AREA], vec![0; SCRATCH]);
+/// let mut contents = vec![7; CONTENTS_AREA];
+/// let mut call = |pairs: &[u8]| {
+///     let areas = (&mut cover, &mut scratch, &mut contents);
+///     let answer = change_over(&net, 2, 1, pairs, areas.0, areas.1, &mut [], areas.2);
+///     (answer, contents[0])
+/// };
+/// assert_eq!(call(&[]), (Ok(13), 1)); // step 0: as map_forward
+/// assert_eq!(call(&[2, 0, 9]), (Ok(13), 0)); // step 1: input 0 was 0, so gate 2 is 0 there
+/// assert_eq!(call(&[2, 0, 3, 0]), (Ok(13), 1)); // step 2: both inputs were 1
+/// let answer = change_over(&net, 2, 1, &[], &mut cover, &mut scratch, &mut [], &mut []);
+/// assert_eq!(answer, Err(3)); // no contents area
+/// ```
+#[allow(clippy::too_many_arguments)]
+pub fn change_over(
+    net: &[u8],
+    k: u32,
+    target: u32,
+    pairs: &[u8],
+    cover: &mut [u8],
+    scratch: &mut [u8],
+    loader: &mut [u8],
+    contents: &mut [u8],
+) -> Result<usize, u8> {
+    // SAFETY: each pointer goes with its slice's length, and the slices are apart.
+    told(unsafe {
+        kamfelu_change_over(
+            net.as_ptr(),
+            net.len(),
+            k,
+            target,
+            pairs.as_ptr(),
+            pairs.len(),
+            cover.as_mut_ptr(),
+            cover.len(),
+            scratch.as_mut_ptr(),
+            scratch.len(),
+            loader.as_mut_ptr(),
+            loader.len(),
+            contents.as_mut_ptr(),
+            contents.len(),
+        )
+    })
+}
+
 /// Whether a record is that of a cover of a net for LUTs with k inputs that meets the period it
 /// states, and by how much that period is above the least one.
 ///
@@ -346,7 +435,8 @@ pub fn map_forward(
 ///
 /// `Err` has the number of the refusal: 1 for k, 3 for a scratch that is too short, 4 to 11 for the
 /// net, as in [`map`], 13 for a record that breaks the layout, 14 to 18 for one that is no such
-/// cover. A record that [`map`] or [`map_forward`] wrote is accepted for the same net and k.
+/// cover. A record that [`map`], [`map_forward`] or [`change_over`] wrote is accepted for the same net
+/// and k.
 ///
 /// After 1 and 3 the scratch is as it was; after every other outcome its first [`SCRATCH`] bytes
 /// are 0 and the rest is kept.

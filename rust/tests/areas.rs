@@ -1,6 +1,6 @@
 //! The areas' least lengths, in a thread with the stack that the crate names.
 
-use kamfelu::{map, map_forward, map_loader, mark};
+use kamfelu::{change_over, map, map_forward, map_loader, mark};
 use kamfelu::{CONTENTS_AREA, COVER_AREA, LOADER_AREA, SCRATCH, STACK};
 
 const NET_A: [u8; 20] = [2, 3, 1, 3, 0, 0, 1, 8, 3, 2, 2, 4, 1, 6, 1, 0, 3, 1, 0, 4];
@@ -50,13 +50,18 @@ fn loaded(cover: usize, scratch: usize, loader: usize) -> Result<usize, u8> {
     })
 }
 
-/// Forward map of net C at k 2 for period 1, with areas of these lengths.
-fn forward(lengths: [usize; 4]) -> Result<usize, u8> {
+/// Forward map of net C at k 2 for period 1, or a change-over behind these pairs, with areas of these lengths; the
+/// register then holds this byte.
+fn forward(pairs: Option<&'static [u8]>, held: u8, lengths: [usize; 4]) -> Result<usize, u8> {
     in_thread(move || {
         let [mut cover, mut scratch, mut loader, mut contents] =
             [(0, 7), (1, 9), (2, 5), (3, 3)].map(|(area, byte)| vec![byte; lengths[area]]);
-        let areas = (&mut cover, &mut scratch, &mut loader, &mut contents);
-        let mapped = map_forward(&NET_C, 2, 1, areas.0, areas.1, areas.2, areas.3);
+        let (room, work) = (&mut cover, &mut scratch);
+        let (image, first) = (&mut loader, &mut contents);
+        let mapped = match pairs {
+            None => map_forward(&NET_C, 2, 1, room, work, image, first),
+            Some(pairs) => change_over(&NET_C, 2, 1, pairs, room, work, image, first),
+        };
         let written = |area: &[u8], bytes: usize| {
             if mapped.is_ok() && !area.is_empty() {
                 bytes
@@ -66,7 +71,7 @@ fn forward(lengths: [usize; 4]) -> Result<usize, u8> {
         };
         assert!(has(&cover, &RECORD_C[..mapped.unwrap_or(0)], 7));
         assert!(has(&loader, &[0x88; 8][..written(&loader, 8)], 5));
-        assert!(has(&contents, &[1][..written(&contents, 1)], 3));
+        assert!(has(&contents, &[held][..written(&contents, 1)], 3));
         let left = if mapped == Err(3) { 9 } else { 0 };
         assert!(scratch.iter().all(|&byte| byte == left));
         mapped
@@ -95,26 +100,39 @@ fn least_lengths_with_a_loader() {
     }
 }
 
+/// The calls that write contents: forward map, and change-overs at steps 0, 1 and 2; what the register then holds.
+const CALLS: [(Option<&[u8]>, u8); 5] = [
+    (None, 1),
+    (Some(&[]), 1),
+    (Some(&[2]), 1),
+    (Some(&[2, 0, 9]), 0),
+    (Some(&[2, 0, 3, 0]), 1),
+];
+
 #[test]
-fn least_lengths_of_forward_map() {
-    for loader in [0, LOADER_AREA, LOADER_AREA + 1] {
-        for contents in [0, CONTENTS_AREA, CONTENTS_AREA + 1] {
-            assert_eq!(forward([COVER_AREA, SCRATCH, loader, contents]), Ok(13));
+fn least_lengths_with_contents() {
+    for (pairs, held) in CALLS {
+        let told = |lengths| forward(pairs, held, lengths);
+        // Without contents there is no change-over.
+        let none = if pairs.is_none() { Ok(13) } else { Err(3) };
+        for loader in [0, LOADER_AREA, LOADER_AREA + 1] {
+            for contents in [CONTENTS_AREA, CONTENTS_AREA + 1] {
+                assert_eq!(told([COVER_AREA, SCRATCH, loader, contents]), Ok(13));
+            }
+            assert_eq!(told([COVER_AREA, SCRATCH, loader, 0]), none);
         }
-    }
-    for loader in [0, 1, LOADER_AREA - 1, LOADER_AREA] {
-        for contents in [1, CONTENTS_AREA - 1] {
-            assert_eq!(forward([COVER_AREA, SCRATCH, loader, contents]), Err(3));
+        for loader in [0, 1, LOADER_AREA - 1, LOADER_AREA] {
+            for contents in [1, CONTENTS_AREA - 1] {
+                assert_eq!(told([COVER_AREA, SCRATCH, loader, contents]), Err(3));
+            }
+            for contents in [0, CONTENTS_AREA] {
+                assert_eq!(told([COVER_AREA - 1, SCRATCH, loader, contents]), Err(3));
+                assert_eq!(told([COVER_AREA, SCRATCH - 1, loader, contents]), Err(3));
+            }
         }
-        for contents in [0, CONTENTS_AREA] {
-            assert_eq!(forward([COVER_AREA - 1, SCRATCH, loader, contents]), Err(3));
-            assert_eq!(forward([COVER_AREA, SCRATCH - 1, loader, contents]), Err(3));
+        for loader in [1, LOADER_AREA - 1] {
+            let lengths = [COVER_AREA, SCRATCH, loader, CONTENTS_AREA];
+            assert_eq!(told(lengths), Err(20));
         }
-    }
-    for loader in [1, LOADER_AREA - 1] {
-        assert_eq!(
-            forward([COVER_AREA, SCRATCH, loader, CONTENTS_AREA]),
-            Err(20)
-        );
     }
 }

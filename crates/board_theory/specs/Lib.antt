@@ -6,3 +6,4 @@ pub mod SameInputs
 pub mod Wakes
 pub mod Contents
 pub mod ContentsLaws
+pub mod ContentsNear

@@ -1,4 +1,4 @@
--- What is read off the trace is the first contents of the cover's registers.
+-- What is read off the trace is the contents of the cover's registers at the step behind the pairs.
 use mathlib.Core.Path.{_≡_, refl, sym, ap, ap₂, subst, _∙_}
 use mathlib.Core.Bool.{Bool}
 use mathlib.Core.List.{List, [], _∷_, _++_, append-assoc, append-nil}
@@ -20,9 +20,10 @@ use Rattle.net_reader.specs.ReadAnswer.{arraysOf}
 use Rattle.net_reader.specs.declared.NetSizes.{NetSizes}
 use Rattle.net_checks.specs.Graphs.{outsOf, delaysOf}
 use Rattle.run_theory.specs.Bench.{valueAt, Counts}
-use Rattle.run_theory.specs.BenchBytes.{sectionIn}
+use Rattle.run_theory.specs.BenchBytes.{sectionIn, stepsOf, keptAfter}
 use Rattle.run_theory.specs.AgoLaws.{ago-same}
 use Rattle.run_values.specs.SheetLaws.{runnable-sound, runnable-counts}
+use Rattle.run_step.specs.Stepping.{RunTo}
 use Rattle.label_theory.specs.Lower.{leaf-node}
 use Rattle.cover_theory.specs.Covers.{Lut, lut, lagOf, registers, output, outputRegisters, IsCover}
 use Rattle.cover_theory.specs.Forward.{Forward}
@@ -33,13 +34,14 @@ use Rattle.cover_theory.specs.SharedCovers.{tap-reader}
 use Rattle.board_theory.specs.Boards.{held, leafContents, outputContents}
 use Rattle.board_theory.specs.Contents.{cells, leafCells, lutCells, outputCells, contentsBytes, quiet, contentsOf}
 use Rattle.board_theory.specs.ContentsLaws.{leaf-late, output-late}
+use Rattle.board_theory.specs.ContentsNear.{contents-near}
 use Rattle.cover_records.specs.Kept.{entriesIn}
 use Rattle.cover_records.specs.Rows.{keptIn, rowRoom, sizesIn, nodesIn, backsIn}
 use Rattle.cover_records.specs.Listing.{lagIn}
 use Rattle.cover_registers.specs.Counting.{marking, tapsOf, LeavesHeld}
 use Rattle.cover_registers.specs.LagLaws.{lags-same, taps-same}
 use Rattle.cover_registers.specs.CoverTaps.{lag-is, taps-are}
-use Rattle.cover_contents.specs.Traces.{Started, Traced, Tracing, samplesTo, MostSamples, cellsBack, tapCells, TapHeld, CellsAsked, RegistersAsked, Contenting}
+use Rattle.cover_contents.specs.Traces.{Traced, Tracing, samplesTo, MostSamples, cellsBack, tapCells, TapHeld, CellsAsked, RegistersAsked, Contenting}
 use Rattle.cover_contents.specs.TraceLaws.{tracing-traced, most-all}
 use Rattle.cover_contents.specs.CellLaws.{taps-one, taps-append}
 
@@ -171,9 +173,9 @@ module _ {N : Net} {k : ℕ} (es : List Entry) (cover : IsCover N k (asCover N e
 pub rows-room : (I G φ : ℕ) (labels : List ℤ) (rows : List ℕ) → LeavesHeld (keptIn I G φ labels rows []) → rowRoom G ≤ length rows
 rows-room I G φ labels rows h = omega (arith, h .backs, length-drop ((2 + mostPins) * G) rows)
 
-module _ {z : NetSizes} {net tables section kept known : List ℕ} (I G φ : ℕ) (labels : List ℤ) (rows : List ℕ) {work contents : List ℕ}
-    (q : Contenting z net tables section kept known (keptIn I G φ labels rows []) work contents)
-    {kept₁ kept₂ known₂ trace : List ℕ} {n : ℕ} (s : Started section kept kept₁ (z .inputs + z .gates)) (u : Tracing z net tables kept₁ known work kept₂ known₂ trace n)
+module _ {z : NetSizes} {net tables pairs kept known : List ℕ} (I G φ : ℕ) (labels : List ℤ) (rows : List ℕ) {work contents : List ℕ}
+    (q : Contenting z net tables kept known (keptIn I G φ labels rows []) work contents)
+    {kept₁ known₁ kept₂ known₂ trace : List ℕ} {n : ℕ} (s : RunTo z net tables pairs kept known kept₁ known₁ (stepsOf pairs)) (u : Tracing z net tables kept₁ known₁ work kept₂ known₂ trace n)
     (m : MostSamples (marking I G φ labels rows) G n) where
   sound : Sound (netIn (arraysOf z net tables))
   sound = runnable-sound (q .steps .runnable)
@@ -192,15 +194,16 @@ module _ {z : NetSizes} {net tables section kept known : List ℕ} (I G φ : ℕ
 
   -- **the bytes**
   pub contents-are : tapCells trace (entriesIn (marking I G φ labels rows)) (tapsOf (keptIn I G φ labels rows []) (outsOf z net) (delaysOf z net) (z .outputs))
-      ≡ contentsOf (netIn (arraysOf z net tables)) (asCover (netIn (arraysOf z net tables)) (entriesIn (keptIn I G φ labels rows []))) (sectionIn section)
+      ≡ contentsOf (netIn (arraysOf z net tables)) (asCover (netIn (arraysOf z net tables)) (entriesIn (keptIn I G φ labels rows []))) (keptAfter pairs (netIn (arraysOf z net tables)) kept)
   contents-are =
       sym (taps-lags trace (entriesIn (keptIn I G φ labels rows [])) (entriesIn (marking I G φ labels rows)) lags-are (tapsOf (keptIn I G φ labels rows []) (outsOf z net) (delaysOf z net) (z .outputs)))
       ∙ ap (tapCells trace (entriesIn (keptIn I G φ labels rows []))) taps-all
       ∙ all-written (entriesIn (keptIn I G φ labels rows [])) (q .cover) (q .forward) sound (runnable-counts (q .steps .runnable))
-      (subst (λ (x : ℕ). Traced x (sectionIn section) (valueAt (netIn (arraysOf z net tables)) (sectionIn section) quiet) trace n) (sym (size-netIn (arraysOf z net tables))) (tracing-traced (q .steps .runnable) s u)) enough
+      (subst (λ (x : ℕ). Traced x (sectionIn kept₁) (valueAt (netIn (arraysOf z net tables)) (sectionIn kept₁) quiet) trace n) (sym (size-netIn (arraysOf z net tables))) (tracing-traced u)) enough
+      ∙ contents-near (q .cover) (q .forward) sound (q .steps .runnable .loopless) (runnable-counts (q .steps .runnable)) (s .keeps)
 
   cells-asked : CellsAsked trace (entriesIn (marking I G φ labels rows)) (tapsOf (keptIn I G φ labels rows []) (outsOf z net) (delaysOf z net) (z .outputs)) contents
-  cells-asked = record { each = each; room = omega (arith, q .contentsRoom, ap length contents-are) }
+  cells-asked = record { each = each; room = omega (arith, q .contentsRoom (keptAfter pairs (netIn (arraysOf z net tables)) kept), ap length contents-are) }
     where
       each : (t : Tap) → t ∈ tapsOf (keptIn I G φ labels rows []) (outsOf z net) (delaysOf z net) (z .outputs) → TapHeld trace (entriesIn (marking I G φ labels rows)) t
       each t l =

@@ -1,4 +1,4 @@
--- Laws of the trace: sample by sample, and for the section that was kept at first.
+-- Laws of the trace: sample by sample, and for all inputs 0.
 use mathlib.Core.Path.{_≡_, refl, sym, ap, subst, _∙_, fun-ext}
 use mathlib.Core.Bool.{Bool, false}
 use mathlib.Core.List.{List, []}
@@ -9,7 +9,6 @@ use lib.IntN.{ℤ, pos}
 use lib.ListN.{length, getD, set, length-set}
 use lib.Seq.{getD-set-same, getD-set-other}
 use Rattle.limits.specs.Limits.{mostCount, mostNodes}
-use Rattle.net_model.specs.Net.{Net, IsNode}
 use Rattle.net_model.specs.Arrays.{netIn}
 use Rattle.net_model.specs.ArrayLaws.{size-netIn}
 use Rattle.net_model.specs.Tables.{bit, asNumber}
@@ -18,10 +17,7 @@ use Rattle.net_reader.specs.ReadAnswer.{arraysOf}
 use Rattle.net_reader.specs.declared.NetSizes.{NetSizes}
 use Rattle.run_theory.specs.Bench.{ago, valueAt}
 use Rattle.run_theory.specs.BenchBytes.{sectionIn, pairsIn}
-use Rattle.run_theory.specs.AgoLaws.{ago-agree}
-use Rattle.run_theory.specs.BenchLaws.{bench, bench-near, bench-unique}
 use Rattle.run_values.specs.Sheets.{Runnable, sheet}
-use Rattle.run_values.specs.SheetLaws.{runnable-sound, runnable-counts}
 use Rattle.run_step.specs.Stepping.{StepAsked, StepTold}
 use Rattle.run_step.specs.SteppingLaws.{run-none, run-more, step-asks}
 use Rattle.board_theory.specs.Contents.{quiet}
@@ -30,25 +26,7 @@ use Rattle.cover_records.specs.Listing.{lagIn}
 use Rattle.cover_registers.specs.Counting.{Within}
 use Rattle.cover_registers.specs.RegisterCountLaws.{within-pos, within-minus}
 use Rattle.cover_registers.specs.LagLaws.{lag-input, lag-beyond}
-use Rattle.cover_contents.specs.Traces.{Started, Sampled, Traced, Tracing, samplesTo, MostSamples}
-
--- ---- what is kept at first
-
-pub started-none : (section kept : List ℕ) → Started section kept kept 0
-started-none section kept = record { each = λ v h. absurd (omega arith); long = refl }
-
-pub started-more : {section kept kept′ : List ℕ} {n : ℕ} → Started section kept kept′ n → n < length kept′ → Started section kept (set kept′ n (getD section n 0)) (n + 1)
-started-more {section} {kept} {kept′} {n} s h = record { each = each; long = length-set kept′ n (getD section n 0) ∙ s .long }
-  where
-    each : (v : ℕ) → v < n + 1 → getD (set kept′ n (getD section n 0)) v 0 ≡ getD section v 0
-    each v l = go (ℕ-discrete v n)
-      where
-        go : Dec (v ≡ n) → getD (set kept′ n (getD section n 0)) v 0 ≡ getD section v 0
-        go (yes q) = ap (λ (x : ℕ). getD (set kept′ n (getD section n 0)) x 0) q ∙ getD-set-same kept′ n (getD section n 0) 0 h ∙ ap (λ (x : ℕ). getD section x 0) (sym q)
-        go (no m) = getD-set-other kept′ n v (getD section n 0) 0 m ∙ s .each v (omega arith)
-
-pub started-asks : {z : NetSizes} {net tables section kept kept′ known : List ℕ} {n : ℕ} → StepAsked z net tables kept known → Started section kept kept′ n → StepAsked z net tables kept′ known
-started-asks a s = record { runnable = a .runnable; room = omega (arith, a .room, s .long); size = a .size }
+use Rattle.cover_contents.specs.Traces.{Sampled, Traced, Tracing, samplesTo, MostSamples}
 
 -- ---- one sample
 
@@ -102,7 +80,7 @@ pub tracing-asks : {z : NetSizes} {net tables kept known trace kept′ known′ 
     → StepAsked z net tables kept′ known′
 tracing-asks a u = step-asks a (u .run)
 
--- ---- the trace from the section
+-- ---- the trace with all inputs 0
 
 no-bit : (v : ℕ) → bit 0 v ≡ false
 no-bit zero = refl
@@ -111,35 +89,11 @@ no-bit (suc v) = bit-half 0 v ∙ no-bit v
 no-pairs : pairsIn [] ≡ quiet
 no-pairs = fun-ext (λ v. fun-ext (λ t. no-bit v))
 
--- **the trace is that of the section with all inputs 0**
-pub tracing-traced : {z : NetSizes} {net tables section kept₀ kept known trace kept′ known′ trace′ : List ℕ} {n : ℕ} → Runnable z net tables → Started section kept₀ kept (z .inputs + z .gates)
-    → Tracing z net tables kept known trace kept′ known′ trace′ n
-    → Traced (z .inputs + z .gates) (sectionIn section) (valueAt (netIn (arraysOf z net tables)) (sectionIn section) quiet) trace′ n
-tracing-traced {z} {net} {tables} {section} {kept₀} {kept} {known} {trace} {kept′} {known′} {trace′} {n} r s u = record { each = λ t v h l. u .traced .each t v h l ∙ ap asNumber (same t v l) }
-  where
-    N : Net
-    N = netIn (arraysOf z net tables)
-
-    node : (v : ℕ) → v < z .inputs + z .gates → IsNode N v
-    node v l = omega (arith, size-netIn (arraysOf z net tables))
-
-    inside : (v : ℕ) → IsNode N v → v < z .inputs + z .gates
-    inside v i = omega (arith, size-netIn (arraysOf z net tables))
-
-    section-same : (v j : ℕ) → v < z .inputs + z .gates → sectionIn kept v j ≡ sectionIn section v j
-    section-same v j l = ap (λ (x : ℕ). bit x j) (s .each v l)
-
-    value-same : (v t : ℕ) → v < z .inputs + z .gates → valueAt N (sectionIn kept) (pairsIn []) v t ≡ valueAt N (sectionIn section) quiet v t
-    value-same v t l =
-        ap (λ (i : ℕ → ℕ → Bool). valueAt N (sectionIn kept) i v t) no-pairs
-        ∙ bench-unique (runnable-sound r) (r .loopless) (sectionIn section) quiet
-        (bench-near (runnable-sound r) (runnable-counts r) (λ w j i h. section-same w j (inside w i)) (bench (runnable-sound r) (r .loopless) (sectionIn kept) quiet)) v t (node v l)
-
-    same : (t v : ℕ) → v < z .inputs + z .gates
-        → ago (sectionIn kept v) (valueAt N (sectionIn kept) (pairsIn []) v) t mostCount ≡ ago (sectionIn section v) (valueAt N (sectionIn section) quiet v) t mostCount
-    same t v l =
-        ago-agree (sectionIn kept v) (sectionIn section v) (valueAt N (sectionIn kept) (pairsIn []) v) (valueAt N (sectionIn section) quiet v) t mostCount
-        (λ j h. section-same v j l) (λ i e. value-same v i l)
+-- **a run without pairs has all inputs 0**
+pub tracing-traced : {z : NetSizes} {net tables kept known trace kept′ known′ trace′ : List ℕ} {n : ℕ} → Tracing z net tables kept known trace kept′ known′ trace′ n
+    → Traced (z .inputs + z .gates) (sectionIn kept) (valueAt (netIn (arraysOf z net tables)) (sectionIn kept) quiet) trace′ n
+tracing-traced {z} {net} {tables} {kept} {trace′ = trace′} {n = n} u =
+    subst (λ (i : ℕ → ℕ → Bool). Traced (z .inputs + z .gates) (sectionIn kept) (valueAt (netIn (arraysOf z net tables)) (sectionIn kept) i) trace′ n) no-pairs (u .traced)
 
 -- ---- how many samples
 

@@ -1,4 +1,4 @@
--- Definitions: the trace of a run from its section, and the contents of registers read off it. Sample t of the trace has each node's value at step t − 3, a byte each.
+-- Definitions: the trace of a run from what is kept, and the contents of registers read off it. Sample t of the trace has each node's value at step t − 3, a byte each.
 use mathlib.Core.Path.{_≡_}
 use mathlib.Core.Bool.{Bool}
 use mathlib.Core.List.{List, [], _∷_, _++_}
@@ -28,11 +28,6 @@ use Rattle.cover_registers.specs.Counting.{lagsOf, tapsOf, LeavesHeld}
 use Rattle.board_theory.specs.Contents.{contentsOf}
 
 -- ---- the trace
-
--- the first n bytes of the section are kept
-pub record Started (section kept kept′ : List ℕ) (n : ℕ) : Type 0 where
-  pub each : (v : ℕ) → v < n → getD kept′ v 0 ≡ getD section v 0
-  pub long : length kept′ ≡ length kept
 
 -- the oldest values kept of n nodes stand from a place on, and below it the trace stays
 pub record Sampled (kept trace : List ℕ) (at n : ℕ) (trace′ : List ℕ) : Type 0 where
@@ -97,14 +92,13 @@ pub record RegistersAsked (z : NetSizes) (net : List ℕ) (a : Kept) (trace area
 abbrev pub traceRoom : ℕ
 traceRoom = mostNodes * (mostCount + 128)
 
--- a forward cover of a net that can be run from this section is kept, and there is room
-pub record Contenting (z : NetSizes) (net tables section kept known : List ℕ) (a : Kept) (work contents : List ℕ) : Type 0 where
+-- a forward cover of a net that can be run is kept, and there is room
+pub record Contenting (z : NetSizes) (net tables kept known : List ℕ) (a : Kept) (work contents : List ℕ) : Type 0 where
   pub steps : StepAsked z net tables kept known
-  pub sectionRoom : z .inputs + z .gates ≤ length section
   pub gates : a .gates ≡ z .gates
   pub leaves : LeavesHeld a
   pub k : ℕ
   pub cover : IsCover (netIn (arraysOf z net tables)) k (asCover (netIn (arraysOf z net tables)) (entriesIn a))
   pub forward : Forward (netIn (arraysOf z net tables)) (asCover (netIn (arraysOf z net tables)) (entriesIn a))
   pub workRoom : traceRoom ≤ length work
-  pub contentsRoom : length (contentsOf (netIn (arraysOf z net tables)) (asCover (netIn (arraysOf z net tables)) (entriesIn a)) (sectionIn section)) ≤ length contents
+  pub contentsRoom : (past : ℕ → ℕ → Bool) → length (contentsOf (netIn (arraysOf z net tables)) (asCover (netIn (arraysOf z net tables)) (entriesIn a)) past) ≤ length contents

@@ -1,5 +1,5 @@
-// The first contents of a forward cover's registers. The net runs from its section with all inputs 0, each sample of the run is kept in a trace,
-// and the registers of each connection are read off it, newest first.
+// The contents of a forward cover's registers at a step. The net runs on the input pairs up to that step and then on with all inputs 0; each sample of this second part is kept in
+// a trace, and the registers of each connection are read off it, newest first. Without pairs these are the first contents.
 use cover_registers::counted;
 use cover_registers::lag_at;
 use cover_registers::moved;
@@ -12,6 +12,7 @@ use limits::PINS;
 use net_reader::NetSizes;
 use net_reader::delays_at;
 use net_reader::outs_at;
+use run_step::run;
 use run_step::step;
 use run_values::told_value;
 ghost use mathlib.Core.Path.{_≡_};
@@ -23,7 +24,7 @@ ghost use Rattle.limits.specs.Limits.{depthRoom, mostInputs, mostNodes};
 ghost use Rattle.net_model.specs.Arrays.{netIn, copiesFrom, pinsIn};
 ghost use Rattle.net_reader.specs.ReadAnswer.{arraysOf};
 ghost use Rattle.net_checks.specs.Graphs.{outsOf, delaysOf};
-ghost use Rattle.run_theory.specs.BenchBytes.{sectionIn};
+ghost use Rattle.run_theory.specs.BenchBytes.{keptAfter};
 ghost use Rattle.run_step.specs.Stepping.{StepAsked};
 ghost use Rattle.cover_theory.specs.Key.{asCover};
 ghost use Rattle.cover_theory.specs.SharedRegisters.{tap};
@@ -34,21 +35,9 @@ ghost use Rattle.cover_records.specs.Outcomes.{written};
 ghost use Rattle.cover_writer.specs.Writing.{Below, Wrote};
 ghost use Rattle.cover_registers.specs.Counting.{Within, marking, lagsOf, tapsOf, LagsHeld, LeavesHeld};
 ghost use Rattle.board_theory.specs.Contents.{contentsOf};
-ghost use Rattle.cover_contents.specs.Traces.{samplesTo, Started, Sampled, Tracing, MostSamples, cellsBack, tapCells, CellsAsked, RegistersAsked, Contenting};
+ghost use Rattle.cover_contents.specs.Traces.{samplesTo, Sampled, Tracing, MostSamples, cellsBack, tapCells, CellsAsked, RegistersAsked, Contenting};
 
 // ---- the trace
-
-// The section is what is kept at first.
-fn start_kept(section: &[u8], n: usize, kept: &mut [u8])
-    requires { ⌜ (n ≤ length (now section)) × (n ≤ length (now kept)) ⌝ }
-    ensures { λ _. ⌜ Started (now (section .entry)) (now (kept .entry)) (now (kept .exit)) n ⌝ }
-{
-    let mut v = 0;
-    while v < n {
-        kept[v] = section[v];
-        v += 1;
-    }
-}
 
 // A sample at a place: the oldest value kept of each node.
 fn take_sample(z: NetSizes, kept: &[u8], known: &[usize], at: usize, trace: &mut [u8])
@@ -287,12 +276,12 @@ fn write_registers(
     );
 }
 
-// The first contents of all registers of the forward cover kept, in front of the contents; the bytes behind them are kept.
+// The contents of all registers of the forward cover kept at the step behind the pairs, in front of the contents; the bytes behind them are kept.
 pub fn write_contents(
     z: NetSizes,
     net: &[usize],
     tables: &[u64],
-    section: &[u8],
+    pairs: &[u8],
     kept: &mut [u8],
     known: &mut [usize],
     s: CoverHead,
@@ -301,10 +290,10 @@ pub fn write_contents(
     work: &mut [u8],
     contents: &mut [u8],
 )
-    requires { ⌜ Contenting z (now net) (now tables) (now section) (now kept) (now known) (keptIn (s .inputs) (s .gates) (s .period) (now labels) (now rows) []) (now work) (now contents) ⌝ }
-    ensures { λ _. ⌜ now (contents .exit) ≡ written (contentsOf (netIn (arraysOf z (now (net .entry)) (now (tables .entry)))) (asCover (netIn (arraysOf z (now (net .entry)) (now (tables .entry)))) (entriesIn (keptIn (s .inputs) (s .gates) (s .period) (now (labels .entry)) (now (rows .entry)) []))) (sectionIn (now (section .entry)))) (now (contents .entry)) ⌝ }
+    requires { ⌜ Contenting z (now net) (now tables) (now kept) (now known) (keptIn (s .inputs) (s .gates) (s .period) (now labels) (now rows) []) (now work) (now contents) ⌝ }
+    ensures { λ _. ⌜ now (contents .exit) ≡ written (contentsOf (netIn (arraysOf z (now (net .entry)) (now (tables .entry)))) (asCover (netIn (arraysOf z (now (net .entry)) (now (tables .entry)))) (entriesIn (keptIn (s .inputs) (s .gates) (s .period) (now (labels .entry)) (now (rows .entry)) []))) (keptAfter (now (pairs .entry)) (netIn (arraysOf z (now (net .entry)) (now (tables .entry)))) (now (kept .entry)))) (now (contents .entry)) ⌝ }
 {
-    start_kept(section, z.inputs + z.gates, kept);
+    run(z, net, tables, pairs, kept, known);
     let n = most_samples(s, labels, rows);
     take_trace(z, net, tables, n, kept, known, work);
     write_registers(z, net, s, labels, rows, work, contents);

@@ -27,3 +27,5 @@ pub mod LoaderLaws
 pub mod Found
 pub mod ForwardOutcome
 pub mod ForwardLaws
+pub mod ChangeOutcome
+pub mod ChangeLaws

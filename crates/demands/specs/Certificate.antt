@@ -42,6 +42,8 @@ use Rattle.demands.specs.BenchRun.{BenchRun}
 use Rattle.demands.specs.BenchRunLaws.{bench-run}
 use Rattle.demands.specs.ForwardMap.{ForwardMap}
 use Rattle.demands.specs.ForwardMapLaws.{forward-map}
+use Rattle.demands.specs.ChangeOver.{ChangeOver}
+use Rattle.demands.specs.ChangeOverLaws.{change-over-map}
 use Rattle.demands.specs.LoaderArea.{LoaderArea}
 use Rattle.demands.specs.LoaderAreaLaws.{loader-area}
 use Rattle.demands.specs.CallLaws as law
@@ -120,6 +122,8 @@ pub record Certificate : Type 0 where
   pub bench : BenchRun
   -- ---- Document 02, E6: forward covers, fields in `ForwardMap`, over the outcome `forwardOutcome` of every call of that mode.
   pub forward : ForwardMap
+  -- ---- Document 02, E7: change-over on a running unit, fields in `ChangeOver`, over the outcome `changeOutcome` of every call.
+  pub change : ChangeOver
 
 -- **All of it is proved.**
 pub certificate : Certificate
@@ -157,4 +161,5 @@ certificate = record {
   loader = loader-area;
   bench = bench-run;
   forward = forward-map;
+  change = change-over-map;
 }

@@ -87,11 +87,11 @@ pub record ForwardWrote (N : Net) (k φ : ℕ) (area area′ : List ℕ) (length
   pub forward : Forward N (asCover N (wrote .luts))
   pub tables : TablesRight N k (wrote .luts)
 
--- The call was accepted with a record of n bytes, N is its net, and the record reads back as r.
-pub record Read (c : ForwardCall) (n : ℕ) (N : Net) (r : Record) : Type 0 where
-  pub told : (forwardDone c) .answer ≡ accepted n
+-- The call was accepted with a record of n bytes and left o, N is its net, and the record reads back as r.
+pub record Read (c : ForwardCall) (o : ForwardOutcome) (n : ℕ) (N : Net) (r : Record) : Type 0 where
+  pub told : o .answer ≡ accepted n
   pub isNet : IsNet (c .k) (c .net) N
-  pub reads : IsRecord N (c .k) (take n ((forwardDone c) .area)) r
+  pub reads : IsRecord N (c .k) (take n (o .area)) r
 
 -- the cover and the tables of a record
 abbrev pub coverIn : Net → Record → Cover
@@ -121,7 +121,7 @@ pub record ForwardMap : Type 0 where
       → (n ≤ coverArea) × ((N : Net) × (φ : ℕ) × ForwardNet c N × ForwardAsked c N φ × ForwardWrote N (c .k) φ (c .area) ((forwardDone c) .area) n)
       × ((forwardDone c) .scratch ≡ cleared scratchArea (c .scratch))
   -- and the record can be read: the fields below that speak of it speak of every accepted call
-  pub reads : (c : ForwardCall) (n : ℕ) → (forwardDone c) .answer ≡ accepted n → (N : Net) → IsNet (c .k) (c .net) N → (r : Record) × Read c n N r
+  pub reads : (c : ForwardCall) (n : ℕ) → (forwardDone c) .answer ≡ accepted n → (N : Net) → IsNet (c .k) (c .net) N → (r : Record) × Read c (forwardDone c) n N r
   -- "Labels, ties and lags follow 01, over cuts that also satisfy label + φ·(largest d in the cone) ≤ φ": the record is that of every key in this mode
   pub keys : (c : ForwardCall) (n : ℕ) → (forwardDone c) .answer ≡ accepted n → (N : Net) → IsNet (c .k) (c .net) N → (φ : ℕ) → ForwardAsked c N φ
       → KeyIn forward N (c .k) φ
@@ -130,25 +130,25 @@ pub record ForwardMap : Type 0 where
   pub own : (c : ForwardCall) (n : ℕ) → (forwardDone c) .answer ≡ accepted n → (scratch : List ℕ) → scratchArea ≤ length scratch
       → (x : ℕ) × ((markDone (record { net = c .net; k = c .k; bytes = take n ((forwardDone c) .area); scratch = scratch })) .answer ≡ accepted x)
   -- E4: "Map gains, if a loader area is lent (length 0 counts as none), an image", of the record's LUTs; "those behind the image are always kept"
-  pub image : (c : ForwardCall) (n : ℕ) (N : Net) (r : Record) → Read c n N r
+  pub image : (c : ForwardCall) (n : ℕ) (N : Net) (r : Record) → Read c (forwardDone c) n N r
       → (0 < length (c .loader) → (forwardDone c) .loader ≡ written (imageBytes (r .entries)) (c .loader)) × (length (c .loader) ≡ 0 → (forwardDone c) .loader ≡ c .loader)
   -- ---- "If a contents area is lent too (length 0 counts as none)": else it is as it was
   pub none : (c : ForwardCall) → length (c .contents) ≡ 0 → (forwardDone c) .contents ≡ c .contents
   -- then the net has a section
   pub section : (c : ForwardCall) (n : ℕ) → (forwardDone c) .answer ≡ accepted n → 0 < length (c .contents) → (d : Drawn) × IsDrawn (c .k) (c .net) d × (0 < length (d .section))
   -- "it gets the first contents of each connection's registers", of the record's cover; "the part behind, keep its bytes"
-  pub first : (c : ForwardCall) (n : ℕ) (d : Drawn) → IsDrawn (c .k) (c .net) d → (r : Record) → Read c n (d .net) r → 0 < length (c .contents)
+  pub first : (c : ForwardCall) (n : ℕ) (d : Drawn) → IsDrawn (c .k) (c .net) d → (r : Record) → Read c (forwardDone c) n (d .net) r → 0 < length (c .contents)
       → (forwardDone c) .contents ≡ written (contentsOf (d .net) (coverIn (d .net) r) (sectionIn (d .section))) (c .contents)
   -- "a byte 0 or 1 per register"; 20,592 bytes are enough
   pub bits : (N : Net) (K : Cover) (contents : ℕ → Copy → ℕ → Bool) (last : ℕ → ℕ → Bool) (b : ℕ) → b ∈ contentsBytes N K contents last → b ≤ 1
-  pub enough : (c : ForwardCall) (n : ℕ) (N : Net) (r : Record) → Read c n N r → (section : ℕ → ℕ → Bool) → length (contentsOf N (coverIn N r) section) ≤ contentsArea
+  pub enough : (c : ForwardCall) (n : ℕ) (N : Net) (r : Record) → Read c (forwardDone c) n N r → (section : ℕ → ℕ → Bool) → length (contentsOf N (coverIn N r) section) ≤ contentsArea
   -- The board: with the record's cover and tables, and whatever its registers hold at first, there is a run for all inputs, and only one.
-  pub board : (c : ForwardCall) (n : ℕ) (N : Net) (r : Record) → Read c n N r → (contents : ℕ → Copy → ℕ → Bool) (inputs : ℕ → ℕ → Bool)
+  pub board : (c : ForwardCall) (n : ℕ) (N : Net) (r : Record) → Read c (forwardDone c) n N r → (contents : ℕ → Copy → ℕ → Bool) (inputs : ℕ → ℕ → Bool)
       → Boarded N (coverIn N r) (tablesIn r) contents inputs (boardAt N (coverIn N r) (r .period) (tablesIn r) contents inputs)
       × ((board : ℕ → ℕ → Bool) → Boarded N (coverIn N r) (tablesIn r) contents inputs board
       → (i t : ℕ) → i < length (r .entries) → board i t ≡ boardAt N (coverIn N r) (r .period) (tablesIn r) contents inputs i t)
   -- "From step 0 on, for any inputs, the outputs of board and net agree for ever": where the registers hold at first what the contents area begins with
-  pub wakes : (c : ForwardCall) (n : ℕ) (d : Drawn) → IsDrawn (c .k) (c .net) d → (r : Record) → Read c n (d .net) r → 0 < length (c .contents)
+  pub wakes : (c : ForwardCall) (n : ℕ) (d : Drawn) → IsDrawn (c .k) (c .net) d → (r : Record) → Read c (forwardDone c) n (d .net) r → 0 < length (c .contents)
       → (contents : ℕ → Copy → ℕ → Bool) (last : ℕ → ℕ → Bool) (rest : List ℕ) → (forwardDone c) .contents ≡ contentsBytes (d .net) (coverIn (d .net) r) contents last ++ rest
       → (inputs : ℕ → ℕ → Bool) (o : ℕ) → o < length ((d .net) .outputs) → (t : ℕ)
       → boardShows (d .net) (coverIn (d .net) r) (r .period) (tablesIn r) contents last inputs o t ≡ netShows (d .net) (sectionIn (d .section)) inputs o t

@@ -19,5 +19,9 @@ pub mod LoaderAreaLaws
 pub mod BenchRun
 pub mod BenchRunLaws
 pub mod ForwardMap
+pub mod ForwardTurns
+pub mod ForwardEnds
 pub mod ForwardMapLaws
+pub mod ChangeOver
+pub mod ChangeOverLaws
 pub mod Certificate

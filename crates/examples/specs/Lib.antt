@@ -5,4 +5,5 @@ pub mod Statements
 pub mod Plan
 pub mod Marked
 pub mod ForwardExamples
+pub mod ChangeExamples
 pub mod Inhabited

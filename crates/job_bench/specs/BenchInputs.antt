@@ -1,12 +1,11 @@
 -- Laws of the parts of the bench program's input, and of a net read with its section.
 use mathlib.Core.Path.{_≡_, sym, ap, ap₂, subst, _∙_}
 use mathlib.Core.Bool.{Bool, true, false, cond, not}
-use mathlib.Core.List.{List, [], _++_}
+use mathlib.Core.List.{List, []}
 use mathlib.Core.Logic.{_⊎_, inl, inr}
 use Prim.Native.Nat.{ℕ, _+_, _-_, _*_, _≤_}
 use native.Mathlib.Omega.{arith}
 use lib.ListN.{length, getD, take, drop}
-use lib.Seq.{take-all, take-append-le}
 use Rattle.limits.specs.Courses.{long, is-long}
 use Rattle.limits.specs.Limits.{leastK, mostK, mostGates, mostNodes, mostPacked, benchRoom}
 use Rattle.net_model.specs.Net.{size}
@@ -57,12 +56,6 @@ module _ (k : ℕ) (net pairs : List ℕ) where
   of-drawn h d e = of-known h e
 
 -- ---- the net read
-
--- what was copied stands in front
-pub copied : (l before after : List ℕ) (n : ℕ) → n ≡ length l → after ≡ take (length l) l ++ drop (length l) before → take n after ≡ l
-copied l before after n e f =
-    ap₂ (λ (m : ℕ) (x : List ℕ). take m x) e (f ∙ ap (λ (x : List ℕ). x ++ drop (length l) before) (take-all (length l) l (omega arith)))
-    ∙ take-append-le (length l) l (drop (length l) before) (omega arith) ∙ take-all (length l) l (omega arith)
 
 module _ (k : ℕ) (bytes : List ℕ) (r : DrawnRead) (net ts : List ℕ) (e : drawnReader long k bytes ≡ drawnOf r net ts bytes) (v : r .verdict ≡ Read)
     (packed : length net ≡ mostPacked) (tabled : length ts ≡ mostGates) (section : List ℕ) (rest : section ≡ drop (r .at) bytes) where

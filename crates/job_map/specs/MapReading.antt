@@ -12,7 +12,7 @@ use lib.Seq.{length-take-le}
 use Rattle.net_model.specs.Net.{Net, size}
 use Rattle.net_model.specs.Arrays.{netIn}
 use Rattle.net_model.specs.ArrayLaws.{size-netIn}
-use Rattle.limits.specs.Limits.{contentsArea, loaderArea, mostGates, mostPacked}
+use Rattle.limits.specs.Limits.{contentsArea, loaderArea, mostGates, mostNodes, mostPacked}
 use Rattle.limits.specs.Courses.{Offered}
 use Rattle.limits.specs.CourseLaws.{offered-within}
 use Rattle.limits.specs.declared.Rules.{Rules}
@@ -29,7 +29,7 @@ use Rattle.net_fields.specs.declared.Verdict.{Verdict}
 use Rattle.net_fields.specs.declared.Verdict.the-variants.{Read, Refused}
 use Rattle.net_reader.specs.ReadAnswer.{arraysOf, drawnOf, resultOf}
 use Rattle.net_reader.specs.NetLaws.{net-alone}
-use Rattle.net_reader.specs.WalkFacts.{read-gives, read-facts}
+use Rattle.net_reader.specs.WalkFacts.{WalkFacts, read-gives, read-facts}
 use Rattle.net_reader.specs.ReadWires.{room-read}
 use Rattle.net_reader.specs.declared.DrawnRead.{DrawnRead}
 use Rattle.net_reader.specs.declared.NetRead.{NetRead}
@@ -57,8 +57,8 @@ module _ (R : Rules) (k target : ℕ) (bytes : List ℕ) (r : DrawnRead) (net ts
   nets = net-alone R k bytes (r .verdict) (drawn N (drop (r .at) bytes)) e
 
   -- **refusals 4 to 8**
-  pub walk-refused : (M : Mode) (area loader contents : List ℕ) {n : ℕ} → n < 256 → r .verdict ≡ Refused n → MapsTo M R k target bytes area area loader loader contents contents (turnedBack n)
-  walk-refused M area loader contents {n} h v = maps-refused M R k target bytes area loader contents n h (nets ∙ ap (λ (x : Verdict). outcome x N []) v)
+  pub walk-refused : (M : Mode) (pairs area loader contents : List ℕ) {n : ℕ} → n < 256 → r .verdict ≡ Refused n → MapsTo M R k target bytes pairs area area loader loader contents contents (turnedBack n)
+  walk-refused M pairs area loader contents {n} h v = maps-refused M R k target bytes pairs area loader contents n h (nets ∙ ap (λ (x : Verdict). outcome x N []) v)
 
   module _ (offered : Offered R) (v : r .verdict ≡ Read) (section : List ℕ) (rest : section ≡ drop (r .at) bytes) where
     gives : netReader R k bytes ≡ got N []
@@ -77,6 +77,14 @@ module _ (R : Rules) (k target : ℕ) (bytes : List ℕ) (r : DrawnRead) (net ts
         by : (length section ≡ 0) ⊎ (length section ≡ size N) → r .sizes .inputs + r .sizes .gates ≤ length section
         by (inl p) = absurd (some p)
         by (inr p) = omega (arith, p, size-netIn (arraysOf (r .sizes) net ts))
+
+    -- and never more
+    section-short : WalkFacts k (arraysOf (r .sizes) net ts) → length section ≤ mostNodes
+    section-short facts = by (drawn-facts R k bytes (drawn N section) [] drawn-got .0 .long)
+      where
+        by : (length section ≡ 0) ⊎ (length section ≡ size N) → length section ≤ mostNodes
+        by (inl p) = omega (arith, p)
+        by (inr p) = omega (arith, p, size-netIn (arraysOf (r .sizes) net ts), facts .inputs-high, facts .gates-high)
 
     -- where one is wanted and not lacking it is there
     not-lacking : (contents : List ℕ) → ¬ (length contents ≡ 0) → lacking contents section ≡ false → ¬ (length section ≡ 0)
@@ -103,10 +111,11 @@ module _ (R : Rules) (k target : ℕ) (bytes : List ℕ) (r : DrawnRead) (net ts
           fill = fill;
           ahead = ahead;
           whole = λ lent q. section-whole (not-lacking contents lent (sym l ∙ q));
+          short = section-short facts;
         }
 
-    pub walk-maps : {c : Call} → c .k ≡ k → c .target ≡ target → {area area′ loader loader′ contents contents′ : List ℕ} {answer : Answer} → c .lacks ≡ lacking contents section → MapsNet c N section area area′ loader loader′ contents contents′ answer
-        → MapsTo (modeOf (c .forward)) R k target bytes area area′ loader loader′ contents contents′ answer
-    walk-maps {c} a b {area} {area′} {loader} {loader′} {contents} {contents′} {answer} l m =
-        subst₂ (λ (x y : ℕ). MapsTo (modeOf (c .forward)) R x y bytes area area′ loader loader′ contents contents′ answer) a b
+    pub walk-maps : {c : Call} → c .k ≡ k → c .target ≡ target → {pairs area area′ loader loader′ contents contents′ : List ℕ} {answer : Answer} → c .lacks ≡ lacking contents section → MapsNet c N section pairs area area′ loader loader′ contents contents′ answer
+        → MapsTo (modeOf (c .forward)) R k target bytes pairs area area′ loader loader′ contents contents′ answer
+    walk-maps {c} a b {pairs} {area} {area′} {loader} {loader′} {contents} {contents′} {answer} l m =
+        subst₂ (λ (x y : ℕ). MapsTo (modeOf (c .forward)) R x y bytes pairs area area′ loader loader′ contents contents′ answer) a b
         (m .maps R offered bytes (ap (λ (x : ℕ). netReader R x bytes) a ∙ gives) (ap (λ (x : ℕ). sectionOf R x bytes) a ∙ section-is) (sym l))

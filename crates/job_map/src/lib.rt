@@ -1,6 +1,6 @@
-// Map: the key of the examination. A net, k and a target; a cover in the cover area, or a refusal; the image in the loader area and the first contents in the contents area, if they are lent.
-// The work is done under rules and in a mode; map, map_loader and map_forward take document 01's rules, short_map those of the short course. Only map_forward asks for forward covers, and only it
-// lends a contents area; map and short_map lend no loader area.
+// Map: the key of the examination. A net, k and a target; a cover in the cover area, or a refusal; the image in the loader area and the registers' contents in the contents area, if they are lent.
+// The work is done under rules and in a mode; map, map_loader, map_forward and change_over take document 01's rules, short_map those of the short course. Only map_forward and change_over ask for
+// forward covers, and only they lend a contents area; only change_over lends input pairs; map and short_map lend no loader area.
 use inputs::place_behind;
 use inputs::word;
 use job_record::Answer;
@@ -27,6 +27,7 @@ ghost use Rattle.limits.specs.Courses.{long, short, Offered};
 ghost use Rattle.cover_records.specs.Outcomes.{mapOutcome};
 ghost use Rattle.cover_records.specs.LoaderOutcome.{loaderOutcome};
 ghost use Rattle.cover_records.specs.ForwardOutcome.{forwardOutcome};
+ghost use Rattle.cover_records.specs.ChangeOutcome.{changeOutcome};
 ghost use Rattle.label_aim.specs.Aims.{modeOf};
 ghost use Rattle.job_sizes.specs.Sizes.{Fit, LentFits};
 ghost use Rattle.job_record.specs.MapAnswers.{answerOf, InRange};
@@ -48,6 +49,7 @@ fn map_bytes(
     bytes: &[u8],
     k: u32,
     target: u32,
+    pairs: &[u8],
     area: &mut [u8],
     work: &mut [u8],
     loader: &mut [u8],
@@ -57,7 +59,7 @@ fn map_bytes(
 ) -> Answer
     requires { ⌜ Offered rules ⌝ }
     requires { ⌜ Fit rules k target (length (now area)) (length (now work)) × LentFits loaderArea (length (now loader)) × LentFits contentsArea (length (now contents)) × (¬ (length (now contents) ≡ 0) → forward ≡ true) ⌝ }
-    ensures { λ r. ⌜ MapsTo (modeOf forward) rules k target (now (bytes .entry)) (now (area .entry)) (now (area .exit)) (now (loader .entry)) (now (loader .exit)) (now (contents .entry)) (now (contents .exit)) (answerOf r) ⌝ }
+    ensures { λ r. ⌜ MapsTo (modeOf forward) rules k target (now (bytes .entry)) (now (pairs .entry)) (now (area .entry)) (now (area .exit)) (now (loader .entry)) (now (loader .exit)) (now (contents .entry)) (now (contents .exit)) (answerOf r) ⌝ }
 {
     let mut net = [0usize; PACKED];
     let mut tables = [0u64; GATES];
@@ -79,6 +81,7 @@ fn map_bytes(
         &mut net,
         &tables,
         &bytes[at..],
+        pairs,
         call,
         area,
         work,
@@ -87,11 +90,12 @@ fn map_bytes(
     )
 }
 
-// Map in a mode under rules, for every input. A loader or contents area of length 0 is not lent; only in forward mode may a contents area be.
+// Map in a mode under rules, for every input. A loader or contents area of length 0 is not lent; only in forward mode may a contents area be. Its contents are those of the step behind the pairs.
 pub fn map_under(
     net: &[u8],
     k: u32,
     target: u32,
+    pairs: &[u8],
     area: &mut [u8],
     scratch: &mut [u8],
     loader: &mut [u8],
@@ -100,7 +104,7 @@ pub fn map_under(
     rules: Rules,
 ) -> Answer
     requires { ⌜ Offered rules × (¬ (length (now contents) ≡ 0) → forward ≡ true) ⌝ }
-    ensures outcome { λ r. ⌜ areasOutcome (modeOf forward) rules (now (net .entry)) k target (now (area .entry)) (now (scratch .entry)) (now (loader .entry)) (now (contents .entry)) ≡ record { answer = answerOf r; area = now (area .exit); scratch = now (scratch .exit); loader = now (loader .exit); contents = now (contents .exit) } ⌝ }
+    ensures outcome { λ r. ⌜ areasOutcome (modeOf forward) rules (now (net .entry)) k target (now (pairs .entry)) (now (area .entry)) (now (scratch .entry)) (now (loader .entry)) (now (contents .entry)) ≡ record { answer = answerOf r; area = now (area .exit); scratch = now (scratch .exit); loader = now (loader .exit); contents = now (contents .exit) } ⌝ }
     ensures small { λ r. ⌜ InRange (answerOf r) ⌝ }
 {
     let r = check_sizes(k, target, area.len(), scratch.len(), rules);
@@ -121,6 +125,7 @@ pub fn map_under(
         net,
         k,
         target,
+        pairs,
         area,
         &mut scratch[..end],
         loader,
@@ -137,12 +142,14 @@ pub fn map(net: &[u8], k: u32, target: u32, area: &mut [u8], scratch: &mut [u8])
     ensures outcome { λ r. ⌜ mapOutcome long (now (net .entry)) k target (now (area .entry)) (now (scratch .entry)) ≡ record { answer = answerOf r; area = now (area .exit); scratch = now (scratch .exit) } ⌝ }
     ensures small { λ r. ⌜ InRange (answerOf r) ⌝ }
 {
+    let steps = [0u8; 0];
     let mut bare = [0u8; 0];
     let mut none = [0u8; 0];
     map_under(
         net,
         k,
         target,
+        &steps,
         area,
         scratch,
         &mut bare,
@@ -164,11 +171,13 @@ pub fn map_loader(
     ensures outcome { λ r. ⌜ loaderOutcome long (now (net .entry)) k target (now (area .entry)) (now (scratch .entry)) (now (loader .entry)) ≡ record { answer = answerOf r; area = now (area .exit); scratch = now (scratch .exit); loader = now (loader .exit) } ⌝ }
     ensures small { λ r. ⌜ InRange (answerOf r) ⌝ }
 {
+    let steps = [0u8; 0];
     let mut none = [0u8; 0];
     map_under(
         net,
         k,
         target,
+        &steps,
         area,
         scratch,
         loader,
@@ -191,10 +200,47 @@ pub fn map_forward(
     ensures outcome { λ r. ⌜ forwardOutcome long (now (net .entry)) k target (now (area .entry)) (now (scratch .entry)) (now (loader .entry)) (now (contents .entry)) ≡ record { answer = answerOf r; area = now (area .exit); scratch = now (scratch .exit); loader = now (loader .exit); contents = now (contents .exit) } ⌝ }
     ensures small { λ r. ⌜ InRange (answerOf r) ⌝ }
 {
+    let steps = [0u8; 0];
     map_under(
         net,
         k,
         target,
+        &steps,
+        area,
+        scratch,
+        loader,
+        contents,
+        true,
+        long_course(),
+    )
+}
+
+// The change-over: map in forward mode, its contents those of the step behind the input pairs, for every input. A contents area must be lent.
+pub fn change_over(
+    net: &[u8],
+    k: u32,
+    target: u32,
+    pairs: &[u8],
+    area: &mut [u8],
+    scratch: &mut [u8],
+    loader: &mut [u8],
+    contents: &mut [u8],
+) -> Answer
+    ensures outcome { λ r. ⌜ changeOutcome long (now (net .entry)) k target (now (pairs .entry)) (now (area .entry)) (now (scratch .entry)) (now (loader .entry)) (now (contents .entry)) ≡ record { answer = answerOf r; area = now (area .exit); scratch = now (scratch .exit); loader = now (loader .exit); contents = now (contents .exit) } ⌝ }
+    ensures small { λ r. ⌜ InRange (answerOf r) ⌝ }
+{
+    if contents.len() == 0 {
+        let told = check_sizes(k, target, area.len(), scratch.len(), long_course());
+        if told > 0 {
+            return Answer::Refused(told);
+        }
+        return Answer::Refused(3);
+    }
+    map_under(
+        net,
+        k,
+        target,
+        pairs,
         area,
         scratch,
         loader,
@@ -209,12 +255,14 @@ pub fn short_map(net: &[u8], k: u32, target: u32, area: &mut [u8], scratch: &mut
     ensures outcome { λ r. ⌜ mapOutcome short (now (net .entry)) k target (now (area .entry)) (now (scratch .entry)) ≡ record { answer = answerOf r; area = now (area .exit); scratch = now (scratch .exit) } ⌝ }
     ensures small { λ r. ⌜ InRange (answerOf r) ⌝ }
 {
+    let steps = [0u8; 0];
     let mut bare = [0u8; 0];
     let mut none = [0u8; 0];
     map_under(
         net,
         k,
         target,
+        &steps,
         area,
         scratch,
         &mut bare,

@@ -1,12 +1,14 @@
--- Definitions: what the first contents ask, where a contents area is lent.
+-- Definitions: what the contents ask, where a contents area is lent.
 use mathlib.Core.Path.{_≡_}
 use mathlib.Core.List.{List}
-use Prim.Native.Nat.{ℕ}
-use lib.ListN.{length, replicate}
+use Prim.Native.Nat.{ℕ, _≤_}
+use lib.ListN.{length}
 use Rattle.limits.specs.Limits.{mostNodes}
 use Rattle.cover_records.specs.Kept.{Kept}
 use Rattle.net_reader.specs.declared.NetSizes.{NetSizes}
 use Rattle.cover_contents.specs.Traces.{Contenting}
 
-abbrev pub Filling : NetSizes → List ℕ → List ℕ → List ℕ → List ℕ → Kept → List ℕ → List ℕ → Type 0
-Filling z net tables section known a work contents = ¬ (length contents ≡ 0) → Contenting z net tables section (replicate mostNodes 0) known a work contents
+-- the run starts from a copy of the section
+pub record Filling (z : NetSizes) (net tables section known : List ℕ) (a : Kept) (work contents : List ℕ) : Type 0 where
+  pub short : length section ≤ mostNodes
+  pub asks : ¬ (length contents ≡ 0) → Contenting z net tables section known a work contents

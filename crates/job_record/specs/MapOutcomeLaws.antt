@@ -12,7 +12,7 @@ use Rattle.limits.specs.Courses.{long, Offered, is-long, is-short}
 use Rattle.limits.specs.declared.Rules.{Rules}
 use Rattle.net_bytes.specs.Reading.{refused}
 use Rattle.net_bytes.specs.Walk.{netReader}
-use Rattle.run_theory.specs.BenchBytes.{sectionIn}
+use Rattle.run_theory.specs.BenchBytes.{keptAfter}
 use Rattle.label_theory.specs.Labels.{Mode, ReachableIn}
 use Rattle.cover_theory.specs.Key.{Entry, entries, asCover}
 use Rattle.cover_theory.specs.KeyUnique.{entries-unique}
@@ -46,32 +46,32 @@ unfolding coverBytes
 offered-bytes is-long φ es = refl
 offered-bytes is-short φ es = refl
 
-module _ (M : Mode) (R : Rules) (k target : ℕ) (net area loader contents : List ℕ) where
+module _ (M : Mode) (R : Rules) (k target : ℕ) (net pairs area loader contents : List ℕ) where
   -- a check failed, 21 among them
-  maps-fails : (n : ℕ) → n < 256 → checksOf R k net contents ≡ fails n → MapsTo M R k target net area area loader loader contents contents (turnedBack n)
+  maps-fails : (n : ℕ) → n < 256 → checksOf R k net contents ≡ fails n → MapsTo M R k target net pairs area area loader loader contents contents (turnedBack n)
   unfolding mapCheckedIn loaderCheckedIn contentsChecked
   maps-fails n h e = record {
     small = h;
     outcome = λ s. ap (λ (c : Checked k). mapCheckedIn M R k target c area s) e;
     image = ap (λ (c : Checked k). loaderCheckedIn M k target c loader) e;
-    cells = ap (λ (c : Checked k). contentsChecked M (λ N. sectionIn (sectionOf R k net)) k target c contents) e;
+    cells = ap (λ (c : Checked k). contentsChecked M (λ N. keptAfter pairs N (sectionOf R k net)) k target c contents) e;
   }
 
   -- one of 4 to 11
-  pub maps-early : (n : ℕ) → n < 256 → checkNet R k net ≡ fails n → MapsTo M R k target net area area loader loader contents contents (turnedBack n)
+  pub maps-early : (n : ℕ) → n < 256 → checkNet R k net ≡ fails n → MapsTo M R k target net pairs area area loader loader contents contents (turnedBack n)
   unfolding sectioned
   maps-early n h e = maps-fails n h (ap (sectioned (lacking contents (sectionOf R k net))) e ∙ stays (lacking contents (sectionOf R k net)))
     where
       stays : (b : Bool) → _≡_ {A = Checked k} (sectioned b (fails n)) (fails n)
       stays b = refl
 
-  pub maps-refused : (n : ℕ) → n < 256 → netReader R k net ≡ refused n → MapsTo M R k target net area area loader loader contents contents (turnedBack n)
+  pub maps-refused : (n : ℕ) → n < 256 → netReader R k net ≡ refused n → MapsTo M R k target net pairs area area loader loader contents contents (turnedBack n)
   maps-refused n h e = maps-early n h (check-refused R k net n e)
 
   -- ---- a net that passes
   module _ {N : Net} (P : Passed N k) (e : checkNet R k net ≡ passes N P) where
     -- 21
-    maps-lacks : lacking contents (sectionOf R k net) ≡ true → MapsTo M R k target net area area loader loader contents contents (turnedBack 21)
+    maps-lacks : lacking contents (sectionOf R k net) ≡ true → MapsTo M R k target net pairs area area loader loader contents contents (turnedBack 21)
     unfolding sectioned
     maps-lacks l = maps-fails 21 (omega arith) (ap₂ (λ (b : Bool) (c : Checked k). sectioned b c) l e ∙ told)
       where
@@ -94,12 +94,12 @@ module _ (M : Mode) (R : Rules) (k target : ℕ) (net area loader contents : Lis
       unfolding loaderCheckedIn
       image-as = ap (λ (c : Checked k). loaderCheckedIn M k target c loader) passing
 
-      cells-as : contentsChecked M (λ N. sectionIn (sectionOf R k net)) k target (checksOf R k net contents) contents ≡ contentsWritten (sectionIn (sectionOf R k net)) (mappedIn M N k target P) contents
+      cells-as : contentsChecked M (λ N. keptAfter pairs N (sectionOf R k net)) k target (checksOf R k net contents) contents ≡ contentsWritten (keptAfter pairs N (sectionOf R k net)) (mappedIn M N k target P) contents
       unfolding contentsChecked
-      cells-as = ap (λ (c : Checked k). contentsChecked M (λ N. sectionIn (sectionOf R k net)) k target c contents) passing
+      cells-as = ap (λ (c : Checked k). contentsChecked M (λ N. keptAfter pairs N (sectionOf R k net)) k target c contents) passing
 
       -- **12 or 22**
-      maps-unmet : 1 ≤ target → ¬ ReachableIn M N k target → MapsTo M R k target net area area loader loader contents contents (turnedBack (unmet M))
+      maps-unmet : 1 ≤ target → ¬ ReachableIn M N k target → MapsTo M R k target net pairs area area loader loader contents contents (turnedBack (unmet M))
       unfolding mapWritten loaderWritten contentsWritten
       maps-unmet h n =
           let z = mapped-none M P target h n in
@@ -107,13 +107,13 @@ module _ (M : Mode) (R : Rules) (k target : ℕ) (net area loader contents : Lis
             small = unmet-small M;
             outcome = λ s. outcome-as s ∙ ap (λ (m : MappedIn M N k). mapWritten R m area s) z;
             image = image-as ∙ ap (λ (m : MappedIn M N k). loaderWritten m loader) z;
-            cells = cells-as ∙ ap (λ (m : MappedIn M N k). contentsWritten (sectionIn (sectionOf R k net)) m contents) z;
+            cells = cells-as ∙ ap (λ (m : MappedIn M N k). contentsWritten (keptAfter pairs N (sectionOf R k net)) m contents) z;
           }
 
       -- **a cover: the definition's record, image and contents are those of the arrays**
       maps-covered : Offered R → {a : Kept} {area′ loader′ contents′ : List ℕ} {n : ℕ} → Covered M N k target a → length (coverBytes long (a .period) (entriesIn a)) ≤ coverArea
           → n ≡ length (coverBytes long (a .period) (entriesIn a)) → area′ ≡ written (coverBytes long (a .period) (entriesIn a)) area → loader′ ≡ loaded (entriesIn a) loader
-          → contents′ ≡ filled N (entriesIn a) (sectionOf R k net) contents → MapsTo M R k target net area area′ loader loader′ contents contents′ (accepted n)
+          → contents′ ≡ filled N (entriesIn a) (keptAfter pairs N (sectionOf R k net)) contents → MapsTo M R k target net pairs area area′ loader loader′ contents contents′ (accepted n)
       unfolding mapWritten loaderWritten contentsWritten
       maps-covered o {a} {area′} {loader′} {contents′} {n} c few d f i j =
           let x = mapped-some M P target c in
@@ -124,37 +124,37 @@ module _ (M : Mode) (R : Rules) (k target : ℕ) (net area loader contents : Lis
                 ∙ ap (λ (bytes : List ℕ). writing R bytes area s) (offered-bytes o (a .period) (entriesIn a))
                 ∙ ap₂ (λ (m : ℕ) (l : List ℕ). record { answer = accepted m; area = l; scratch = cleared (R .scratch) s }) (sym d) (sym f);
             image = image-as ∙ ap (λ (m : MappedIn M N k). loaderWritten m loader) (x .is) ∙ ap (λ (es : List Entry). loaded es loader) same ∙ sym i;
-            cells = cells-as ∙ ap (λ (m : MappedIn M N k). contentsWritten (sectionIn (sectionOf R k net)) m contents) (x .is)
-                ∙ ap (λ (es : List Entry). filled N es (sectionOf R k net) contents) same ∙ sym j;
+            cells = cells-as ∙ ap (λ (m : MappedIn M N k). contentsWritten (keptAfter pairs N (sectionOf R k net)) m contents) (x .is)
+                ∙ ap (λ (es : List Entry). filled N es (keptAfter pairs N (sectionOf R k net)) contents) same ∙ sym j;
           }
 
 -- a refusal's number may be named by any equal one
-refused-as : {M : Mode} {R : Rules} {k target n r : ℕ} {net area loader contents : List ℕ} → r ≡ n → MapsTo M R k target net area area loader loader contents contents (turnedBack n)
-    → MapsTo M R k target net area area loader loader contents contents (turnedBack r)
-refused-as {M} {R} {k} {target} {net = net} {area = area} {loader = loader} {contents = contents} e m =
-    subst (λ (x : ℕ). MapsTo M R k target net area area loader loader contents contents (turnedBack x)) (sym e) m
+refused-as : {M : Mode} {R : Rules} {k target n r : ℕ} {net pairs area loader contents : List ℕ} → r ≡ n → MapsTo M R k target net pairs area area loader loader contents contents (turnedBack n)
+    → MapsTo M R k target net pairs area area loader loader contents contents (turnedBack r)
+refused-as {M} {R} {k} {target} {net = net} {pairs = pairs} {area = area} {loader = loader} {contents = contents} e m =
+    subst (λ (x : ℕ). MapsTo M R k target net pairs area area loader loader contents contents (turnedBack x)) (sym e) m
 
-module _ {c : Call} {N : Net} (section area loader contents : List ℕ) where
+module _ {c : Call} {N : Net} (section pairs area loader contents : List ℕ) where
   -- **a refusal**
-  net-refused : {a : Kept} {r : ℕ} → SettledAs (modeOf (c .forward)) (c .lacks) (c .k) (c .target) N a r → 0 < r → MapsNet c N section area area loader loader contents contents (turnedBack r)
+  net-refused : {a : Kept} {r : ℕ} → SettledAs (modeOf (c .forward)) (c .lacks) (c .k) (c .target) N a r → 0 < r → MapsNet c N section pairs area area loader loader contents contents (turnedBack r)
   net-refused (settling.loops e n) h = record {
-    maps = λ R o net q s l. refused-as e (maps-early (modeOf (c .forward)) R (c .k) (c .target) net area loader contents 9 (omega arith) (check-loop R (c .k) net N [] q n));
+    maps = λ R o net q s l. refused-as e (maps-early (modeOf (c .forward)) R (c .k) (c .target) net pairs area loader contents 9 (omega arith) (check-loop R (c .k) net N [] q n));
   }
   net-refused (settling.cutOff e l n) h = record {
-    maps = λ R o net q s y. refused-as e (maps-early (modeOf (c .forward)) R (c .k) (c .target) net area loader contents 10 (omega arith) (check-unreached R (c .k) net N [] q l n));
+    maps = λ R o net q s y. refused-as e (maps-early (modeOf (c .forward)) R (c .k) (c .target) net pairs area loader contents 10 (omega arith) (check-unreached R (c .k) net N [] q l n));
   }
   net-refused (settling.idle e l t n) h = record {
-    maps = λ R o net q s y. refused-as e (maps-early (modeOf (c .forward)) R (c .k) (c .target) net area loader contents 11 (omega arith) (check-unled R (c .k) net N [] q l t n));
+    maps = λ R o net q s y. refused-as e (maps-early (modeOf (c .forward)) R (c .k) (c .target) net pairs area loader contents 11 (omega arith) (check-unled R (c .k) net N [] q l t n));
   }
   net-refused (settling.sectionless e P b) h = record {
     maps = λ R o net q s y.
         let t = check-passes R (c .k) net N [] q (P .loopless) (P .reached) (P .leading) in
-        refused-as e (maps-lacks (modeOf (c .forward)) R (c .k) (c .target) net area loader contents (t .0) (t .1) (ap (lacking contents) s ∙ y ∙ b));
+        refused-as e (maps-lacks (modeOf (c .forward)) R (c .k) (c .target) net pairs area loader contents (t .0) (t .1) (ap (lacking contents) s ∙ y ∙ b));
   }
   net-refused (settling.unreachable e P b h′ n) h = record {
     maps = λ R o net q s y.
         let t = check-passes R (c .k) net N [] q (P .loopless) (P .reached) (P .leading) in
-        refused-as e (maps-unmet (modeOf (c .forward)) R (c .k) (c .target) net area loader contents (t .0) (t .1) (ap (lacking contents) s ∙ y ∙ b) h′ n);
+        refused-as e (maps-unmet (modeOf (c .forward)) R (c .k) (c .target) net pairs area loader contents (t .0) (t .1) (ap (lacking contents) s ∙ y ∙ b) h′ n);
   }
   net-refused (settling.covered e P b w) h = absurd (none e h)
     where
@@ -162,18 +162,18 @@ module _ {c : Call} {N : Net} (section area loader contents : List ℕ) where
       none e h = omega arith
 
   -- its number as a byte
-  pub net-refused-as : {a : Kept} {r n : ℕ} → SettledAs (modeOf (c .forward)) (c .lacks) (c .k) (c .target) N a r → 0 < r → n ≡ r → MapsNet c N section area area loader loader contents contents (turnedBack n)
-  net-refused-as t h e = subst (λ (x : ℕ). MapsNet c N section area area loader loader contents contents (turnedBack x)) (sym e) (net-refused t h)
+  pub net-refused-as : {a : Kept} {r n : ℕ} → SettledAs (modeOf (c .forward)) (c .lacks) (c .k) (c .target) N a r → 0 < r → n ≡ r → MapsNet c N section pairs area area loader loader contents contents (turnedBack n)
+  net-refused-as t h e = subst (λ (x : ℕ). MapsNet c N section pairs area area loader loader contents contents (turnedBack x)) (sym e) (net-refused t h)
 
   -- **a cover**
   pub net-covered : {a : Kept} {area′ loader′ contents′ : List ℕ} {n : ℕ} → CoverSettled (modeOf (c .forward)) (c .lacks) (c .k) (c .target) N a
       → length (coverBytes long (a .period) (entriesIn a)) ≤ coverArea → n ≡ length (coverBytes long (a .period) (entriesIn a))
-      → area′ ≡ written (coverBytes long (a .period) (entriesIn a)) area → loader′ ≡ loaded (entriesIn a) loader → contents′ ≡ filled N (entriesIn a) section contents
-      → MapsNet c N section area area′ loader loader′ contents contents′ (accepted n)
+      → area′ ≡ written (coverBytes long (a .period) (entriesIn a)) area → loader′ ≡ loaded (entriesIn a) loader → contents′ ≡ filled N (entriesIn a) (keptAfter pairs N section) contents
+      → MapsNet c N section pairs area area′ loader loader′ contents contents′ (accepted n)
   net-covered {a} {contents′ = contents′} u few d e i j = record {
     maps = λ R o net q s y.
         let P = u .passed in
         let t = check-passes R (c .k) net N [] q (P .loopless) (P .reached) (P .leading) in
-        maps-covered (modeOf (c .forward)) R (c .k) (c .target) net area loader contents (t .0) (t .1) (ap (lacking contents) s ∙ y ∙ u .sectioned) o (u .cover) few d e i
-        (subst (λ (x : List ℕ). contents′ ≡ filled N (entriesIn a) x contents) (sym s) j);
+        maps-covered (modeOf (c .forward)) R (c .k) (c .target) net pairs area loader contents (t .0) (t .1) (ap (lacking contents) s ∙ y ∙ u .sectioned) o (u .cover) few d e i
+        (subst (λ (x : List ℕ). contents′ ≡ filled N (entriesIn a) (keptAfter pairs N x) contents) (sym s) j);
   }

@@ -1,4 +1,5 @@
-// Checks 9 to 11, 21, 12 or 22 of a net read, its cover as a record in the cover area, the image in the loader area and the first contents in the contents area, where they are lent.
+// Checks 9 to 11, 21, 12 or 22 of a net read, its cover as a record in the cover area, the image in the loader area and the registers' contents at the step behind the input pairs in the
+// contents area, where they are lent.
 use cover_contents::write_contents;
 use cover_image::write_image;
 use cover_writer::CoverHead;
@@ -14,6 +15,7 @@ ghost use mathlib.Core.Path.{_≡_};
 ghost use mathlib.Core.List.{[]};
 ghost use Rattle.net_model.specs.Arrays.{netIn};
 ghost use Rattle.net_reader.specs.ReadAnswer.{arraysOf};
+ghost use Rattle.run_theory.specs.BenchBytes.{keptAfter};
 ghost use Rattle.cover_records.specs.Kept.{entriesIn};
 ghost use Rattle.cover_records.specs.Rows.{keptIn};
 ghost use Rattle.job_record.specs.MapAnswers.{answerOf};
@@ -26,12 +28,13 @@ pub enum Answer {
     Refused(u8),
 }
 
-// The first contents of the cover kept, where a contents area is lent. The run takes known, a number a gate, and work.
+// The contents of the cover kept, where a contents area is lent. The run starts from a copy of the section, and takes known, a number a gate, and work.
 fn fill_contents(
     z: NetSizes,
     net: &[usize],
     tables: &[u64],
     section: &[u8],
+    pairs: &[u8],
     known: &mut [usize],
     head: CoverHead,
     labels: &[i64],
@@ -40,18 +43,19 @@ fn fill_contents(
     contents: &mut [u8],
 )
     requires { ⌜ Filling z (now net) (now tables) (now section) (now known) (keptIn (head .inputs) (head .gates) (head .period) (now labels) (now rows) []) (now work) (now contents) ⌝ }
-    ensures { λ _. ⌜ now (contents .exit) ≡ filled (netIn (arraysOf z (now (net .entry)) (now (tables .entry)))) (entriesIn (keptIn (head .inputs) (head .gates) (head .period) (now (labels .entry)) (now (rows .entry)) [])) (now (section .entry)) (now (contents .entry)) ⌝ }
+    ensures { λ _. ⌜ now (contents .exit) ≡ filled (netIn (arraysOf z (now (net .entry)) (now (tables .entry)))) (entriesIn (keptIn (head .inputs) (head .gates) (head .period) (now (labels .entry)) (now (rows .entry)) [])) (keptAfter (now (pairs .entry)) (netIn (arraysOf z (now (net .entry)) (now (tables .entry)))) (now (section .entry))) (now (contents .entry)) ⌝ }
 {
     if contents.len() == 0 {
         return;
     }
     let mut kept = [0u8; NODES];
+    let n = bytes::copy(section, &mut kept);
     write_contents(
         z,
         net,
         tables,
-        section,
-        &mut kept,
+        pairs,
+        &mut kept[..n],
         known,
         head,
         labels,
@@ -67,6 +71,7 @@ pub fn map_read(
     net: &mut [usize],
     tables: &[u64],
     section: &[u8],
+    pairs: &[u8],
     call: Call,
     area: &mut [u8],
     work: &mut [u8],
@@ -74,7 +79,7 @@ pub fn map_read(
     contents: &mut [u8],
 ) -> Answer
     requires { ⌜ Mapping call z (now net) (now tables) (now section) (now area) (now work) (now loader) (now contents) ⌝ }
-    ensures { λ r. ⌜ MapsNet call (netIn (arraysOf z (now (net .entry)) (now (tables .entry)))) (now (section .entry)) (now (area .entry)) (now (area .exit)) (now (loader .entry)) (now (loader .exit)) (now (contents .entry)) (now (contents .exit)) (answerOf r) ⌝ }
+    ensures { λ r. ⌜ MapsNet call (netIn (arraysOf z (now (net .entry)) (now (tables .entry)))) (now (section .entry)) (now (pairs .entry)) (now (area .entry)) (now (area .exit)) (now (loader .entry)) (now (loader .exit)) (now (contents .entry)) (now (contents .exit)) (answerOf r) ⌝ }
 {
     let mut seen = [0usize; GATES];
     let mut noted = [0usize; GATES];
@@ -109,6 +114,7 @@ pub fn map_read(
         net,
         tables,
         section,
+        pairs,
         &mut noted,
         head,
         &labels,

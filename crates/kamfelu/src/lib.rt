@@ -1,11 +1,12 @@
-// The library for other programs: map and mark of both courses, map with a loader area and in forward mode, the root lookup and align, each with one number for its answer, and the classes
-// of three-input tables.
+// The library for other programs: map and mark of both courses, map with a loader area and in forward mode, the change-over, the root lookup and align, each with one number for its answer,
+// and the classes of three-input tables.
 use captures::Alignment;
 use captures::NO_SHIFT;
 use captures::align;
 use job_find::Found;
 use job_find::find_root;
 use job_judge::Grade;
+use job_map::change_over;
 use job_map::map;
 use job_map::map_forward;
 use job_map::map_loader;
@@ -24,6 +25,7 @@ ghost use Rattle.lutclass.specs.ClassTable.{shipped};
 ghost use Rattle.cover_records.specs.Outcomes.{mapOutcome, markOutcome};
 ghost use Rattle.cover_records.specs.LoaderOutcome.{loaderOutcome};
 ghost use Rattle.cover_records.specs.ForwardOutcome.{forwardOutcome};
+ghost use Rattle.cover_records.specs.ChangeOutcome.{changeOutcome};
 ghost use Rattle.job_record.specs.MapAnswers as map;
 ghost use Rattle.job_judge.specs.MarkAnswers as mark;
 ghost use Rattle.captures.specs.AlignOutcome.{alignOutcome};
@@ -106,6 +108,28 @@ pub extern "C" fn kamfelu_map_forward(
     ensures contents { λ _. ⌜ now (contents .exit) ≡ forwardOutcome long (now (net .entry)) k target (now (cover .entry)) (now (scratch .entry)) (now (loader .entry)) (now (contents .entry)) .contents ⌝ }
 {
     let answer = map_forward(net, k, target, cover, scratch, loader, contents);
+    map_code(answer)
+}
+
+// The change-over: map in forward mode, its contents those of the step behind the input pairs, two bytes a step. A contents area must be lent; a loader area of length 0 is not lent.
+#[no_mangle]
+pub extern "C" fn kamfelu_change_over(
+    net: &[u8],
+    k: u32,
+    target: u32,
+    pairs: &[u8],
+    cover: &mut [u8],
+    scratch: &mut [u8],
+    loader: &mut [u8],
+    contents: &mut [u8],
+) -> i64
+    ensures answer { λ r. ⌜ r ≡ coded (changeOutcome long (now (net .entry)) k target (now (pairs .entry)) (now (cover .entry)) (now (scratch .entry)) (now (loader .entry)) (now (contents .entry)) .answer) ⌝ }
+    ensures area { λ _. ⌜ now (cover .exit) ≡ changeOutcome long (now (net .entry)) k target (now (pairs .entry)) (now (cover .entry)) (now (scratch .entry)) (now (loader .entry)) (now (contents .entry)) .area ⌝ }
+    ensures scratch { λ _. ⌜ now (scratch .exit) ≡ changeOutcome long (now (net .entry)) k target (now (pairs .entry)) (now (cover .entry)) (now (scratch .entry)) (now (loader .entry)) (now (contents .entry)) .scratch ⌝ }
+    ensures loader { λ _. ⌜ now (loader .exit) ≡ changeOutcome long (now (net .entry)) k target (now (pairs .entry)) (now (cover .entry)) (now (scratch .entry)) (now (loader .entry)) (now (contents .entry)) .loader ⌝ }
+    ensures contents { λ _. ⌜ now (contents .exit) ≡ changeOutcome long (now (net .entry)) k target (now (pairs .entry)) (now (cover .entry)) (now (scratch .entry)) (now (loader .entry)) (now (contents .entry)) .contents ⌝ }
+{
+    let answer = change_over(net, k, target, pairs, cover, scratch, loader, contents);
     map_code(answer)
 }
 

@@ -1,15 +1,15 @@
 -- Laws of what is kept from step to step.
-use mathlib.Core.Path.{_≡_, refl, sym, ap, _∙_, subst}
+use mathlib.Core.Path.{_≡_, refl, sym, ap, ap₂, _∙_, subst}
 use mathlib.Core.Bool.{Bool}
-use mathlib.Core.List.{List}
+use mathlib.Core.List.{List, _++_}
 use mathlib.Core.Logic.{_⊎_, inl, inr}
 use Prim.Native.Nat.{ℕ, zero, suc, _+_, _-_, _*_, _/_, _%_, _^_, _≤_, _<_}
 use native.Mathlib.Omega.{arith}
 use native.Mathlib.Decide.{ℕ-discrete, decLt}
 use native.Mathlib.Numerals.{add-one}
 use lib.Dec.{eqb}
-use lib.ListN.{length, getD, set, length-set}
-use lib.Seq.{getD-set-same, getD-set-other}
+use lib.ListN.{length, getD, set, take, drop, length-set}
+use lib.Seq.{getD-set-same, getD-set-other, take-all, take-append-le}
 use Rattle.limits.specs.Limits.{mostCount}
 use Rattle.net_model.specs.Net.{IsNode}
 use Rattle.net_model.specs.Arrays.{netIn}
@@ -169,3 +169,11 @@ module _ {z : NetSizes} {net tables : List ℕ} (pairs kept known : List ℕ) wh
 pub step-asks : {z : NetSizes} {net tables pairs kept known kept′ known′ : List ℕ} {T : ℕ} → StepAsked z net tables kept known → RunTo z net tables pairs kept known kept′ known′ T
     → StepAsked z net tables kept′ known′
 step-asks a u = record { runnable = a .runnable; room = omega (arith, a .room, u .long); size = omega (arith, a .size, u .size) }
+
+-- ---- what is kept at first: a copy of the section
+
+-- what was copied stands in front
+pub copied : (l before after : List ℕ) (n : ℕ) → n ≡ length l → after ≡ take (length l) l ++ drop (length l) before → take n after ≡ l
+copied l before after n e f =
+    ap₂ (λ (m : ℕ) (x : List ℕ). take m x) e (f ∙ ap (λ (x : List ℕ). x ++ drop (length l) before) (take-all (length l) l (omega arith)))
+    ∙ take-append-le (length l) l (drop (length l) before) (omega arith) ∙ take-all (length l) l (omega arith)

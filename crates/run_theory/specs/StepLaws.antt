@@ -7,6 +7,7 @@ use native.Mathlib.Nat.{zero-add}
 use native.Mathlib.Omega.{arith}
 use Rattle.net_model.specs.Net.{Net, Pin, IsNode, IsInput}
 use Rattle.net_model.specs.Checks.{Sound, Loopless}
+use Rattle.run_theory.specs.AgoLaws.{ago-agree}
 use Rattle.run_theory.specs.Bench.{ago, pinFrom, Bench, sectionAt, Counts, Keeps}
 use Rattle.run_theory.specs.BenchLaws.{bench-later, bench-near, bench-before}
 
@@ -14,6 +15,12 @@ use Rattle.run_theory.specs.BenchLaws.{bench-later, bench-near, bench-be
 pub keeps-zero : (N : Net) (w : ℕ) (section value : ℕ → ℕ → Bool) → Keeps N w section value section 0
 unfolding ago
 keeps-zero N w section value v j i h = refl
+
+-- **what is kept at step T is a matter of the inputs before it**
+pub keeps-before : {N : Net} → Sound N → Loopless N → {section inputs inputs′ value value′ : ℕ → ℕ → Bool} → Bench N section inputs value → Bench N section inputs′ value′ → (w T : ℕ)
+    → ((u s : ℕ) → IsInput N u → s < T → inputs u s ≡ inputs′ u s) → Keeps N w section value′ (sectionAt section value T) T
+keeps-before sound loopless {section} {value = value} {value′ = value′} b b′ w T same v j i h =
+    ago-agree (section v) (section v) (value v) (value′ v) T (suc j) (λ m l. refl) (λ s e. bench-before sound loopless b b′ T same v s i (omega arith))
 
 module _ {N : Net} (sound : Sound N) (loopless : Loopless N) {w T : ℕ} (counts : Counts N w) {section inputs value kept inputs₀ value₀ : ℕ → ℕ → Bool}
     (b : Bench N section inputs value) (keeps : Keeps N w section value kept T) (b₀ : Bench N kept inputs₀ value₀)

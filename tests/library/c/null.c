@@ -1,11 +1,12 @@
-/* A pointer may be NULL where its length is 0: each area of map with and without a loader area, forward map, mark, find
-   root and align in turn, then all of them. */
+/* A pointer may be NULL where its length is 0: each area of map with and without a loader area, forward map, the
+   change-over, mark, find root and align in turn, then all of them. */
 #include "kamfelu.h"
 #include <stdio.h>
 
 static const uint8_t net[] = {2, 3, 1, 3, 0, 0, 1, 8, 3, 2, 2, 4, 1, 6, 1, 0, 3, 1, 0, 4}; /* net A */
 static const uint8_t record[] = {2, 2, 2, 2, 0, 0, 1, 8, 4, 2, 2, 2, 4, 1, 0, 9};           /* its cover, k 2 */
 static const uint8_t net_c[] = {0x82, 1, 1, 3, 3, 0, 1, 1, 1, 8, 0, 2, 1, 1, 0};            /* net C, with a section */
+static const uint8_t pairs[] = {2, 0, 9};                                                    /* a step and a lone byte */
 static uint8_t cover[962], scratch[65536], loader[256], contents[20592];
 static const uint16_t words[16];
 static int wrong;
@@ -92,6 +93,32 @@ int main(void)
     expect("forward, nothing", kamfelu_map_forward(NULL, 0, 2, 0, NULL, 0, NULL, 0, NULL, 0, NULL, 0), -3);
     expect("forward, nothing, target 33", kamfelu_map_forward(NULL, 0, 2, 33, NULL, 0, NULL, 0, NULL, 0, NULL, 0), -2);
     expect("forward, nothing, k 7", kamfelu_map_forward(NULL, 0, 7, 33, NULL, 0, NULL, 0, NULL, 0, NULL, 0), -1);
+
+    fill();
+    expect("change, no pairs", kamfelu_change_over(net_c, 15, 2, 1, NULL, 0, cover, 962, scratch, 65536, loader, 256, contents, 20592), 13);
+    expect_scratch("change, no pairs", 0);
+    expect("change, no pairs, contents", contents[0], 1);
+    expect("change, no loader area", kamfelu_change_over(net_c, 15, 2, 1, pairs, 3, cover, 962, scratch, 65536, NULL, 0, contents, 20592), 13);
+    expect("change, no loader area, contents", contents[0], 0);
+    expect("change, no pairs, no loader area", kamfelu_change_over(net_c, 15, 2, 1, NULL, 0, cover, 962, scratch, 65536, NULL, 0, contents, 20592), 13);
+    expect("change, no pairs, no loader area, contents", contents[0], 1);
+    fill();
+    expect("change, no net", kamfelu_change_over(NULL, 0, 2, 0, pairs, 3, cover, 962, scratch, 65536, loader, 256, contents, 20592), -4);
+    expect_scratch("change, no net", 0);
+    fill();
+    expect("change, no net, short loader", kamfelu_change_over(NULL, 0, 2, 0, pairs, 3, cover, 962, scratch, 65536, loader, 255, contents, 20592), -20);
+    expect_scratch("change, no net, short loader", 0);
+    fill();
+    expect("change, no contents area", kamfelu_change_over(net_c, 15, 2, 1, pairs, 3, cover, 962, scratch, 65536, loader, 256, NULL, 0), -3);
+    expect("change, no contents area, short loader", kamfelu_change_over(net_c, 15, 2, 1, pairs, 3, cover, 962, scratch, 65536, loader, 255, NULL, 0), -3);
+    expect("change, no net, short contents", kamfelu_change_over(NULL, 0, 2, 0, NULL, 0, cover, 962, scratch, 65536, NULL, 0, contents, 20591), -3);
+    expect("change, no cover area", kamfelu_change_over(net_c, 15, 2, 1, pairs, 3, NULL, 0, scratch, 65536, NULL, 0, contents, 20592), -3);
+    expect_scratch("change, no cover area", 7);
+    expect("change, no scratch", kamfelu_change_over(net_c, 15, 2, 1, pairs, 3, cover, 962, NULL, 0, NULL, 0, contents, 20592), -3);
+    expect("change, no section", kamfelu_change_over(net, 20, 2, 1, NULL, 0, cover, 962, scratch, 65536, NULL, 0, contents, 20592), -21);
+    expect("change, nothing", kamfelu_change_over(NULL, 0, 2, 0, NULL, 0, NULL, 0, NULL, 0, NULL, 0, NULL, 0), -3);
+    expect("change, nothing, target 33", kamfelu_change_over(NULL, 0, 2, 33, NULL, 0, NULL, 0, NULL, 0, NULL, 0, NULL, 0), -2);
+    expect("change, nothing, k 7", kamfelu_change_over(NULL, 0, 7, 33, NULL, 0, NULL, 0, NULL, 0, NULL, 0, NULL, 0), -1);
 
     fill();
     expect("mark, no net", kamfelu_mark(NULL, 0, 2, record, 16, scratch, 65536), -4);

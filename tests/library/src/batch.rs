@@ -1,7 +1,7 @@
 //! The batch of cases that the program `reading` is given at the gate: each k, the net's
 //! length in two bytes, low first, and the net.
 
-use crate::compare::{some_k, some_net};
+use crate::inputs::{some_k, some_net};
 use crate::nets::{largest_record, line, net, net_a, net_b, net_c, with_sections, Read, AND};
 use second::damage::damaged_net;
 use second::encode::encode;

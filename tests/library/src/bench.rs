@@ -2,8 +2,9 @@
 //! it is given at the gate.
 
 use crate::batch::case;
-use crate::compare::{mostly_sectioned, some_k, some_net, Tally};
+use crate::inputs::{mostly_sectioned, some_k, some_net};
 use crate::programs::printed;
+use crate::tally::Tally;
 use second::damage::damaged;
 use second::encode::{encode, random_section, with_section};
 use second::generate::{random_net, Shape};

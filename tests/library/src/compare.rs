@@ -1,162 +1,27 @@
-//! The library against the second mapper on random nets and candidates: answers, cover
-//! areas, loader areas, contents areas and scratch, whole.
+//! The library against the second mapper: answers, cover areas, loader areas, contents areas and scratch, whole.
 
-use crate::nets::{net_a, net_b, net_c, of_family, FAMILIES};
-use crate::programs::printed;
-use second::contents::CONTENTS_BYTES;
+use crate::inputs::{
+    deep, some_contents, some_forward_net, some_k, some_lengths, some_loader, some_net, some_pairs,
+    some_section, some_target, HUGE,
+};
+use crate::nets::{of_family, FAMILIES};
+use crate::tally::{on_threads, seed, Tally};
 use second::damage::{candidate, damaged, damaged_net};
-use second::encode::{encode, encode_with_holes, random_section, with_section};
+use second::encode::encode_with_holes;
 use second::generate::{random_net, wild_net, Shape};
 use second::jobs::{Course, COVER_BYTES, LONG, SCRATCH_BYTES, SHORT};
-use second::listing::{listing_within, GAVE_UP};
-use second::loader::{image, LOADER_BYTES};
+use second::loader::image;
 use second::mark::{check_cover, is_forward};
 use second::solve::unreachable;
 use second::{
-    first_contents, parse_net, parse_with_section, read_record, read_with_section, Answer, Areas,
-    Limits, Mode, Net, Random,
+    contents_after, read_record, read_with_section, Answer, Areas, Job, Limits, Mode, Random,
 };
-use std::collections::BTreeMap;
-use std::thread::Builder;
-
-const THREADS: u64 = 2;
 
 /// Here the second mapper gives up.
 pub const LIMITS: Limits = Limits {
     cuts: 10_000,
     steps: 200_000,
 };
-
-/// Targets and k that are right only in their low bits.
-pub const HUGE: [u32; 8] = [
-    256,
-    256 + 2,
-    65_536,
-    65_536 + 2,
-    1 << 31,
-    (1 << 31) + 2,
-    u32::MAX - 1,
-    u32::MAX,
-];
-
-fn setting(name: &str, default: u64) -> u64 {
-    match std::env::var(name) {
-        Ok(text) => text.parse().expect("a number"),
-        Err(_) => default,
-    }
-}
-
-pub fn seed() -> u64 {
-    setting("KAMFELU_SEED", 1)
-}
-
-/// The number of random pairs.
-pub fn cases() -> u64 {
-    setting("KAMFELU_CASES", 120_000)
-}
-
-/// What was compared.
-#[derive(Default)]
-pub struct Tally {
-    pub pairs: u64,
-    /// The second mapper gave up.
-    pub skipped: u64,
-    /// Answers by refusal, 0 where there was none.
-    pub seen: [u64; 23],
-    /// Answers without refusal by length or excess.
-    pub done: BTreeMap<u32, u64>,
-    /// Pairs whose least period is above 1.
-    pub deep: u64,
-    pub differences: u64,
-    pub first: Vec<String>,
-}
-
-impl Tally {
-    /// Count an expected answer.
-    pub fn count(&mut self, expected: Answer) {
-        match expected {
-            Answer::Done(number) => {
-                self.seen[0] += 1;
-                *self.done.entry(number).or_default() += 1;
-            }
-            Answer::Refused(number) => self.seen[usize::from(number)] += 1,
-            Answer::GaveUp => {
-                self.skipped += 1;
-                return;
-            }
-        }
-        self.pairs += 1;
-    }
-
-    pub fn check(&mut self, same: bool, told: impl Fn() -> String) {
-        if !same {
-            self.differences += 1;
-            if self.first.len() < 5 {
-                self.first.push(told());
-            }
-        }
-    }
-
-    pub fn add(&mut self, other: Tally) {
-        self.pairs += other.pairs;
-        self.skipped += other.skipped;
-        for (sum, n) in self.seen.iter_mut().zip(other.seen) {
-            *sum += n;
-        }
-        for (number, n) in other.done {
-            *self.done.entry(number).or_default() += n;
-        }
-        self.deep += other.deep;
-        self.differences += other.differences;
-        self.first.extend(other.first);
-    }
-
-    pub fn print(&self) {
-        println!(
-            "{} pairs, {} skipped, {} least periods above 1, answers by refusal {:?}, {} differences",
-            self.pairs, self.skipped, self.deep, self.seen, self.differences
-        );
-    }
-
-    pub fn fail_on_differences(&self) {
-        let first = self.first.join("\n");
-        assert!(
-            self.differences == 0,
-            "{} differences:\n{first}",
-            self.differences
-        );
-    }
-}
-
-/// Enough for the second mapper.
-const STACK: usize = 8 << 20;
-
-/// Two threads; the work gets its number and how many there
-/// are. What they give, in order.
-pub fn each_thread<T: Send>(work: impl Fn(u64, u64) -> T + Sync) -> Vec<T> {
-    std::thread::scope(|scope| {
-        let work = &work;
-        let start = |number| {
-            let builder = Builder::new().stack_size(STACK);
-            builder
-                .spawn_scoped(scope, move || work(number, THREADS))
-                .expect("a thread")
-        };
-        let threads: Vec<_> = (0..THREADS).map(start).collect();
-        let end = |thread: std::thread::ScopedJoinHandle<T>| thread.join();
-        let ended = threads.into_iter().map(end);
-        ended.map(|told| told.expect("the thread ends")).collect()
-    })
-}
-
-/// The same with one tally for all.
-pub fn on_threads(work: impl Fn(u64, u64) -> Tally + Sync) -> Tally {
-    let mut all = Tally::default();
-    for tally in each_thread(work) {
-        all.add(tally);
-    }
-    all
-}
 
 /// So many random calls of a course, made one after the other by `call`.
 pub fn random_calls(
@@ -204,28 +69,77 @@ pub fn all_maps(course: Course, nets: &[Vec<u8>], targets: &[u32], calls: &[Call
     tally.fail_on_differences();
 }
 
-/// The library's calls of map, with the lengths of the areas that each takes beside cover area and scratch.
+/// Map of some nets with each of these lengths of cover area and scratch, by each of these calls, for each of these
+/// k and targets.
+pub fn all_lengths(
+    nets: &[Vec<u8>],
+    [covers, works]: [&[usize]; 2],
+    calls: &[Call],
+    asked: &[(u32, u32)],
+) -> Tally {
+    let tally = on_threads(|thread, threads| {
+        let mut random = Random::new(thread);
+        let mut sides = Sides::new(&mut random);
+        for net in nets.iter().skip(thread as usize).step_by(threads as usize) {
+            for &cover in covers {
+                for &scratch in works {
+                    for &call in calls {
+                        let lengths = Lengths {
+                            cover,
+                            scratch,
+                            call,
+                        };
+                        for &(k, target) in asked {
+                            sides.map(&mut random, net, k, target, lengths);
+                        }
+                    }
+                }
+            }
+        }
+        sides.tally
+    });
+    tally.print();
+    tally.fail_on_differences();
+    tally
+}
+
+/// The library's calls of map, with the lengths of what each takes beside cover area and scratch.
 #[derive(Clone, Copy, Debug)]
 pub enum Call {
     Plain,
     Loader(usize),
-    Forward { loader: usize, contents: usize },
+    Forward {
+        loader: usize,
+        contents: usize,
+    },
+    ChangeOver {
+        pairs: usize,
+        loader: usize,
+        contents: usize,
+    },
 }
 
 impl Call {
-    fn mode(self) -> Mode {
+    /// The second mapper's job.
+    fn job(self, pairs: &[u8]) -> Job<'_> {
         match self {
-            Call::Forward { .. } => Mode::Forward,
-            _ => Mode::Plain,
+            Call::Plain | Call::Loader(_) => Job::Plain,
+            Call::Forward { .. } => Job::Forward,
+            Call::ChangeOver { .. } => Job::ChangeOver(pairs),
         }
     }
 
-    /// The lengths of loader area and contents area.
-    fn lent(self) -> [usize; 2] {
+    /// The lengths of loader area, contents area and pairs.
+    fn lent(self) -> [usize; 3] {
         match self {
-            Call::Plain => [0, 0],
-            Call::Loader(loader) => [loader, 0],
-            Call::Forward { loader, contents } => [loader, contents],
+            Call::Plain => [0; 3],
+            Call::Loader(loader) => [loader, 0, 0],
+            Call::Forward { loader, contents } => [loader, contents, 0],
+            Call::ChangeOver {
+                pairs,
+                loader,
+                contents,
+            } => [loader, contents, pairs],
         }
     }
 }
@@ -247,6 +161,8 @@ pub struct Sides {
     pub scratch: [Vec<u8>; 2],
     pub loader: [Vec<u8>; 2],
     pub contents: [Vec<u8>; 2],
+    /// Only read.
+    pub pairs: [Vec<u8>; 2],
     pub tally: Tally,
 }
 
@@ -265,6 +181,7 @@ impl Sides {
             scratch: areas(),
             loader: areas(),
             contents: areas(),
+            pairs: areas(),
             tally: Tally::default(),
         }
     }
@@ -280,23 +197,25 @@ impl Sides {
 
     /// Map of one pair of net and target.
     pub fn map(&mut self, random: &mut Random, net: &[u8], k: u32, target: u32, lengths: Lengths) {
-        let [loader, contents] = lengths.call.lent();
+        let [loader, contents, pairs] = lengths.call.lent();
         for (area, length) in [
             (&mut self.cover, lengths.cover),
             (&mut self.scratch, lengths.scratch),
             (&mut self.loader, loader),
             (&mut self.contents, contents),
+            (&mut self.pairs, pairs),
         ] {
             Sides::fill(area, &self.noise, random, length);
         }
-        let (course, mode) = (self.course, lengths.call.mode());
-        let expected =
-            second::map_within(course, mode, LIMITS, net, k, target, self.second_areas());
+        let course = self.course;
+        let (job, areas) = self.second(lengths.call);
+        let expected = second::map_within(course, job, LIMITS, net, k, target, areas);
         let found = self.found(net, k, target, lengths.call);
         self.tally.count(expected);
         let right = if expected == Answer::GaveUp {
             let record = self.cover[0].clone();
-            fits(found, net, k, target, mode, self.second_areas(), &record)
+            let (job, areas) = self.second(lengths.call);
+            fits(found, net, k, target, job, areas, &record)
         } else {
             let done = matches!(expected, Answer::Done(_));
             self.tally.deep += u64::from(done && target == 0 && self.cover[1][0] > 1);
@@ -307,30 +226,34 @@ impl Sides {
             scratch,
             loader,
             contents,
+            pairs,
             tally,
             ..
         } = self;
-        let areas = [cover, scratch, loader, contents];
+        let given = pairs[1].clone();
+        let areas = [cover, scratch, loader, contents, pairs];
         let same = right && areas.iter().all(|[own, other]| own == other);
         let told = || {
             let differs = |[a, b]: &[Vec<u8>; 2]| a.iter().zip(b).position(|(a, b)| a != b);
             let places = areas.each_ref().map(|area| differs(area));
             format!(
-                "net {net:?} k {k} target {target} {lengths:?}: expected {expected:?}, \
-                 found {found:?}, first other byte of cover, scratch, loader, contents {places:?}"
+                "net {net:?} k {k} target {target} {lengths:?} pairs {given:?}: \
+                 expected {expected:?}, found {found:?}, \
+                 first other byte of cover, scratch, loader, contents, pairs {places:?}"
             )
         };
         tally.check(same, told);
     }
 
-    /// The areas of the second mapper.
-    fn second_areas(&mut self) -> Areas<'_> {
-        Areas {
+    /// The second mapper's job and areas.
+    fn second(&mut self, call: Call) -> (Job<'_>, Areas<'_>) {
+        let areas = Areas {
             cover: &mut self.cover[1],
             scratch: &mut self.scratch[1],
             loader: &mut self.loader[1],
             contents: &mut self.contents[1],
-        }
+        };
+        (call.job(&self.pairs[1]), areas)
     }
 
     /// The library's answer.
@@ -343,6 +266,10 @@ impl Sides {
             (Call::Loader(_), _) => kamfelu::map_loader(net, k, target, cover, scratch, loader),
             (Call::Forward { .. }, _) => {
                 kamfelu::map_forward(net, k, target, cover, scratch, loader, contents)
+            }
+            (Call::ChangeOver { .. }, _) => {
+                let pairs = &self.pairs[0];
+                kamfelu::change_over(net, k, target, pairs, cover, scratch, loader, contents)
             }
         }
     }
@@ -404,6 +331,16 @@ impl Sides {
     pub fn random_forwards(&mut self, random: &mut Random) {
         let net = some_forward_net(random);
         self.some_maps(random, net, |random| Call::Forward {
+            loader: some_loader(random),
+            contents: some_contents(random),
+        });
+    }
+
+    /// The same behind some input pairs.
+    pub fn random_changes(&mut self, random: &mut Random) {
+        let net = some_forward_net(random);
+        self.some_maps(random, net, |random| Call::ChangeOver {
+            pairs: some_pairs(random),
             loader: some_loader(random),
             contents: some_contents(random),
         });
@@ -493,7 +430,7 @@ fn fits(
     net: &[u8],
     k: u32,
     target: u32,
-    mode: Mode,
+    job: Job,
     areas: Areas,
     record: &[u8],
 ) -> bool {
@@ -501,7 +438,7 @@ fn fits(
     let (net, section) = read_with_section(net, k).expect("a good net");
     let length = match found {
         Ok(length) => length,
-        Err(number) => return number == unreachable(mode) && target != 0,
+        Err(number) => return number == unreachable(job.mode()) && target != 0,
     };
     let Ok(read) = read_record(&net, k, &record[..length]) else {
         return false;
@@ -511,209 +448,11 @@ fn fits(
         let image = image(&read);
         areas.loader[..image.len()].copy_from_slice(&image);
     }
-    let good = check_cover(&net, &read).is_ok() && (mode == Mode::Plain || is_forward(&net, &read));
+    let plain = job.mode() == Mode::Plain;
+    let good = check_cover(&net, &read).is_ok() && (plain || is_forward(&net, &read));
     if good && !areas.contents.is_empty() {
-        let first = first_contents(&net, &section.expect("a section"), &read);
+        let first = contents_after(&net, &section.expect("a section"), &read, job.pairs());
         areas.contents[..first.len()].copy_from_slice(&first);
     }
     good && (target == 0 || read.period == target)
-}
-
-/// Mostly a contents area that is long enough; none and short ones among them.
-fn some_contents(random: &mut Random) -> usize {
-    match random.below(10) {
-        0 | 1 => 0,
-        2 => random.pick(&[1, 99, 961, 20_000, 20_591, 20_591]),
-        3 => random.pick(&[20_600, 65_536, 99_999]),
-        _ => random.within(CONTENTS_BYTES, CONTENTS_BYTES + 1),
-    }
-}
-
-/// Mostly a loader area that is long enough; none and short ones among them.
-fn some_loader(random: &mut Random) -> usize {
-    match random.below(10) {
-        0 => 0,
-        1 => random.pick(&[1, 8, 16, 128, 254, 255]),
-        2 => random.pick(&[300, 1000, 65_536]),
-        _ => random.within(LOADER_BYTES, LOADER_BYTES + 1),
-    }
-}
-
-/// Most areas are large enough; the others are at the limits.
-fn some_lengths(random: &mut Random) -> (usize, usize) {
-    let covers = [961, COVER_BYTES, 963, 0, 1, 1000];
-    let works = [65_535, SCRATCH_BYTES, 65_537, 0, 65_000, 70_000];
-    match random.below(20) {
-        0 => (random.pick(&covers), random.pick(&works)),
-        1 => (random.pick(&covers), SCRATCH_BYTES),
-        2 => (COVER_BYTES, random.pick(&works)),
-        _ => (random.within(962, 963), random.within(65_536, 65_537)),
-    }
-}
-
-/// Nets that seldom reach period 1: many inputs, few registers, few pins of one source.
-pub fn deep(random: &mut Random, gates: usize, pins: usize) -> Shape {
-    Shape {
-        inputs: (random.within(2, 16), 16),
-        gates: (gates / 2, gates),
-        outputs: (1, 2),
-        pins: (pins.min(2), pins),
-        count: random.within(1, 3) as u32,
-        registers: random.pick(&[0, 5, 15]),
-        back: random.pick(&[5, 15, 30]),
-        twin: 0,
-        input: random.pick(&[10, 30]),
-    }
-}
-
-/// A few gates with many registers: now and then some is reached from no input, or leads to no output.
-fn small_wild(random: &mut Random, pins: usize) -> Net {
-    let shape = Shape {
-        registers: 60,
-        ..Shape::any(random, 4, pins.min(2))
-    };
-    wild_net(random, &shape)
-}
-
-/// Net bytes of all kinds, and the most pins of a gate.
-pub fn some_net(random: &mut Random) -> (Vec<u8>, usize) {
-    let pins = random.within(1, 6);
-    let gates = random.pick(&[3, 6, 6, 10, 10, 16, 32]);
-    let shape = match random.below(2) {
-        0 => Shape::any(random, gates, pins),
-        _ => deep(random, gates, pins),
-    };
-    let bytes = match random.below(20) {
-        0 => encode_with_holes(&wild_net(random, &shape), random),
-        1 => encode_with_holes(&small_wild(random, pins), random),
-        2 => (0..random.below(60)).map(|_| random.byte()).collect(),
-        3 => {
-            let family = random.below(FAMILIES.len());
-            let gates = random.within(2, 12);
-            encode(&of_family(family, random, gates, pins.max(2)))
-        }
-        4 => random.pick(&[net_a as fn() -> Vec<u8>, net_c, || net_b(0), || net_b(1)])(),
-        _ => encode_with_holes(&random_net(random, &shape), random),
-    };
-    let bytes = some_section(random, bytes);
-    let bytes = match random.below(10) {
-        0..=2 => damaged_net(random, &bytes),
-        _ => bytes,
-    };
-    (bytes, pins)
-}
-
-/// Now and then a section behind a net that is read: whole, or with a byte above 7, with bytes missing or
-/// over, its bit without it, or it without its bit.
-pub fn some_section(random: &mut Random, net: Vec<u8>) -> Vec<u8> {
-    if random.chance(70) {
-        return net;
-    }
-    let Ok(read) = parse_net(&net, 6) else {
-        return net;
-    };
-    let mut section = random_section(read.nodes(), random);
-    let at = random.below(section.len());
-    match random.below(16) {
-        0 => section[at] = random.pick(&[8, 9, 15, 16, 64, 128, 135, 255]),
-        1 => section.truncate(at),
-        2 => section.extend((0..random.within(1, 3)).map(|_| random.byte())),
-        3 => section.clear(),
-        4 => return [net, section].concat(),
-        _ => {}
-    }
-    with_section(&net, &section)
-}
-
-/// Net bytes of all kinds, most of them with a section.
-pub fn some_forward_net(random: &mut Random) -> (Vec<u8>, usize) {
-    let pins = random.within(2, 4);
-    let (bytes, pins) = match random.below(10) {
-        0..=3 => some_net(random),
-        4..=6 => (encode_with_holes(&late_outputs(random, pins), random), pins),
-        7 | 8 => (encode_with_holes(&tangled(random, pins), random), pins),
-        _ => {
-            let (family, gates) = (random.below(FAMILIES.len()), random.within(4, 16));
-            (encode(&of_family(family, random, gates, pins)), pins)
-        }
-    };
-    (mostly_sectioned(random, bytes), pins)
-}
-
-/// Registers at the outputs, which no forward cover moves into the net.
-fn late_outputs(random: &mut Random, pins: usize) -> Net {
-    let gates = random.pick(&[4, 8, 8, 16, 32]);
-    let shape = deep(random, gates, pins);
-    let mut net = random_net(random, &shape);
-    for output in &mut net.outputs {
-        output.count = random.within(1, 3) as u32;
-    }
-    net
-}
-
-/// Few inputs, many registers and loops: labels climb from far below, and members have many different d.
-fn tangled(random: &mut Random, pins: usize) -> Net {
-    let shape = Shape {
-        inputs: (1, 2),
-        gates: (4, random.pick(&[6, 8, 12])),
-        outputs: (1, 2),
-        pins: (random.within(1, 2), pins),
-        count: 3,
-        registers: random.pick(&[40, 60]),
-        back: random.pick(&[30, 50]),
-        twin: 0,
-        input: random.pick(&[10, 30]),
-    };
-    random_net(random, &shape)
-}
-
-/// Nine of ten nets that are read and have no section get one.
-pub fn mostly_sectioned(random: &mut Random, net: Vec<u8>) -> Vec<u8> {
-    match parse_with_section(&net, 6) {
-        Ok((read, None)) if random.chance(90) => {
-            with_section(&net, &random_section(read.nodes(), random))
-        }
-        _ => net,
-    }
-}
-
-/// The listing program on a random net, against the second mapper's text.
-pub fn random_listing(tally: &mut Tally, random: &mut Random) {
-    let (net, pins) = some_net(random);
-    let k = some_k(random, pins) as u8;
-    let target = random.pick(&[0, 0, 1, 2, 3, 32, 33]);
-    let expected = listing_within(LIMITS, k.into(), target.into(), &net);
-    if expected == GAVE_UP {
-        tally.skipped += 1;
-        return;
-    }
-    let text = printed("listing", &[&[k, target], &net[..]].concat());
-    tally.pairs += 1;
-    tally.check(text == expected, || {
-        format!("listing, k {k} target {target} net {net:02x?}: {text}, not {expected}")
-    });
-}
-
-fn some_target(random: &mut Random, least: u32) -> u32 {
-    match random.below(20) {
-        0..=3 => 0,
-        4..=8 => least,
-        9..=11 => least.saturating_sub(1),
-        12 => least + 1,
-        13 => random.pick(&[31, 32, 33]),
-        14 => random.pick(&HUGE),
-        15 => random.below(41) as u32,
-        _ => random.within(1, 5) as u32,
-    }
-}
-
-/// Mostly a k that suits gates with so many pins.
-pub fn some_k(random: &mut Random, pins: usize) -> u32 {
-    match random.below(40) {
-        0 => random.below(9) as u32,
-        1 => random.pick(&HUGE),
-        2..=5 => random.within(2, 6) as u32,
-        6..=20 => pins.max(2) as u32,
-        _ => random.within(pins.max(2), 6) as u32,
-    }
 }

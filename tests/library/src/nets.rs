@@ -1,6 +1,6 @@
 //! Nets made by hand: document 01's, and families that need many sweeps or large cones.
 
-use second::encode::{encode, with_section};
+use second::encode::{encode, random_section, with_section};
 use second::generate::{random_net, Shape};
 use second::rare;
 use second::{lut_table, Cover, Gate, Lut, Net, NodeCopy, Pin, Random};
@@ -333,6 +333,16 @@ pub const FAMILIES: [&str; 9] = [
     "loops in a row",
 ];
 
+/// The real nets, each with some section.
+pub fn real_with_sections() -> Vec<Vec<u8>> {
+    let mut random = Random::new(6);
+    let with = |net: Vec<u8>| {
+        let nodes = usize::from(net[0]) + usize::from(net[1]);
+        with_section(&net, &random_section(nodes, &mut random))
+    };
+    real().into_iter().map(with).collect()
+}
+
 /// A net of a family with so many gates and at most so many pins a gate.
 pub fn of_family(family: usize, random: &mut Random, gates: usize, pins: usize) -> Net {
     let own = random.within(2, pins);
@@ -461,6 +471,26 @@ pub fn for_forward() -> Vec<Vec<u8>> {
         nets.push(with_section(&rare.net, &vec![6; nodes]));
         nets.push(rare.net);
     }
+    nets
+}
+
+/// Records that are refused with 4 to 8 in turn, then with 9, 10 and 11.
+pub fn refused() -> Vec<Vec<u8>> {
+    let loop_of_one = net(1, &[(&[(1, 0)], 2)], &[(1, 0)]);
+    let from_nowhere = net(1, &[(&[(1, 1)], 2)], &[(1, 0)]);
+    let to_nowhere = net(1, &[(&[(0, 0)], 2)], &[(0, 0)]);
+    let mut nets = vec![vec![], vec![17], vec![1, 1, 1, 0], vec![1, 1, 1, 7]];
+    nets.push([net_a(), vec![0]].concat());
+    nets.extend([loop_of_one, from_nowhere, to_nowhere].map(|net| encode(&net)));
+    nets
+}
+
+/// Nets with a section and without, mapped to forward covers or out of reach, then those that are refused.
+pub fn mapped_and_refused() -> Vec<Vec<u8>> {
+    let mut nets = vec![net_a(), net_b(1), net_c(), encode(&largest_record())];
+    nets.extend([&net_a(), &net_b(1)].map(|net| with_section(net, &[5; 5])));
+    nets.extend([c_with_section(), longest_outputs()]);
+    nets.extend(refused());
     nets
 }
 

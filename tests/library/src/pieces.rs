@@ -1,7 +1,8 @@
 //! The pieces of mark one by one, each against the second mapper's own function for it:
 //! the reader (4 to 8), the checks (9 to 11), the cone walk (14) and the tables (15).
 
-use crate::compare::{deep, some_k, some_net, some_section, Sides, LIMITS};
+use crate::compare::{Sides, LIMITS};
+use crate::inputs::{deep, some_k, some_net, some_section};
 use crate::nets::{line, wide_cone};
 use second::bytes::table_mask;
 use second::damage::{damaged_net, random_leaf};

@@ -1,11 +1,11 @@
 //! The program `bench` (document 02, E5) over standard input and output, against the second mapper's text.
 
 use library::bench::{expected, input, of_32_gates, random_bench, stored};
-use library::compare::{seed, Tally};
 use library::nets::{
     c_with_section, largest_record, net, net_a, net_b, net_c, with_sections, Read, AND,
 };
 use library::programs::{printed, printed_from};
+use library::tally::{seed, Tally};
 use second::bench::MOST_STEPS;
 use second::encode::{encode, random_section, with_section};
 use second::generate::{random_net, Shape};

@@ -5,7 +5,7 @@ use std::path::{Path, PathBuf};
 use std::process::Command;
 
 /// The examples, and what each prints.
-const PRINTED: [(&str, &str); 6] = [
+const PRINTED: [(&str, &str); 7] = [
     ("map_and_mark", "map: 16 bytes, period 2\nmark: excess 1\n"),
     (
         "loader",
@@ -15,6 +15,13 @@ const PRINTED: [(&str, &str); 6] = [
         "forward",
         "map: 13 bytes, period 1\nleaf 0:1 of LUT 2, registers 0\nleaf 1:1 of LUT 2, registers 0\n\
          output 0, registers 1: 1\noutput 1, registers 2: 1 0\n",
+    ),
+    (
+        "change_over",
+        "step 0: 13 bytes, period 1, output 0: 1, output 1: 1 0\n\
+         step 1: 13 bytes, period 1, output 0: 1, output 1: 1 1\n\
+         step 2: 13 bytes, period 1, output 0: 0, output 1: 0 1\n\
+         step 3: 13 bytes, period 1, output 0: 0, output 1: 1 0\n",
     ),
     ("class", "class of 232: 23\n"),
     ("align", "align: shift 3\n"),

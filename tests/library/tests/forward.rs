@@ -1,57 +1,28 @@
 //! Forward map (document 02, E6) against the second mapper's: answers, cover areas, loader areas, contents areas
 //! and scratch, whole; and boards with the library's own records and contents against runs of the net.
 
-use kamfelu::{connections, Connection, Reader, CONTENTS_AREA, COVER_AREA, LOADER_AREA, SCRATCH};
-use library::compare::{
-    all_maps, cases, each_thread, on_threads, random_calls, seed, some_forward_net, some_k,
-    some_net, Call, Lengths, Sides,
-};
+use kamfelu::{connections, Connection, Reader, CONTENTS_AREA, COVER_AREA, SCRATCH};
+use library::areas::Areas;
+use library::compare::{all_lengths, all_maps, random_calls, Call, Sides};
+use library::inputs::{some_forward_net, some_k, some_net};
 use library::nets::{
-    c_with_section, c_with_two_outputs, for_forward, hand_made, largest_record, longest_connection,
-    longest_outputs, net, net_a, net_b, net_c, real,
+    c_with_section, c_with_two_outputs, for_forward, hand_made, longest_connection,
+    longest_outputs, mapped_and_refused, net_a, net_b, real, real_with_sections,
 };
+use library::tally::{cases, each_thread, seed};
 use second::board::board_runs_as_net;
 use second::contents::CONTENTS_BYTES;
 use second::damage::damaged;
 use second::encode::{encode, random_section, with_section};
 use second::jobs::LONG;
 use second::mark::is_forward;
-use second::{parse_net, rare, read_record, read_with_section, Cover, Net, Random};
-
-/// Areas that are long enough, and what forward map left in them.
-struct Areas {
-    cover: Vec<u8>,
-    scratch: Vec<u8>,
-    loader: Vec<u8>,
-    contents: Vec<u8>,
-}
-
-impl Areas {
-    /// Cover area and contents area are full of 7.
-    fn new() -> Areas {
-        Areas {
-            cover: vec![7; COVER_AREA],
-            scratch: vec![9; SCRATCH],
-            loader: vec![5; LOADER_AREA],
-            contents: vec![7; CONTENTS_AREA],
-        }
-    }
-
-    fn forward(&mut self, net: &[u8], k: u32, target: u32) -> Result<usize, u8> {
-        let (loader, contents) = (&mut self.loader, &mut self.contents);
-        let (cover, scratch) = (&mut self.cover, &mut self.scratch);
-        kamfelu::map_forward(net, k, target, cover, scratch, loader, contents)
-    }
-}
+use second::{parse_net, rare, read_record, read_with_section, Bench, Cover, Net, Random};
 
 /// The first contents that forward map writes for a net with a section, or its refusal.
 fn contents(net: &[u8], k: u32, target: u32) -> Result<Vec<u8>, u8> {
-    let mut areas = Areas::new();
+    let mut areas = Areas::default();
     areas.forward(net, k, target)?;
-    let end = areas.contents.iter().position(|&byte| byte == 7);
-    let (first, behind) = areas.contents.split_at(end.expect("bytes behind"));
-    assert!(behind.iter().all(|&byte| byte == 7));
-    Ok(first.to_vec())
+    Ok(areas.written().to_vec())
 }
 
 #[test]
@@ -82,7 +53,7 @@ fn rare_nets() {
     for rare in rare::all() {
         let nodes = usize::from(rare.net[0] + rare.net[1]);
         let net = with_section(&rare.net, &vec![3; nodes]);
-        let mut areas = Areas::new();
+        let mut areas = Areas::default();
         assert!(areas.forward(&net, rare.k, 0).is_ok());
         assert_eq!(u32::from(areas.cover[0]), rare.least);
         for below in 1..rare.least {
@@ -128,13 +99,7 @@ fn hand_made_nets_with_all_lengths() {
 /// The real nets, each with some section and without.
 #[test]
 fn real_nets() {
-    let mut random = Random::new(6);
-    let mut nets = real();
-    let with = |net: &Vec<u8>| {
-        let nodes = usize::from(net[0]) + usize::from(net[1]);
-        with_section(net, &random_section(nodes, &mut random))
-    };
-    nets.extend(real().iter().map(with));
+    let nets = [real(), real_with_sections()].concat();
     all_maps(LONG, &nets, &[0, 1, 2, 3, 4, 32], &[forward(256, 20_592)]);
     all_maps(LONG, &real(), &[0, 2], &[forward(0, 0)]);
 }
@@ -143,41 +108,14 @@ fn real_nets() {
 /// before 4 to 11, 21 behind 11 and before 22.
 #[test]
 fn areas_around_the_limits() {
-    let loop_of_one = net(1, &[(&[(1, 0)], 2)], &[(1, 0)]);
-    let from_nowhere = net(1, &[(&[(1, 1)], 2)], &[(1, 0)]);
-    let to_nowhere = net(1, &[(&[(0, 0)], 2)], &[(0, 0)]);
-    let mut nets = vec![net_a(), net_b(1), net_c(), encode(&largest_record())];
-    nets.extend([&net_a(), &net_b(1)].map(|net| with_section(net, &[5; 5])));
-    nets.extend([c_with_section(), longest_outputs()]);
-    nets.extend([vec![], vec![17], vec![1, 1, 1, 0], vec![1, 1, 1, 7]]);
-    nets.push([net_a(), vec![0]].concat());
-    nets.extend([loop_of_one, from_nowhere, to_nowhere].map(|net| encode(&net)));
-    let tally = on_threads(|thread, threads| {
-        let mut random = Random::new(thread);
-        let mut sides = Sides::new(&mut random);
-        for net in nets.iter().skip(thread as usize).step_by(threads as usize) {
-            for cover in [0, 961, 962, 963] {
-                for scratch in [0, 65_535, 65_536, 65_537] {
-                    for loader in [0, 1, 255, 256, 257] {
-                        for contents in [0, 1, 20_591, 20_592, 20_593, 65_536] {
-                            let lengths = Lengths {
-                                cover,
-                                scratch,
-                                call: forward(loader, contents),
-                            };
-                            for (k, target) in [(2, 0), (2, 1), (1, 0), (2, 33), (7, 33)] {
-                                sides.map(&mut random, net, k, target, lengths);
-                            }
-                        }
-                    }
-                }
-            }
-        }
-        sides.tally
-    });
-    tally.print();
+    let lengths: [&[usize]; 2] = [&[0, 961, 962, 963], &[0, 65_535, 65_536, 65_537]];
+    let mut calls = Vec::new();
+    for loader in [0, 1, 255, 256, 257] {
+        calls.extend([0, 1, 20_591, 20_592, 20_593, 65_536].map(|n| forward(loader, n)));
+    }
+    let asked = [(2, 0), (2, 1), (1, 0), (2, 33), (7, 33)];
+    let tally = all_lengths(&mapped_and_refused(), lengths, &calls, &asked);
     assert!((0..=11).chain(20..=22).all(|number| tally.seen[number] > 0));
-    tally.fail_on_differences();
 }
 
 /// The crate's connections are those of the second mapper, and their parts are the contents, one after the other.
@@ -214,7 +152,7 @@ fn boards_run_as_their_nets() {
             let (bytes, pins) = some_forward_net(&mut random);
             let k = pins.max(random.within(2, 6)) as u32;
             let target = random.pick(&[0, 0, 1, 2, 3, 32]);
-            let mut areas = Areas::new();
+            let mut areas = Areas::default();
             let Ok(length) = areas.forward(&bytes, k, target) else {
                 continue;
             };
@@ -232,8 +170,9 @@ fn boards_run_as_their_nets() {
             assert!(same_connections(&net, &cover, &all, &areas.contents));
             let registers = all.iter().map(|connection| connection.registers.len());
             let contents = &areas.contents[..registers.sum()];
+            let bench = Bench::new(&net, &section);
             assert!(
-                board_runs_as_net(&net, &section, &cover, contents, 300, &mut random),
+                board_runs_as_net(bench, &cover, contents, 300, &mut random),
                 "net {bytes:?} k {k} target {target}"
             );
             moved += u64::from(cover.luts.iter().any(|lut| lut.lag < 0));
@@ -291,7 +230,7 @@ fn areas_beside_each_other() {
 #[test]
 fn connections_of_any_bytes() {
     let mut random = Random::new(seed());
-    let mut areas = Areas::new();
+    let mut areas = Areas::default();
     let two = c_with_two_outputs();
     let length = areas.forward(&two, 2, 1).expect("a record");
     let (record, contents) = (&areas.cover[..length], &areas.contents[..3]);

@@ -1,6 +1,6 @@
 //! The program `listing` over standard input and output, against the second mapper's text.
 
-use library::compare::some_section;
+use library::inputs::some_section;
 use library::nets::{hand_made, largest_record, net, net_a, net_b, net_c, Read, AND};
 use library::programs;
 use second::damage::damaged_net;

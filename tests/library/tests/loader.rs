@@ -2,11 +2,10 @@
 //! and scratch, whole.
 
 use kamfelu::{COVER_AREA, LOADER_AREA, SCRATCH};
-use library::compare::{
-    all_maps, cases, each_thread, on_threads, random_calls, seed, some_k, some_net, Call, Lengths,
-    Sides,
-};
-use library::nets::{hand_made, largest_record, net, net_a, net_b, net_c, real, Read};
+use library::compare::{all_lengths, all_maps, random_calls, Call, Sides};
+use library::inputs::{some_k, some_net};
+use library::nets::{hand_made, largest_record, net, net_a, net_b, net_c, real, refused, Read};
+use library::tally::{cases, each_thread, seed};
 use second::encode::encode;
 use second::jobs::{COVER_BYTES, LONG, SCRATCH_BYTES};
 use second::loader::LOADER_BYTES;
@@ -81,37 +80,13 @@ fn real_nets() {
 /// before 4 to 12.
 #[test]
 fn areas_around_the_limits() {
-    let loop_of_one = net(1, &[(&[(1, 0)], 2)], &[(1, 0)]);
-    let from_nowhere = net(1, &[(&[(1, 1)], 2)], &[(1, 0)]);
-    let to_nowhere = net(1, &[(&[(0, 0)], 2)], &[(0, 0)]);
     let mut nets = vec![net_a(), encode(&largest_record())];
-    nets.extend([vec![], vec![17], vec![1, 1, 1, 0], vec![1, 1, 1, 7]]);
-    nets.push([net_a(), vec![0]].concat());
-    nets.extend([loop_of_one, from_nowhere, to_nowhere].map(|net| encode(&net)));
-    let tally = on_threads(|thread, threads| {
-        let mut random = Random::new(thread);
-        let mut sides = Sides::new(&mut random);
-        for net in nets.iter().skip(thread as usize).step_by(threads as usize) {
-            for cover in [0, 961, 962, 963] {
-                for scratch in [0, 65_535, 65_536, 65_537] {
-                    for loader in [0, 1, 8, 16, 128, 255, 256, 257, 300, 65_536] {
-                        let lengths = Lengths {
-                            cover,
-                            scratch,
-                            call: Call::Loader(loader),
-                        };
-                        for (k, target) in [(2, 0), (6, 0), (2, 1), (1, 0), (2, 33), (7, 33)] {
-                            sides.map(&mut random, net, k, target, lengths);
-                        }
-                    }
-                }
-            }
-        }
-        sides.tally
-    });
-    tally.print();
+    nets.extend(refused());
+    let lengths: [&[usize]; 2] = [&[0, 961, 962, 963], &[0, 65_535, 65_536, 65_537]];
+    let loaders = [0, 1, 8, 16, 128, 255, 256, 257, 300, 65_536].map(Call::Loader);
+    let asked = [(2, 0), (6, 0), (2, 1), (1, 0), (2, 33), (7, 33)];
+    let tally = all_lengths(&nets, lengths, &loaders, &asked);
     assert!((0..=12).chain([20]).all(|number| tally.seen[number] > 0));
-    tally.fail_on_differences();
 }
 
 /// Map without a loader area, with one of length 0 and with a long one, on the same inputs: answer, cover

@@ -1,10 +1,10 @@
 //! The library's map against the second mapper's: answers, cover areas and scratch, whole.
 
-use library::compare::{all_maps, cases, on_threads, random_calls, Call, Lengths, Sides};
+use library::compare::{all_lengths, all_maps, random_calls, Call, Sides};
 use library::nets::{hand_made, largest_record, net_a, real};
+use library::tally::cases;
 use second::encode::encode;
 use second::jobs::LONG;
-use second::Random;
 
 #[test]
 fn random_and_damaged_nets() {
@@ -33,26 +33,9 @@ fn real_nets() {
 /// All lengths around the limits, for a net that is mapped and some that are refused.
 #[test]
 fn areas_around_the_limits() {
-    let tally = on_threads(|thread, threads| {
-        let mut random = Random::new(thread);
-        let mut sides = Sides::new(&mut random);
-        let nets = [net_a(), encode(&largest_record()), Vec::new(), vec![17]];
-        for net in nets.iter().skip(thread as usize).step_by(threads as usize) {
-            for cover in [0, 1, 961, 962, 963, 65_536] {
-                for scratch in [0, 1, 65_535, 65_536, 65_537, 100_000] {
-                    let lengths = Lengths {
-                        cover,
-                        scratch,
-                        call: Call::Plain,
-                    };
-                    for (k, target) in [(2, 0), (6, 0), (2, 1), (1, 0), (2, 33), (7, 33)] {
-                        sides.map(&mut random, net, k, target, lengths);
-                    }
-                }
-            }
-        }
-        sides.tally
-    });
-    tally.print();
-    tally.fail_on_differences();
+    let nets = [net_a(), encode(&largest_record()), Vec::new(), vec![17]];
+    let covers = [0, 1, 961, 962, 963, 65_536];
+    let works = [0, 1, 65_535, 65_536, 65_537, 100_000];
+    let asked = [(2, 0), (6, 0), (2, 1), (1, 0), (2, 33), (7, 33)];
+    all_lengths(&nets, [&covers, &works], &[Call::Plain], &asked);
 }

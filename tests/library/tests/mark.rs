@@ -1,6 +1,7 @@
 //! The library's mark against the second mapper's: answers and scratch, whole.
 
-use library::compare::{cases, on_threads, random_calls, seed, Sides, LIMITS};
+use library::compare::{random_calls, Sides, LIMITS};
+use library::tally::{cases, on_threads, seed};
 use second::damage::candidate;
 use second::encode::encode;
 use second::generate::{random_net, Shape};

@@ -1,7 +1,8 @@
 //! The program `marking` over standard input and output, against the second mapper's text.
 
 use library::batch::case;
-use library::compare::{some_net, some_section, LIMITS};
+use library::compare::LIMITS;
+use library::inputs::{some_net, some_section};
 use library::nets::{net_a, net_b, net_c, with_sections};
 use library::programs::printed;
 use second::damage::{candidate, damaged};

@@ -1,11 +1,12 @@
 //! The pieces of the library's mark: reader, checks, cone walk and tables.
 
-use library::compare::{cases, on_threads, seed, Sides, Tally};
+use library::compare::Sides;
 use library::nets::{
     c_with_section, largest_record, line, net, net_a, net_b, net_c, ring_cover, ring_from_input,
     ring_from_last, wide_cone, with_sections, Read, AND,
 };
 use library::pieces::every_change;
+use library::tally::{cases, on_threads, seed, Tally};
 use second::encode::{encode, encode_with_holes, with_section};
 use second::jobs::SCRATCH_BYTES;
 use second::{write_record, Answer, Random};

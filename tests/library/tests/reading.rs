@@ -1,9 +1,9 @@
 //! The program `reading`: its stored batch is the generator's, and fresh ones agree too.
 
 use library::batch::{batch, case, STORED_SEED};
-use library::compare::seed;
 use library::nets::net_a;
 use library::programs::printed;
+use library::tally::seed;
 use second::programs::reading;
 
 fn same(given: &[u8]) -> String {

@@ -3,8 +3,10 @@
 //! and areas, whole.
 
 use kamfelu::{COVER_AREA, LOADER_AREA, SCRATCH};
-use library::compare::{cases, each_thread, seed, some_k, some_net, LIMITS};
+use library::compare::LIMITS;
+use library::inputs::{some_k, some_net};
 use library::nets::{net_a, net_b, net_c, real};
+use library::tally::{cases, each_thread, seed};
 use second::damage::candidate;
 use second::encode::{encode_with_holes, random_section, with_section};
 use second::{parse_net, Random};

@@ -1,10 +1,10 @@
 //! Map and mark of the short course against the second mapper's, and against those of the long course
 //! on the same inputs: answers, cover areas and scratch, whole.
 
-use library::compare::{
-    all_maps, cases, on_threads, random_calls, seed, some_k, some_net, Call, Sides,
-};
+use library::compare::{all_maps, random_calls, Call, Sides};
+use library::inputs::{some_k, some_net};
 use library::nets::hand_made;
+use library::tally::{cases, on_threads, seed};
 use second::jobs::{SCRATCH_BYTES, SHORT};
 use second::Random;
 

@@ -3,6 +3,7 @@
 //! 256 KiB, and calls run in a thread with no more.
 
 use kamfelu::STACK;
+use library::areas::Areas;
 use library::nets::{of_family, FAMILIES};
 use second::encode::{encode, with_section};
 use second::Random;
@@ -125,6 +126,7 @@ fn the_stack_fits_256_kib() {
         "kamfelu_map",
         "kamfelu_map_loader",
         "kamfelu_map_forward",
+        "kamfelu_change_over",
         "kamfelu_mark",
     ] {
         assert!(all.contains_key(job), "{job}");
@@ -141,8 +143,8 @@ fn the_stack_fits_256_kib() {
     assert!(total <= STACK, "{total} bytes");
 }
 
-/// Map, with and without a loader area, forward map and mark on nets of all families, at all k, in a thread with
-/// so little stack.
+/// Map, with and without a loader area, forward map, the change-over and mark on nets of all families, at all k, in a
+/// thread with so little stack.
 #[test]
 fn calls_in_a_small_thread() {
     let mut random = Random::new(4100);
@@ -154,25 +156,23 @@ fn calls_in_a_small_thread() {
     }
     let small = std::thread::Builder::new().stack_size(STACK);
     let work = move || {
-        let mut scratch = vec![0u8; kamfelu::SCRATCH];
-        let mut cover = vec![0u8; kamfelu::COVER_AREA];
-        let mut loader = vec![0u8; kamfelu::LOADER_AREA];
-        let mut contents = vec![0u8; kamfelu::CONTENTS_AREA];
+        let mut areas = Areas::default();
         let mut accepted = 0;
         for net in &nets {
             for k in 2..=6 {
-                let Ok(length) = kamfelu::map(net, k, 0, &mut cover, &mut scratch) else {
+                let (cover, scratch) = (&mut areas.cover, &mut areas.scratch);
+                let Ok(length) = kamfelu::map(net, k, 0, cover, scratch) else {
                     continue;
                 };
-                let excess = kamfelu::mark(net, k, &cover[..length], &mut scratch);
+                let excess = kamfelu::mark(net, k, &cover[..length], scratch);
                 assert_eq!(excess, Ok(0));
-                let loaded = kamfelu::map_loader(net, k, 0, &mut cover, &mut scratch, &mut loader);
+                let loaded = kamfelu::map_loader(net, k, 0, cover, scratch, &mut areas.loader);
                 assert_eq!(loaded, Ok(length));
                 let nodes = usize::from(net[0]) + usize::from(net[1]);
                 let net = with_section(net, &vec![6; nodes]);
-                let areas = (&mut cover, &mut scratch, &mut loader, &mut contents);
-                let answer = kamfelu::map_forward(&net, k, 0, areas.0, areas.1, areas.2, areas.3);
+                let answer = areas.forward(&net, k, 0);
                 assert!(answer.is_ok());
+                assert_eq!(areas.change_over(&net, k, 0, &[0x5a; 41]), answer);
                 accepted += 1;
             }
         }

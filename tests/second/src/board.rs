@@ -88,20 +88,27 @@ impl Board {
         }
         shown
     }
+
+    /// What its registers hold now, in the order of contents.
+    pub fn contents(&self) -> Vec<u8> {
+        let mut luts: Vec<&(Lut, Vec<Wire>)> = self.luts.iter().collect();
+        luts.sort_unstable_by_key(|(lut, _)| lut.root);
+        let leaves = luts.into_iter().flat_map(|(_, wires)| wires);
+        let registers = leaves.chain(&self.outputs).flat_map(|wire| &wire.registers);
+        registers.map(|&bit| u8::from(bit)).collect()
+    }
 }
 
-/// Whether a board with these contents and the net from its section show the same outputs, step by step, on the same
-/// random inputs.
+/// Whether a board that starts with these contents and the net that goes on from where it stands show the same
+/// outputs, step by step, on the same random inputs.
 pub fn board_runs_as_net(
-    net: &Net,
-    section: &[u8],
+    mut bench: Bench,
     cover: &Cover,
     contents: &[u8],
     steps: usize,
     random: &mut Random,
 ) -> bool {
-    let mut board = Board::new(net, cover, contents);
-    let mut bench = Bench::new(net, section);
+    let mut board = Board::new(bench.net, cover, contents);
     (0..steps).all(|_| {
         let inputs = random.word() as u16;
         board.step(inputs) == bench.step(inputs)

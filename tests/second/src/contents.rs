@@ -1,5 +1,5 @@
 //! What the registers of a forward cover hold at first (document 02, E6), read off a run of the net from its
-//! section.
+//! section; and at a change-over (E7), from the section that the net has made by then.
 
 use crate::bench::Bench;
 use crate::cover::Cover;
@@ -16,7 +16,14 @@ pub fn first_contents(net: &Net, section: &[u8], cover: &Cover) -> Vec<u8> {
     first_contents_with(net, section, cover, |_| 0)
 }
 
-/// The same from a run with any inputs from step 0 on: the contents do not depend on them.
+/// The same at the step behind these input pairs, on which the net first runs: the first contents for a net that
+/// starts there, with its last three values for its section.
+pub fn contents_after(net: &Net, section: &[u8], cover: &Cover, pairs: &[u8]) -> Vec<u8> {
+    let section = Bench::after(net, section, pairs).section();
+    first_contents(net, &section, cover)
+}
+
+/// First contents from a run with any inputs from step 0 on: the contents do not depend on them.
 pub fn first_contents_with(
     net: &Net,
     section: &[u8],

@@ -1,6 +1,6 @@
-//! The jobs map, plain and forward, and mark with all refusals, and what they do to the areas.
+//! The jobs map, plain and forward, change-over and mark with all refusals, and what they do to the areas.
 
-use crate::contents::{first_contents, CONTENTS_BYTES};
+use crate::contents::{contents_after, CONTENTS_BYTES};
 use crate::cover::{read_record, write_record, Cover};
 use crate::cuts::Limits;
 use crate::labels::Mode;
@@ -44,8 +44,36 @@ impl From<Stop> for Answer {
     }
 }
 
+/// The jobs that write a cover.
+#[derive(Clone, Copy, Debug, PartialEq, Eq)]
+pub enum Job<'a> {
+    Plain,
+    /// Map to a forward cover (document 02, E6), the first contents of its registers to the contents area, if one is
+    /// lent.
+    Forward,
+    /// The same, but the contents are those of the step behind these input pairs, on which the net first runs (E7).
+    ChangeOver(&'a [u8]),
+}
+
+impl<'a> Job<'a> {
+    pub fn mode(self) -> Mode {
+        match self {
+            Job::Plain => Mode::Plain,
+            Job::Forward | Job::ChangeOver(_) => Mode::Forward,
+        }
+    }
+
+    /// The input pairs in front of the step whose contents are wanted.
+    pub fn pairs(self) -> &'a [u8] {
+        match self {
+            Job::Plain | Job::Forward => &[],
+            Job::ChangeOver(pairs) => pairs,
+        }
+    }
+}
+
 /// The areas lent to map. A loader area or contents area of length 0 counts as none; plain mode has no
-/// contents.
+/// contents, and a change-over needs them.
 pub struct Areas<'a> {
     pub cover: &'a mut [u8],
     pub scratch: &'a mut [u8],
@@ -73,41 +101,14 @@ pub fn map_loader(
         loader,
         contents: &mut [],
     };
-    map_within(LONG, Mode::Plain, Limits::default(), net, k, target, areas)
+    map_within(LONG, Job::Plain, Limits::default(), net, k, target, areas)
 }
 
-/// Map to a forward cover (document 02, E6), its image to the loader area and the first contents of its
-/// registers to the contents area, if these are lent.
-pub fn map_forward(
-    net: &[u8],
-    k: u32,
-    target: u32,
-    cover: &mut [u8],
-    scratch: &mut [u8],
-    loader: &mut [u8],
-    contents: &mut [u8],
-) -> Answer {
-    let areas = Areas {
-        cover,
-        scratch,
-        loader,
-        contents,
-    };
-    map_within(
-        LONG,
-        Mode::Forward,
-        Limits::default(),
-        net,
-        k,
-        target,
-        areas,
-    )
-}
-
-/// The same of a course, with limits of one's own.
+/// A job of a course, with limits of one's own: the cover to the cover area, its image to the loader area and the
+/// contents to the contents area, if these are lent.
 pub fn map_within(
     course: Course,
-    mode: Mode,
+    job: Job,
     limits: Limits,
     net: &[u8],
     k: u32,
@@ -120,14 +121,16 @@ pub fn map_within(
     if target > MOST_TARGET {
         return Answer::Refused(2);
     }
-    let contents = match mode {
+    let contents = match job.mode() {
         Mode::Plain => &mut [],
         Mode::Forward => areas.contents,
     };
     let short = |area: &[u8], least: usize| (1..least).contains(&area.len());
+    let missing = matches!(job, Job::ChangeOver(_)) && contents.is_empty();
     if areas.cover.len() < COVER_BYTES
         || areas.scratch.len() < SCRATCH_BYTES
         || short(contents, CONTENTS_BYTES)
+        || missing
     {
         return Answer::Refused(3);
     }
@@ -135,7 +138,7 @@ pub fn map_within(
     let mapped = if short(areas.loader, LOADER_BYTES) {
         Err(Stop::Refused(20))
     } else {
-        map_cover(course, mode, limits, net, k, target, wanted)
+        map_cover(course, job, limits, net, k, target, wanted)
     };
     let answer = match mapped {
         Ok((cover, first)) => {
@@ -171,10 +174,10 @@ fn net_of(course: Course, net: &[u8], k: u32) -> Result<(Net, Option<Section>), 
     read_with_section(net, k).map_err(Stop::Refused)
 }
 
-/// The cover and, if they are wanted, the first contents of its registers.
+/// The cover and, if they are wanted, the contents of its registers.
 fn map_cover(
     course: Course,
-    mode: Mode,
+    job: Job,
     limits: Limits,
     net: &[u8],
     k: u32,
@@ -185,9 +188,9 @@ fn map_cover(
     if contents && section.is_none() {
         return Err(Stop::Refused(21));
     }
-    let (cover, _) = solve(&net, mode, k, target, limits)?;
+    let (cover, _) = solve(&net, job.mode(), k, target, limits)?;
     let first = match section.filter(|_| contents) {
-        Some(section) => first_contents(&net, &section, &cover),
+        Some(section) => contents_after(&net, &section, &cover, job.pairs()),
         None => Vec::new(),
     };
     Ok((cover, first))

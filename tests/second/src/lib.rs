@@ -36,11 +36,11 @@ pub use bench::{bench, Bench};
 pub use board::Board;
 pub use classes::class_table;
 pub use cone::{cone_of, lut_table, lut_value};
-pub use contents::first_contents;
+pub use contents::{contents_after, first_contents};
 pub use cover::{read_record, write_record, Cover, Lut};
 pub use cuts::{all_cuts, all_cuts_within, Cut, CutSets, Limits};
 pub use find::find_root;
-pub use jobs::{map, map_forward, map_loader, map_within, mark, mark_within, Answer, Areas};
+pub use jobs::{map, map_loader, map_within, mark, mark_within, Answer, Areas, Job};
 pub use labels::{chosen_cut, lag_of, least_labels, least_labels_over, Mode, Outcome};
 pub use listing::{listing, listing_within};
 pub use net::{

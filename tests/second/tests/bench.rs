@@ -3,7 +3,8 @@
 
 mod common;
 
-use common::{map, mark, net_a, net_b, net_bytes, net_c, GateText, AND};
+use common::told::{pairs, Told};
+use common::{map, mark, net_a, net_b, net_bytes, net_c, GateText, AND, SAME};
 use second::damage::damaged;
 use second::encode::{encode, encode_with_holes, random_section, with_section};
 use second::generate::{random_net, wild_net, Shape};
@@ -12,10 +13,8 @@ use second::run::Run;
 use second::{
     check_net, parse_net, parse_with_section, programs, Bench, Net, Pin, Random, Section,
 };
-use std::collections::HashMap;
 
 const NOT: u64 = 1;
-const SAME: u64 = 2;
 const XOR: u64 = 6;
 
 /// k, the net's length, the net, then what follows.
@@ -30,11 +29,6 @@ fn printed(given: &[u8]) -> String {
 
 fn bench(k: u8, net: &[u8], pairs: &[u8]) -> String {
     printed(&input(k, net, pairs))
-}
-
-/// Pairs with these numbers.
-fn pairs(steps: &[u16]) -> Vec<u8> {
-    steps.iter().flat_map(|step| step.to_le_bytes()).collect()
 }
 
 /// The refusal of a record that may have a section, 0 for none.
@@ -204,42 +198,6 @@ fn a_section_changes_no_cover() {
     }
 }
 
-/// The value of a node at a step, as the sentences have it: before step 0 the section; an input's bit of
-/// that step; a gate's from its pins; a pin's from the node behind it, its registers' number of steps earlier.
-struct Told<'a> {
-    net: &'a Net,
-    section: &'a [u8],
-    steps: &'a [u16],
-    known: HashMap<(usize, i64), bool>,
-}
-
-impl Told<'_> {
-    fn value(&mut self, node: usize, step: i64) -> bool {
-        if step < 0 {
-            return self.section[node] >> (-1 - step) & 1 == 1;
-        }
-        if !self.net.is_gate(node) {
-            return self.steps[step as usize] >> node & 1 == 1;
-        }
-        if let Some(&value) = self.known.get(&(node, step)) {
-            return value;
-        }
-        let net = self.net;
-        let gate = net.gate(node);
-        let mut index = 0;
-        for (j, pin) in gate.pins.iter().enumerate() {
-            index |= u32::from(self.read(pin, step)) << j;
-        }
-        let value = gate.table >> index & 1 == 1;
-        self.known.insert((node, step), value);
-        value
-    }
-
-    fn read(&mut self, pin: &Pin, step: i64) -> bool {
-        self.value(pin.source, step - i64::from(pin.count))
-    }
-}
-
 fn random_steps(random: &mut Random, most: usize) -> Vec<u16> {
     let steps = random.below(most + 1);
     (0..steps).map(|_| random.word() as u16).collect()
@@ -260,12 +218,7 @@ fn runs_are_as_told() {
     for _ in 0..1500 {
         let (net, section) = some_net(&mut random);
         let steps = random_steps(&mut random, 20);
-        let mut told = Told {
-            net: &net,
-            section: &section,
-            steps: &steps,
-            known: HashMap::new(),
-        };
+        let mut told = Told::new(&net, &section, &steps);
         let mut text = String::new();
         for step in 0..steps.len() {
             for output in &net.outputs {

@@ -1,12 +1,16 @@
 //! docs/FORMATS.md: its bytes are those of the example files, and its shell lines make files for which
 //! the programs print what it says. The second mapper stands for the programs.
 
+use second::bench::steps;
 use second::bytes::table_bytes;
 use second::contents::CONTENTS_BYTES;
-use second::jobs::{COVER_BYTES, SCRATCH_BYTES};
+use second::jobs::{COVER_BYTES, LONG, SCRATCH_BYTES};
 use second::loader::image;
 use second::programs::{bench, listing, map, mark};
-use second::{map_forward, read_net, solve, Answer, Cover, Limits, Lut, Mode, NodeCopy};
+use second::{
+    map_within, read_net, read_with_section, solve, Answer, Areas, Bench, Cover, Job, Limits, Lut,
+    Mode, NodeCopy,
+};
 use std::fs;
 use std::path::Path;
 use std::process::Command;
@@ -122,18 +126,80 @@ fn loader_image() {
     assert_eq!(leaves, 6);
 }
 
-#[test]
-fn first_contents() {
-    let heading = "First contents";
-    let blocks = blocks(heading, "");
+/// The record and contents that a job writes for a net at k 2 and target 1; the contents end where the 7 begin.
+fn written(job: Job, net: &[u8]) -> (Vec<u8>, Vec<u8>) {
     let (mut cover, mut scratch) = (vec![0; COVER_BYTES], vec![0; SCRATCH_BYTES]);
     let mut contents = vec![7; CONTENTS_BYTES];
-    let areas = (&mut cover, &mut scratch, &mut contents);
-    let answer = map_forward(&bytes(&blocks[0]), 2, 1, areas.0, areas.1, &mut [], areas.2);
-    let record = bytes(&blocks[1]);
-    assert_eq!(answer, Answer::Done(record.len() as u32));
-    assert!(cover.starts_with(&record));
-    assert!(contents.starts_with(&[&column(heading)[..], &[7]].concat()));
+    let areas = Areas {
+        cover: &mut cover,
+        scratch: &mut scratch,
+        loader: &mut [],
+        contents: &mut contents,
+    };
+    let answer = map_within(LONG, job, Limits::default(), net, 2, 1, areas);
+    let Answer::Done(length) = answer else {
+        panic!("{answer:?}");
+    };
+    cover.truncate(length as usize);
+    let end = contents.iter().position(|&byte| byte == 7);
+    contents.truncate(end.expect("bytes behind"));
+    (cover, contents)
+}
+
+/// The net and the record under "First contents".
+fn net_and_record() -> (Vec<u8>, Vec<u8>) {
+    let blocks = blocks("First contents", "");
+    (bytes(&blocks[0]), bytes(&blocks[1]))
+}
+
+#[test]
+fn first_contents() {
+    let (net, record) = net_and_record();
+    let contents = column("First contents");
+    assert_eq!(written(Job::Forward, &net), (record, contents));
+}
+
+#[test]
+fn contents_at_a_change_over() {
+    let heading = "Contents at a change-over";
+    let (net, record) = net_and_record();
+    let pairs = bytes(&blocks(heading, "")[0]);
+    let contents = column(heading);
+    let changed = |pairs: &[u8]| written(Job::ChangeOver(pairs), &net);
+    assert_eq!(changed(&pairs), (record.clone(), contents.clone()));
+    let text = section(heading);
+    let quoted = |before: &str| {
+        let behind = text.split_once(before).expect(before).1;
+        bytes(behind.split('`').next().unwrap())
+    };
+    // The section that the last three values make, and a lone last byte.
+    let (read, at_first) = read_with_section(&net, 2).expect("a net");
+    let at_first = at_first.expect("a section");
+    let later = quoted("first contents for the section `");
+    assert_eq!(Bench::after(&read, &at_first, &pairs).section(), later);
+    let bare = &net[..net.len() - later.len()];
+    let again = written(Job::Forward, &[bare, &later].concat());
+    assert_eq!(again, (record.clone(), contents));
+    let odd = quoted("The pairs `");
+    assert_eq!(odd.len(), 3);
+    assert_eq!(changed(&odd), (record, quoted("the contents are then `")));
+    // The table of values: the section's three steps, those of the pairs, and one more of the gate.
+    let rows = text.lines().filter(|line| line.ends_with(" |"));
+    let values = rows.filter(|line| line.starts_with("| input") || line.starts_with("| gate"));
+    let values: Vec<&str> = values.collect();
+    assert_eq!(values.len(), read.nodes());
+    for (node, line) in values.into_iter().enumerate() {
+        let cells: Vec<&str> = line.split('|').map(str::trim).skip(2).collect();
+        let mut bench = Bench::new(&read, &at_first);
+        for (cell, back) in cells.iter().zip([2, 1, 0]) {
+            assert_eq!(cell.parse(), Ok(at_first[node] >> back & 1));
+        }
+        for (cell, inputs) in cells[3..].iter().zip(steps(&pairs).chain([0])) {
+            bench.step(inputs);
+            let value = u8::from(bench.now()[node]);
+            assert!(*cell == "–" || cell.parse() == Ok(value), "{line}");
+        }
+    }
 }
 
 #[test]

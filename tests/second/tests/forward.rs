@@ -3,48 +3,35 @@
 
 mod common;
 
+use common::areas::{self, all, least, refused_nets, Call};
 use common::covers::{all_small_nets, count_covers, Tally};
-use common::{mark, net, net_a, net_b, net_bytes, net_c, tiny_net, GateText, AND};
+use common::{
+    forward, longest_line, mark, moving_net, net, net_a, net_b, net_bytes, net_c, section_bits,
+    tiny_net, AND, SAME,
+};
 use second::board::board_runs_as_net;
 use second::contents::{first_contents_with, CONTENTS_BYTES};
 use second::damage::damaged_net;
 use second::encode::{encode, encode_with_holes, random_section, with_section};
 use second::generate::{random_net, Shape};
-use second::jobs::{COVER_BYTES, SCRATCH_BYTES};
 use second::labels::rise;
 use second::loader::{image, LOADER_BYTES};
 use second::mark::is_forward;
 use second::run::cover_runs_as_net;
 use second::{
-    first_contents, least_labels, least_period, map_forward, rare, read_net, read_record, solve,
-    Answer, Board, Cover, CutSets, Limits, Mode, Net, Outcome, Random, Stop,
+    first_contents, least_labels, least_period, rare, read_net, read_record, Answer, Bench, Board,
+    Cover, CutSets, Job, Limits, Mode, Outcome, Random, Stop,
 };
 
-const SAME: u64 = 2;
 const NOT: u64 = 1;
 
-fn forward(net: &Net, k: u32, target: u32) -> Result<Cover, Stop> {
-    let solved = solve(net, Mode::Forward, k, target, Limits::default());
-    solved.map(|(cover, _)| cover)
+fn call(net: &[u8], k: u32, target: u32, lengths: [usize; 4]) -> Call {
+    areas::call(Job::Forward, net, k, target, lengths)
 }
 
 /// The contents that map writes for a record of a net without its section, and the cover.
 fn contents_of(net: &[u8], section: &[u8], k: u32, target: u32) -> (Vec<u8>, Cover) {
-    let told = call(
-        &with_section(net, section),
-        k,
-        target,
-        least(0, CONTENTS_BYTES),
-    );
-    let Answer::Done(length) = told.answer else {
-        panic!("{:?}", told.answer);
-    };
-    let net = read_net(net, k).expect("a net");
-    let cover = read_record(&net, k, &told.cover[..length as usize]).expect("a record");
-    let connections = cover.connections(&net).expect("LUTs");
-    let registers: i64 = connections.iter().map(|(_, registers)| registers).sum();
-    assert!(all(&told.contents[registers as usize..], 3));
-    (told.contents[..registers as usize].to_vec(), cover)
+    areas::contents_of(Job::Forward, net, section, k, target)
 }
 
 #[test]
@@ -98,18 +85,13 @@ fn newest_first() {
 /// registers behind it, which hold what the section has, node by node.
 #[test]
 fn the_longest_connection() {
-    let pins: Vec<[(usize, u32); 1]> = (0..32).map(|i| [(i, 3)]).collect();
-    let gates: Vec<GateText> = pins.iter().map(|pins| (&pins[..], SAME)).collect();
-    let line = net_bytes(1, &gates, &[(32, 3)]);
+    let line = longest_line();
     let mut random = Random::new(71);
     for target in [0, 1, 2, 31, 32] {
         let section = random_section(33, &mut random);
         let (contents, cover) = contents_of(&line, &section, 2, target);
         assert_eq!((cover.luts.len(), cover.luts[0].lag), (1, -96));
-        let bits = section
-            .iter()
-            .flat_map(|byte| [0, 1, 2].map(|at| byte >> at & 1));
-        assert_eq!(contents, bits.collect::<Vec<u8>>());
+        assert_eq!(contents, section_bits(&section));
     }
 }
 
@@ -127,9 +109,9 @@ fn rare_nets() {
             assert!(target >= rare.least && is_forward(&net, &cover));
             let section = random_section(net.nodes(), &mut random);
             let contents = first_contents(&net, &section, &cover);
+            let bench = Bench::new(&net, &section);
             assert!(board_runs_as_net(
-                &net,
-                &section,
+                bench,
                 &cover,
                 &contents,
                 300,
@@ -224,32 +206,20 @@ fn no_forward_cover_of_the_marker_is_below_the_least_period() {
     assert!(nets > 1000 && good > 5000, "{nets} {good}");
 }
 
-/// Some net with many registers, its k and a target that is met.
-fn some_net(random: &mut Random, gates: usize) -> (Net, u32, u32) {
-    let k = random.within(2, 5);
-    let shape = Shape {
-        registers: random.pick(&[20, 50, 80]),
-        ..Shape::any(random, gates, k)
-    };
-    let net = random_net(random, &shape);
-    let least = least_period(&net, Mode::Forward, k as u32).expect("a period");
-    let target = random.pick(&[0, least, least + 1, 32]);
-    (net, k as u32, target)
-}
-
 #[test]
 fn boards_run_as_their_nets() {
     let mut random = Random::new(75);
     let (mut moved, mut wrong) = (0, 0);
     for _ in 0..1500 {
-        let (net, k, target) = some_net(&mut random, 12);
+        let (net, k, target) = moving_net(&mut random, 12);
         let cover = forward(&net, k, target).expect("a cover");
         assert!(is_forward(&net, &cover));
         let section = random_section(net.nodes(), &mut random);
         let mut contents = first_contents(&net, &section, &cover);
         let steps = 300;
         let agree = |contents: &[u8], random: &mut Random| {
-            board_runs_as_net(&net, &section, &cover, contents, steps, random)
+            let bench = Bench::new(&net, &section);
+            board_runs_as_net(bench, &cover, contents, steps, random)
         };
         assert!(agree(&contents, &mut random), "{net:?} {k} {cover:?}");
         assert!(cover_runs_as_net(&net, &cover, 8, &mut random));
@@ -270,7 +240,7 @@ fn contents_from_the_section_alone() {
     let mut random = Random::new(76);
     let mut most = 0;
     for _ in 0..3000 {
-        let (net, k, target) = some_net(&mut random, 10);
+        let (net, k, target) = moving_net(&mut random, 10);
         let cover = forward(&net, k, target).expect("a cover");
         let section = random_section(net.nodes(), &mut random);
         let contents = first_contents(&net, &section, &cover);
@@ -306,7 +276,7 @@ fn forward_records_and_mark() {
         assert!(plain <= least && least <= net.gates.len() as u32);
         later += usize::from(plain < least);
         for target in 0..=net.gates.len() as u32 + 1 {
-            let told = call(&bytes, k, target, self::least(0, 0));
+            let told = call(&bytes, k, target, areas::least(0, 0));
             let period = if target == 0 { least } else { target };
             if period < least {
                 assert_eq!(told.answer, Answer::Refused(22));
@@ -324,75 +294,6 @@ fn forward_records_and_mark() {
         }
     }
     assert!(later > 20, "{later}");
-}
-
-/// A call with areas full of 7, 9, 5 and 3, each so long: the answer and the areas.
-#[derive(PartialEq)]
-struct Call {
-    answer: Answer,
-    cover: Vec<u8>,
-    scratch: Vec<u8>,
-    loader: Vec<u8>,
-    contents: Vec<u8>,
-}
-
-fn call(net: &[u8], k: u32, target: u32, lengths: [usize; 4]) -> Call {
-    let [mut cover, mut scratch, mut loader, mut contents] =
-        [(0, 7), (1, 9), (2, 5), (3, 3)].map(|(area, byte)| vec![byte; lengths[area]]);
-    let areas = (&mut cover, &mut scratch, &mut loader, &mut contents);
-    let answer = map_forward(net, k, target, areas.0, areas.1, areas.2, areas.3);
-    Call {
-        answer,
-        cover,
-        scratch,
-        loader,
-        contents,
-    }
-}
-
-fn all(area: &[u8], byte: u8) -> bool {
-    area.iter().all(|&other| other == byte)
-}
-
-/// The least lengths of cover area and scratch, and lengths of the others.
-fn least(loader: usize, contents: usize) -> [usize; 4] {
-    [COVER_BYTES, SCRATCH_BYTES, loader, contents]
-}
-
-impl Call {
-    /// The refusal; the areas are kept, but for the scratch.
-    fn refused(&self) -> u8 {
-        let Answer::Refused(number) = self.answer else {
-            panic!("{:?}", self.answer);
-        };
-        assert!(all(&self.cover, 7) && all(&self.loader, 5) && all(&self.contents, 3));
-        if number <= 3 {
-            assert!(all(&self.scratch, 9));
-        } else {
-            assert!(
-                all(&self.scratch[..SCRATCH_BYTES], 0) && all(&self.scratch[SCRATCH_BYTES..], 9)
-            );
-        }
-        number
-    }
-}
-
-/// Nets refused with 4 to 11, then B, which has no forward cover for target 1; each without a section.
-fn refused_nets() -> Vec<(Vec<u8>, u8)> {
-    let loop_of_one = net_bytes(1, &[(&[(1, 0)], SAME)], &[(1, 0)]);
-    let from_nowhere = net_bytes(1, &[(&[(1, 1)], SAME)], &[(1, 0)]);
-    let to_nowhere = net_bytes(1, &[(&[(0, 0)], SAME)], &[(0, 0)]);
-    vec![
-        (vec![], 4),
-        (vec![17], 5),
-        (vec![1, 1, 1, 0], 6),
-        (vec![1, 1, 1, 7], 7),
-        ([net_b(1), vec![0]].concat(), 8),
-        (loop_of_one, 9),
-        (from_nowhere, 10),
-        (to_nowhere, 11),
-        (net_b(1), 22),
-    ]
 }
 
 #[test]

@@ -11,7 +11,7 @@ use second::jobs::{COVER_BYTES, LONG, SCRATCH_BYTES};
 use second::loader::LOADER_BYTES;
 use second::run::cover_runs_as_net;
 use second::{
-    check_net, parse_net, read_net, read_record, write_record, Answer, Areas, Limits, Mode, Random,
+    check_net, parse_net, read_net, read_record, write_record, Answer, Areas, Job, Limits, Random,
 };
 
 #[test]
@@ -147,15 +147,17 @@ fn giving_up_is_no_refusal() {
         let mut scratch = vec![9; SCRATCH_BYTES];
         let mut loader = vec![5; LOADER_BYTES];
         let mut contents = vec![3; CONTENTS_BYTES];
-        let [forward, answer] = [Mode::Forward, Mode::Plain].map(|mode| {
-            let areas = Areas {
-                cover: &mut cover,
-                scratch: &mut scratch,
-                loader: &mut loader,
-                contents: &mut contents,
-            };
-            second::map_within(LONG, mode, limits, &bytes, 4, 0, areas)
-        });
+        let [changed, forward, answer] =
+            [Job::ChangeOver(&[3; 9]), Job::Forward, Job::Plain].map(|job| {
+                let areas = Areas {
+                    cover: &mut cover,
+                    scratch: &mut scratch,
+                    loader: &mut loader,
+                    contents: &mut contents,
+                };
+                second::map_within(LONG, job, limits, &bytes, 4, 0, areas)
+            });
+        assert_eq!(forward, changed);
         assert_eq!(forward == Answer::GaveUp, answer == Answer::GaveUp);
         let record = map(&bytes, 4, 0).unwrap();
         if answer == Answer::GaveUp {

@@ -1,4 +1,4 @@
--- `cover_contents::write_contents` meets its contract: the trace of the run from the section, and what is read off it.
+-- `cover_contents::write_contents` meets its contract: the run over the pairs, the trace of the run from there, and what is read off it.
 use borrow.Author.Needs.{needs}
 use mathlib.Core.Path.{_∙_, ap}
 use mathlib.Core.List.{List}
@@ -6,33 +6,28 @@ use Prim.Native.Nat.{ℕ}
 use native.Mathlib.Omega.{arith}
 use denote.Ref.{now}
 use Rattle.cover_records.specs.Outcomes.{written}
-use Rattle.cover_contents.specs.TraceLaws.{started-asks}
+use Rattle.run_step.specs.SteppingLaws.{step-asks}
 use Rattle.cover_contents.specs.ContentsWritten.{rows-room, contents-are, registers-asked}
 use borrow.Author.Needs.{needs}
 use Rattle.cover_contents.proofs.write_contents.Statement.{statement}
 use Rattle.cover_contents.proofs.write_contents.Tie as tie
 
-add-start-kept : tie.Need-add-start-kept
-add-start-kept c = omega (arith, c .before .before .before .before .before .before .before .before .before .pre .sectionRoom)
-
-start-kept-requires : tie.Need-start-kept-requires
-start-kept-requires c κs =
-    let start = c .before .before .before .before .before .before .before .before .before .before in
-    (start .pre .sectionRoom, start .pre .steps .room)
+run-requires : tie.Need-run-requires
+run-requires c κs = c .before .before .before .before .before .before .before .before .before .before .pre .steps
 
 most-samples-requires : tie.Need-most-samples-requires
-most-samples-requires c κs = c .before .before .before .before .before .before .before .before .before .before .before .before .before .pre .leaves .lags
+most-samples-requires c κs = c .before .before .before .before .before .before .before .before .before .before .before .before .before .before .before .pre .leaves .lags
 
 take-trace-requires : tie.Need-take-trace-requires
 take-trace-requires c κs =
-    let q = c .before .before .before .before .before .before .before .before .before .before .before .before .before .before .before .before .before .pre in
-    (started-asks (q .steps) (c .before .before .before .before .before .before .start-kept .ensures), (omega (arith, q .steps .runnable .inputs, q .leaves .few, q .gates), omega (arith, c .before .before .before .most-samples .ensures .few, q .workRoom)))
+    let q = c .before .before .before .before .before .before .before .before .before .before .before .before .before .before .before .before .before .before .before .pre in
+    (step-asks (q .steps) (c .before .before .before .before .before .before .before .before .run .ensures), (omega (arith, q .steps .runnable .inputs, q .leaves .few, q .gates), omega (arith, c .before .before .before .most-samples .ensures .few, q .workRoom)))
 
 write-registers-requires : tie.Need-write-registers-requires
 write-registers-requires c κs =
-    let start = c .before .before .before .before .before .before .before .before .before .before .before .before .before .before .before .before .before .before .before .before .before .before .before .before .before .before in
+    let start = c .before .before .before .before .before .before .before .before .before .before .before .before .before .before .before .before .before .before .before .before .before .before .before .before .before .before .before .before in
     let s = start .args in
-    (registers-asked (s .s .inputs) (s .s .gates) (s .s .period) (now (s .labels)) (now (s .rows)) (start .pre) (c .before .before .before .before .before .before .before .before .before .before .before .before .before .before .before .start-kept .ensures) (c .before .before .before .before .before .before .before .before .take-trace .ensures) (c .before .before .before .before .before .before .before .before .before .before .before .before .most-samples .ensures), rows-room (s .s .inputs) (s .s .gates) (s .s .period) (now (s .labels)) (now (s .rows)) (start .pre .leaves))
+    (registers-asked (s .s .inputs) (s .s .gates) (s .s .period) (now (s .labels)) (now (s .rows)) (start .pre) (c .before .before .before .before .before .before .before .before .before .before .before .before .before .before .before .before .before .run .ensures) (c .before .before .before .before .before .before .before .before .take-trace .ensures) (c .before .before .before .before .before .before .before .before .before .before .before .before .most-samples .ensures), rows-room (s .s .inputs) (s .s .gates) (s .s .period) (now (s .labels)) (now (s .rows)) (start .pre .leaves))
 
 same-length : tie.Need-same-length
 same-length c = search needs
@@ -48,16 +43,15 @@ same-length-4 c = search needs
 
 returns : tie.Need-returns
 returns c =
-    let start = c .before .before .before .before .before .before .before .before .before .before .before .before .before .before .before .before .before .before .before .before .before .before .before .before .before .before .before .before .before in
+    let start = c .before .before .before .before .before .before .before .before .before .before .before .before .before .before .before .before .before .before .before .before .before .before .before .before .before .before .before .before .before .before .before in
     let s = start .args in
-    c .before .before .write-registers .ensures ∙ ap (λ (bytes : List ℕ). written bytes (now (s .contents))) (contents-are (s .s .inputs) (s .s .gates) (s .s .period) (now (s .labels)) (now (s .rows)) (start .pre) (c .before .before .before .before .before .before .before .before .before .before .before .before .before .before .before .before .before .before .start-kept .ensures) (c .before .before .before .before .before .before .before .before .before .before .before .take-trace .ensures) (c .before .before .before .before .before .before .before .before .before .before .before .before .before .before .before .most-samples .ensures))
+    c .before .before .write-registers .ensures ∙ ap (λ (bytes : List ℕ). written bytes (now (s .contents))) (contents-are (s .s .inputs) (s .s .gates) (s .s .period) (now (s .labels)) (now (s .rows)) (start .pre) (c .before .before .before .before .before .before .before .before .before .before .before .before .before .before .before .before .before .before .before .before .run .ensures) (c .before .before .before .before .before .before .before .before .before .before .before .take-trace .ensures) (c .before .before .before .before .before .before .before .before .before .before .before .before .before .before .before .most-samples .ensures))
 
 pub write-contents-spec : {M : Type 1} → statement M
 write-contents-spec =
     tie.close
     (tie.spec
-    add-start-kept
-    start-kept-requires
+    run-requires
     most-samples-requires
     take-trace-requires
     write-registers-requires

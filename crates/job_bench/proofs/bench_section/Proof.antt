@@ -12,7 +12,7 @@ use Rattle.net_reader.specs.ReadAnswer.{arraysOf}
 use Rattle.cover_writer.specs.Writing.{Wrote}
 use Rattle.job_bench.specs.BenchProgram.{benchDrawn}
 use Rattle.job_bench.specs.BenchJob.{Benching}
-use Rattle.job_bench.specs.BenchInputs.{copied}
+use Rattle.run_step.specs.SteppingLaws.{copied}
 use borrow.Author.Needs.{needs}
 use Rattle.job_bench.proofs.bench_section.Statement.{statement}
 use Rattle.job_bench.proofs.bench_section.Tie as tie

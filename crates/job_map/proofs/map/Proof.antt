@@ -16,6 +16,9 @@ slice-aggregate-map-under c = search needs
 slice-aggregate-map-under-2 : tie.Need-slice-aggregate-map-under-2
 slice-aggregate-map-under-2 c = search needs
 
+slice-aggregate-map-under-3 : tie.Need-slice-aggregate-map-under-3
+slice-aggregate-map-under-3 c = search needs
+
 long-course-requires : tie.Need-long-course-requires
 long-course-requires c κs = search needs
 
@@ -30,10 +33,10 @@ same-length-2 c = search needs
 
 returns : tie.Need-returns
 returns c =
-    let a = c .before .before .before .before .before .before .before .before .before .before .before .before .before .before .before .args in
+    let a = c .before .before .before .before .before .before .before .before .before .before .before .before .before .before .before .before .args in
     let m = c .before .before .before .before .before .before .map-under .ensures in (
       ap (λ (R : Rules). mapOutcome R (now (a .net)) (a .k) (a .target) (now (a .area)) (now (a .scratch))) (sym (c .before .before .before .before .before .before .before .long-course .ensures))
-          ∙ map-alone _ (now (a .net)) (a .k) (a .target) (now (a .area)) (now (a .scratch)) [] [] refl (m .0) refl,
+          ∙ map-alone _ (now (a .net)) (a .k) (a .target) [] (now (a .area)) (now (a .scratch)) [] [] refl (m .0) refl,
       m .1,
     )
 
@@ -43,6 +46,7 @@ map-spec =
     (tie.spec
     slice-aggregate-map-under
     slice-aggregate-map-under-2
+    slice-aggregate-map-under-3
     long-course-requires
     map-under-requires
     same-length

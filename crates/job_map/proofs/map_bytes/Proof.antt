@@ -17,7 +17,7 @@ slice-aggregate-read-drawn-2 : tie.Need-slice-aggregate-read-drawn-2
 slice-aggregate-read-drawn-2 c = search needs
 
 read-drawn-requires : tie.Need-read-drawn-requires
-read-drawn-requires c κs = let offered = c .before .before .before .before .before .before .before .pre .0 in (offered, room-offered offered refl refl)
+read-drawn-requires c κs = let offered = c .before .before .before .before .before .before .before .before .pre .0 in (offered, room-offered offered refl refl)
 
 enum-known-v : tie.Need-enum-known-v
 enum-known-v c = search needs
@@ -25,9 +25,9 @@ enum-known-v c = search needs
 returns : tie.Need-returns
 returns c =
     let small : c .before .v .given .0 .0 < 256 = search needs in
-    let a = c .before .before .before .before .before .before .before .before .before .before .before .before .before .args in
+    let a = c .before .before .before .before .before .before .before .before .before .before .before .before .before .before .args in
     let d = c .before .before .before .before .before .read-drawn in
-    walk-refused (a .rules) (a .k) (a .target) (now (a .bytes)) (d .result) _ _ (d .ensures) (modeOf (a .forward)) (now (a .area)) (now (a .loader)) (now (a .contents)) small (c .before .v .given .1)
+    walk-refused (a .rules) (a .k) (a .target) (now (a .bytes)) (d .result) _ _ (d .ensures) (modeOf (a .forward)) (now (a .pairs)) (now (a .area)) (now (a .loader)) (now (a .contents)) small (c .before .v .given .1)
 
 enum-told : tie.Need-enum-told
 enum-told c = search needs
@@ -64,7 +64,7 @@ part-map-read-end c = search needs
 
 map-read-requires : tie.Need-map-read-requires
 map-read-requires c κs =
-    let start = c .before .before .before .before .before .before .before .before .before .before .before .before .before .before .before .before .before .before .before .before .before .before .before in
+    let start = c .before .before .before .before .before .before .before .before .before .before .before .before .before .before .before .before .before .before .before .before .before .before .before .before in
     let a = start .args in
     let l = now (a .bytes) in
     let d = c .before .before .before .before .before .before .before .before .before .before .before .before .before .before .before .read-drawn in
@@ -87,7 +87,7 @@ same-length-4 c = search needs
 
 returns-2 : tie.Need-returns-2
 returns-2 c =
-    let start = c .before .before .before .before .before .before .before .before .before .before .before .before .before .before .before .before .before .before .before .before .before .before .before .before .before .before .before .before .before .before .before .before .before in
+    let start = c .before .before .before .before .before .before .before .before .before .before .before .before .before .before .before .before .before .before .before .before .before .before .before .before .before .before .before .before .before .before .before .before .before .before in
     let a = start .args in
     let l = now (a .bytes) in
     let d = c .before .before .before .before .before .before .before .before .before .before .before .before .before .before .before .before .before .before .before .before .before .before .before .before .before .read-drawn in

@@ -13,6 +13,9 @@ use Rattle.job_map.proofs.map_loader.Tie as tie
 slice-aggregate-map-under : tie.Need-slice-aggregate-map-under
 slice-aggregate-map-under c = search needs
 
+slice-aggregate-map-under-2 : tie.Need-slice-aggregate-map-under-2
+slice-aggregate-map-under-2 c = search needs
+
 long-course-requires : tie.Need-long-course-requires
 long-course-requires c κs = search needs
 
@@ -30,10 +33,10 @@ same-length-3 c = search needs
 
 returns : tie.Need-returns
 returns c =
-    let a = c .before .before .before .before .before .before .before .before .before .before .before .before .before .before .before .before .before .args in
+    let a = c .before .before .before .before .before .before .before .before .before .before .before .before .before .before .before .before .before .before .args in
     let m = c .before .before .before .before .before .before .before .map-under .ensures in (
       ap (λ (R : Rules). loaderOutcome R (now (a .net)) (a .k) (a .target) (now (a .area)) (now (a .scratch)) (now (a .loader))) (sym (c .before .before .before .before .before .before .before .before .long-course .ensures))
-          ∙ map-loaded _ (now (a .net)) (a .k) (a .target) (now (a .area)) (now (a .scratch)) (now (a .loader)) [] refl (m .0),
+          ∙ map-loaded _ (now (a .net)) (a .k) (a .target) [] (now (a .area)) (now (a .scratch)) (now (a .loader)) [] refl (m .0),
       m .1,
     )
 
@@ -42,6 +45,7 @@ map-loader-spec =
     tie.close
     (tie.spec
     slice-aggregate-map-under
+    slice-aggregate-map-under-2
     long-course-requires
     map-under-requires
     same-length

@@ -23,26 +23,26 @@ check-lent-requires-2 c κs = search needs
 
 returns : tie.Need-returns
 returns c =
-    let a = c .before .before .before .before .before .before .before .before .before .args in
+    let a = c .before .before .before .before .before .before .before .before .before .before .args in
     let e = c .before .before .before .check-sizes .ensures in
     let h = sizes-small (a .rules) (a .k) (a .target) (length (now (a .area))) (length (now (a .scratch))) in (
-      map-sizes (modeOf (a .forward)) (a .rules) (a .k) (a .target) (now (a .area)) (now (a .scratch)) (now (a .loader)) (now (a .contents)) (now (a .net)) (c .before .before .before .check-sizes .result) e (c .if1 .taken),
+      map-sizes (modeOf (a .forward)) (a .rules) (a .k) (a .target) (now (a .pairs)) (now (a .area)) (now (a .scratch)) (now (a .loader)) (now (a .contents)) (now (a .net)) (c .before .before .before .check-sizes .result) e (c .if1 .taken),
       omega (arith, h, e),
     )
 
 returns-2 : tie.Need-returns-2
 returns-2 c =
-    let a = c .before .before .before .before .before .before .before .before .before .before .args in
+    let a = c .before .before .before .before .before .before .before .before .before .before .before .args in
     let z = zero-of (c .before .before .before .before .check-sizes .ensures) (omega (arith, c .before .if1 .left)) in
     let e = c .before .before .before .check-lent .ensures in
     let t = told-short contentsArea 3 (length (now (a .contents))) (omega (arith, e, c .if2 .taken)) in (
-      map-contents (modeOf (a .forward)) (a .rules) (a .k) (a .target) (now (a .area)) (now (a .scratch)) (now (a .loader)) (now (a .contents)) (now (a .net)) z (c .before .before .before .check-lent .result) e (c .if2 .taken),
+      map-contents (modeOf (a .forward)) (a .rules) (a .k) (a .target) (now (a .pairs)) (now (a .area)) (now (a .scratch)) (now (a .loader)) (now (a .contents)) (now (a .net)) z (c .before .before .before .check-lent .result) e (c .if2 .taken),
       omega (arith, e, t .1),
     )
 
 clear-first-requires : tie.Need-clear-first-requires
 clear-first-requires c κs =
-    let a = c .before .before .before .before .before .before .before .before .before .before .before .before .args in
+    let a = c .before .before .before .before .before .before .before .before .before .before .before .before .before .args in
     let z = zero-of (c .before .before .before .before .before .before .check-sizes .ensures) (omega (arith, c .before .before .before .if1 .left)) in
     let f = fit (a .rules) (a .k) (a .target) (length (now (a .area))) (length (now (a .scratch))) z in
     f .space
@@ -52,54 +52,54 @@ same-length c = search needs
 
 returns-3 : tie.Need-returns-3
 returns-3 c =
-    let a = c .before .before .before .before .before .before .before .before .before .before .before .before .before .before .before .args in
+    let a = c .before .before .before .before .before .before .before .before .before .before .before .before .before .before .before .before .args in
     let z = zero-of (c .before .before .before .before .before .before .before .before .before .check-sizes .ensures) (omega (arith, c .before .before .before .before .before .before .if1 .left)) in
     let y = zero-of (c .before .before .before .before .before .before .before .before .check-lent .ensures) (omega (arith, c .before .before .before .before .before .if2 .left)) in
     let e = c .before .before .before .before .before .before .before .check-lent2 .ensures in
     let t = told-short loaderArea 20 (length (now (a .loader))) (omega (arith, e, c .before .before .before .before .if3 .taken)) in (
-      map-short (modeOf (a .forward)) (a .rules) (a .k) (a .target) (now (a .area)) (now (a .scratch)) (now (a .loader)) (now (a .contents)) (now (a .net)) z y (c .before .before .before .before .before .before .before .check-lent2 .result) _ e (omega (arith, c .before .before .before .before .if3 .taken)) (c .before .before .clear-first .ensures),
+      map-short (modeOf (a .forward)) (a .rules) (a .k) (a .target) (now (a .pairs)) (now (a .area)) (now (a .scratch)) (now (a .loader)) (now (a .contents)) (now (a .net)) z y (c .before .before .before .before .before .before .before .check-lent2 .result) _ e (omega (arith, c .before .before .before .before .if3 .taken)) (c .before .before .clear-first .ensures),
       omega (arith, e, t .1),
     )
 
 slice-relend-prefix-map-bytes : tie.Need-slice-relend-prefix-map-bytes
 slice-relend-prefix-map-bytes c =
-    let a = c .before .before .before .before .before .before .before .before .before .before .before .before .args in
+    let a = c .before .before .before .before .before .before .before .before .before .before .before .before .before .args in
     let z = zero-of (c .before .before .before .before .before .before .check-sizes .ensures) (omega (arith, c .before .before .before .if1 .left)) in
     let f = fit (a .rules) (a .k) (a .target) (length (now (a .area))) (length (now (a .scratch))) z in
     f .space
 
 slice-aggregate-map-bytes : tie.Need-slice-aggregate-map-bytes
 slice-aggregate-map-bytes c =
-    let a = c .before .before .before .before .before .before .before .before .before .before .before .before .before .args in
+    let a = c .before .before .before .before .before .before .before .before .before .before .before .before .before .before .args in
     let z = zero-of (c .before .before .before .before .before .before .before .check-sizes .ensures) (omega (arith, c .before .before .before .before .if1 .left)) in
     let f = fit (a .rules) (a .k) (a .target) (length (now (a .area))) (length (now (a .scratch))) z in
     sym (length-take-le (a .rules .scratch) (now (a .scratch)) (f .space))
 
 map-bytes-requires : tie.Need-map-bytes-requires
 map-bytes-requires c κs =
-    let a = c .before .before .before .before .before .before .before .before .before .before .before .before .before .before .before .args in
+    let a = c .before .before .before .before .before .before .before .before .before .before .before .before .before .before .before .before .args in
     let z = zero-of (c .before .before .before .before .before .before .before .before .before .check-sizes .ensures) (omega (arith, c .before .before .before .before .before .before .if1 .left)) in
     let f = fit (a .rules) (a .k) (a .target) (length (now (a .area))) (length (now (a .scratch))) z in
     let e = length-take-le (a .rules .scratch) (now (a .scratch)) (f .space) in
     let y = zero-of (c .before .before .before .before .before .before .before .before .check-lent .ensures) (omega (arith, c .before .before .before .before .before .if2 .left)) in
     let x = zero-of (c .before .before .before .before .before .before .before .check-lent2 .ensures) (omega (arith, c .before .before .before .before .if3 .left)) in (
-      c .before .before .before .before .before .before .before .before .before .before .before .before .before .before .before .pre .0,
+      c .before .before .before .before .before .before .before .before .before .before .before .before .before .before .before .before .pre .0,
       (
         record { low = f .low; high = f .high; near = f .near; room = f .room; space = omega arith },
         told-fits loaderArea 20 (length (now (a .loader))) (omega arith) x .1,
         told-fits contentsArea 3 (length (now (a .contents))) (omega arith) y .1,
-        c .before .before .before .before .before .before .before .before .before .before .before .before .before .before .before .pre .1,
+        c .before .before .before .before .before .before .before .before .before .before .before .before .before .before .before .before .pre .1,
       ),
     )
 
 clear-first-requires-2 : tie.Need-clear-first-requires-2
 clear-first-requires-2 c κs =
-    let a = c .before .before .before .before .before .before .before .before .before .before .before .before .before .before .before .before .before .before .before .before .before .before .before .before .before .args in
+    let a = c .before .before .before .before .before .before .before .before .before .before .before .before .before .before .before .before .before .before .before .before .before .before .before .before .before .before .args in
     let z = zero-of (c .before .before .before .before .before .before .before .before .before .before .before .before .before .before .before .before .before .before .before .check-sizes .ensures) (omega (arith, c .before .before .before .before .before .before .before .before .before .before .before .before .before .before .before .before .if1 .left)) in
     let f = fit (a .rules) (a .k) (a .target) (length (now (a .area))) (length (now (a .scratch))) z in
     let map-bytes = c .before .before .before .before .before .before .before .before .before .map-bytes in
-    let e = map-bytes .kept .1 .1 .1 .1 .0 ∙ length-take-le (a .rules .scratch) (now (a .scratch)) (f .space) in
-    let b = length-append (map-bytes .last .1 .1 .1 .1 .0) (drop (a .rules .scratch) (now (a .scratch))) in
+    let e = map-bytes .kept .1 .1 .1 .1 .1 .0 ∙ length-take-le (a .rules .scratch) (now (a .scratch)) (f .space) in
+    let b = length-append (map-bytes .last .1 .1 .1 .1 .1 .0) (drop (a .rules .scratch) (now (a .scratch))) in
     omega arith
 
 same-length-2 : tie.Need-same-length-2
@@ -116,14 +116,14 @@ same-length-5 c = search needs
 
 returns-4 : tie.Need-returns-4
 returns-4 c =
-    let a = c .before .before .before .before .before .before .before .before .before .before .before .before .before .before .before .before .before .before .before .before .before .before .before .before .before .before .before .before .args in
+    let a = c .before .before .before .before .before .before .before .before .before .before .before .before .before .before .before .before .before .before .before .before .before .before .before .before .before .before .before .before .before .args in
     let z = zero-of (c .before .before .before .before .before .before .before .before .before .before .before .before .before .before .before .before .before .before .before .before .before .before .check-sizes .ensures) (omega (arith, c .before .before .before .before .before .before .before .before .before .before .before .before .before .before .before .before .before .before .before .if1 .left)) in
     let f = fit (a .rules) (a .k) (a .target) (length (now (a .area))) (length (now (a .scratch))) z in
     let map-bytes = c .before .before .before .before .before .before .before .before .before .before .before .before .map-bytes in
     let y = zero-of (c .before .before .before .before .before .before .before .before .before .before .before .before .before .before .before .before .before .before .before .before .before .check-lent .ensures) (omega (arith, c .before .before .before .before .before .before .before .before .before .before .before .before .before .before .before .before .before .before .if2 .left)) in
     let x = zero-of (c .before .before .before .before .before .before .before .before .before .before .before .before .before .before .before .before .before .before .before .before .check-lent2 .ensures) (omega (arith, c .before .before .before .before .before .before .before .before .before .before .before .before .before .before .before .before .before .if3 .left)) in
-    let e = map-bytes .kept .1 .1 .1 .1 .0 ∙ length-take-le (a .rules .scratch) (now (a .scratch)) (f .space) in (
-      map-rest (modeOf (a .forward)) (a .rules) (a .k) (a .target) (now (a .area)) (now (a .scratch)) (now (a .loader)) (now (a .contents)) (now (a .net)) z y _ _ _ (map-bytes .last .1 .1 .1 .1 .0) _ _ x (map-bytes .ensures) e (c .before .before .clear-first2 .ensures),
+    let e = map-bytes .kept .1 .1 .1 .1 .1 .0 ∙ length-take-le (a .rules .scratch) (now (a .scratch)) (f .space) in (
+      map-rest (modeOf (a .forward)) (a .rules) (a .k) (a .target) (now (a .pairs)) (now (a .area)) (now (a .scratch)) (now (a .loader)) (now (a .contents)) (now (a .net)) z y _ _ _ (map-bytes .last .1 .1 .1 .1 .1 .0) _ _ x (map-bytes .ensures) e (c .before .before .clear-first2 .ensures),
       map-bytes .ensures .small,
     )
 

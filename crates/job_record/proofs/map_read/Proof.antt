@@ -1,4 +1,5 @@
 -- `job_record::map_read` meets its contract: a refusal, or the record, the image and the contents.
+use denote.Ref.{now}
 use mathlib.Core.Path.{refl, _∙_}
 use native.Mathlib.Omega.{arith}
 use Rattle.job_settle.specs.SettlingLaws.{cover-settled, settled-small}
@@ -27,7 +28,7 @@ slice-aggregate-settle-5 c = search needs
 
 settle-requires : tie.Need-settle-requires
 settle-requires c κs =
-    let start = c .before .before .before .before .before .before .before .before .before .before .before .before .before .before in
+    let start = c .before .before .before .before .before .before .before .before .before .before .before .before .before .before .before in
     let f = start .pre .settling .facts in
     (start .pre .settling, ((omega (arith, f .gates-high), omega (arith, f .gates-high)), (omega (arith, start .pre .space), omega (arith, f .gates-high, f .inputs-high), zero-room (start .args .z .gates) (f .gates-high))))
 
@@ -41,7 +42,7 @@ same-length-2 : tie.Need-same-length-2
 same-length-2 c = search needs
 
 returns : tie.Need-returns
-returns c = net-refused-as _ _ _ _ (c .before .before .before .before .before .before .before .before .before .before .before .settle .ensures .0) (omega (arith, c .before .if1 .taken)) (c .narrow .ensures)
+returns c = net-refused-as _ _ _ _ _ (c .before .before .before .before .before .before .before .before .before .before .before .settle .ensures .0) (omega (arith, c .before .if1 .taken)) (c .narrow .ensures)
 
 slice-aggregate-write-cover : tie.Need-slice-aggregate-write-cover
 slice-aggregate-write-cover c = search needs
@@ -55,7 +56,7 @@ slice-aggregate-write-cover-3 c = search needs
 write-cover-requires : tie.Need-write-cover-requires
 write-cover-requires c κs =
     let settle = c .before .before .before .before .before .before .before .before .before .before .before .before .before .before .settle in
-    let start = c .before .before .before .before .before .before .before .before .before .before .before .before .before .before .before .before .before .before .before .before .before .before .before .before .before .before .before .before .before in
+    let start = c .before .before .before .before .before .before .before .before .before .before .before .before .before .before .before .before .before .before .before .before .before .before .before .before .before .before .before .before .before .before in
     let k = settle .kept .1 .1 .1 .1 .1 .1 .1 in
     let h = start .pre .settling .facts .gates-high in
     let u = cover-settled (settle .ensures .0) (omega (arith, c .before .before .before .before .if1 .left)) in
@@ -69,7 +70,7 @@ slice-aggregate-write-image-2 c = search needs
 
 write-image-requires : tie.Need-write-image-requires
 write-image-requires c κs =
-    let start = c .before .before .before .before .before .before .before .before .before .before .before .before .before .before .before .before .before .before .before .before .before .before .before .before .before .before .before .before .before .before .before .before .before .before .before in
+    let start = c .before .before .before .before .before .before .before .before .before .before .before .before .before .before .before .before .before .before .before .before .before .before .before .before .before .before .before .before .before .before .before .before .before .before .before .before in
     let k = c .before .before .before .before .before .before .before .before .before .before .before .before .before .before .before .before .before .before .before .before .settle .kept .1 .1 .1 .1 .1 .1 .1 in
     let f = start .pre .settling .facts in
     record {
@@ -90,7 +91,7 @@ slice-aggregate-fill-contents-3 c = search needs
 fill-contents-requires : tie.Need-fill-contents-requires
 fill-contents-requires c κs =
     let settle = c .before .before .before .before .before .before .before .before .before .before .before .before .before .before .before .before .before .before .before .before .before .before .before .before .before .before .before .before .before .settle in
-    let start = c .before .before .before .before .before .before .before .before .before .before .before .before .before .before .before .before .before .before .before .before .before .before .before .before .before .before .before .before .before .before .before .before .before .before .before .before .before .before .before .before .before .before .before .before in
+    let start = c .before .before .before .before .before .before .before .before .before .before .before .before .before .before .before .before .before .before .before .before .before .before .before .before .before .before .before .before .before .before .before .before .before .before .before .before .before .before .before .before .before .before .before .before .before in
     let k = settle .kept .1 .1 .1 .1 .1 .1 .1 in
     let f = start .pre .settling .facts in
     let u = cover-settled (settle .ensures .0) (omega (arith, c .before .before .before .before .before .before .before .before .before .before .before .before .before .before .before .before .before .before .before .if1 .left)) in
@@ -115,13 +116,13 @@ returns-2 : tie.Need-returns-2
 returns-2 c =
     let write-cover = c .before .before .before .before .before .before .before .before .before .before .before .before .before .before .before .before .before .before .before .before .write-cover in
     let settle = c .before .before .before .before .before .before .before .before .before .before .before .before .before .before .before .before .before .before .before .before .before .before .before .before .before .before .before .before .before .before .before .before .before .before .before .settle in
-    let start = c .before .before .before .before .before .before .before .before .before .before .before .before .before .before .before .before .before .before .before .before .before .before .before .before .before .before .before .before .before .before .before .before .before .before .before .before .before .before .before .before .before .before .before .before .before .before .before .before .before .before in
+    let start = c .before .before .before .before .before .before .before .before .before .before .before .before .before .before .before .before .before .before .before .before .before .before .before .before .before .before .before .before .before .before .before .before .before .before .before .before .before .before .before .before .before .before .before .before .before .before .before .before .before .before .before in
     let k = settle .kept .1 .1 .1 .1 .1 .1 .1 in
     let u = cover-settled (settle .ensures .0) (omega (arith, c .before .before .before .before .before .before .before .before .before .before .before .before .before .before .before .before .before .before .before .before .before .before .before .before .before .if1 .left)) in
     let l = rows-long (start .pre .settling .facts .gates-high) (k .0) (k .1 .0) (k .1 .1 .0) in
-    net-covered _ _ _ _ u (cover-small (start .pre .settling) refl refl l (u .passed) (u .cover)) (write-cover .ensures .0) (write-cover .ensures .1)
+    net-covered _ _ _ _ _ u (cover-small (start .pre .settling) refl refl l (u .passed) (u .cover)) (write-cover .ensures .0) (write-cover .ensures .1)
     (c .before .before .before .before .before .before .before .before .before .before .before .before .before .before .write-image .ensures .image _ (record { gates-are = refl; marks-are = refl; luts-are = refl }) (u .cover .whole))
-    (c .before .before .before .before .before .fill-contents .ensures ∙ filled-is (start .pre) (settle .ensures .1) (omega (arith, c .before .before .before .before .before .before .before .before .before .before .before .before .before .before .before .before .before .before .before .before .before .before .before .before .before .if1 .left)) u l)
+    (c .before .before .before .before .before .fill-contents .ensures ∙ filled-is (start .pre) (settle .ensures .1) (omega (arith, c .before .before .before .before .before .before .before .before .before .before .before .before .before .before .before .before .before .before .before .before .before .before .before .before .before .if1 .left)) u l (now (start .args .pairs)))
 
 pub map-read-spec : {M : Type 1} → statement M
 map-read-spec =

@@ -1,4 +1,4 @@
-//! How much stack the library's map takes, plain and forward with contents.
+//! How much stack the library's map takes, plain and forward with contents, and a change-over.
 //!
 //! `depth [nets] [seed]`. A thread's stack is painted with a pattern; after each call the
 //! lowest place that has lost the pattern tells how deep the call went. Places between
@@ -9,13 +9,19 @@ use second::contents::CONTENTS_BYTES;
 use second::encode::{encode, with_section};
 use second::generate::{random_net, Shape};
 use second::jobs::{COVER_BYTES, SCRATCH_BYTES};
-use second::{Mode, Net, Random};
+use second::{Job, Net, Random};
 
 const PAINTED: usize = 64 << 20;
 /// Room for the frames that paint and look.
 const ROOM: usize = 4 << 10;
 /// After a call so much is looked at below the lowest place so far; all of it at the end.
 const WINDOW: usize = 256 << 10;
+/// The calls, and how each is named.
+const JOBS: [(Job, &str); 3] = [
+    (Job::Plain, ""),
+    (Job::Forward, "forward, "),
+    (Job::ChangeOver(&[0x5a; 41]), "change-over, "),
+];
 const PATTERN: u64 = 0x6b61_6d66_656c_7521;
 
 /// The painted part of this thread's stack; it lies below the frame that made it.
@@ -80,7 +86,7 @@ impl Paint {
 #[derive(Default)]
 struct Deepest {
     calls: u32,
-    forward: bool,
+    job: &'static str,
     k: u32,
     target: u32,
     net: Vec<u8>,
@@ -97,25 +103,32 @@ struct Meter {
 
 impl Meter {
     #[inline(never)]
-    fn call(&mut self, mode: Mode, net: &[u8], k: u32, target: u32) -> Result<usize, u8> {
+    fn call(
+        &mut self,
+        (job, name): (Job, &'static str),
+        net: &[u8],
+        k: u32,
+        target: u32,
+    ) -> Result<usize, u8> {
         // What was done since the last call is not the library's.
         let mark = self.paint.mark;
         if self.paint.look(mark - WINDOW) {
             self.paint.again(mark);
         }
         let (cover, scratch) = (&mut self.cover, &mut self.scratch);
-        let answer = match mode {
-            Mode::Plain => kamfelu::map(net, k, target, cover, scratch),
-            Mode::Forward => {
-                let contents = &mut self.contents;
-                kamfelu::map_forward(net, k, target, cover, scratch, &mut [], contents)
+        let (none, contents) = (&mut [], &mut self.contents);
+        let answer = match job {
+            Job::Plain => kamfelu::map(net, k, target, cover, scratch),
+            Job::Forward => kamfelu::map_forward(net, k, target, cover, scratch, none, contents),
+            Job::ChangeOver(pairs) => {
+                kamfelu::change_over(net, k, target, pairs, cover, scratch, none, contents)
             }
         };
         self.deepest.calls += 1;
         if self.paint.look(mark - WINDOW) {
             self.deepest = Deepest {
                 calls: self.deepest.calls,
-                forward: mode == Mode::Forward,
+                job: name,
                 k,
                 target,
                 net: net.to_vec(),
@@ -124,18 +137,18 @@ impl Meter {
         answer
     }
 
-    /// The least period and the targets around it, in both modes; the net gets a section.
+    /// The least period and the targets around it, by each call; the net gets a section.
     fn calls(&mut self, net: &Net, k: u32) {
         let net = with_section(&encode(net), &vec![5; net.nodes()]);
-        for mode in [Mode::Plain, Mode::Forward] {
-            let answer = self.call(mode, &net, k, 0);
+        for job in JOBS {
+            let answer = self.call(job, &net, k, 0);
             let least = if answer.is_ok() {
                 u32::from(self.cover[0])
             } else {
                 1
             };
             for target in [1, least.saturating_sub(1), least, 32] {
-                self.call(mode, &net, k, target).ok();
+                self.call(job, &net, k, target).ok();
             }
         }
     }
@@ -145,7 +158,7 @@ impl Meter {
         let missed = self.paint.look(self.paint.low);
         let Deepest {
             calls,
-            forward,
+            job,
             k,
             target,
             net,
@@ -156,7 +169,6 @@ impl Meter {
             println!("in a call that skipped more than the window");
         } else {
             let hex: String = net.iter().map(|byte| format!("{byte:02x}")).collect();
-            let job = if *forward { "forward, " } else { "" };
             println!("{job}k {k} target {target} net {hex}");
         }
         self.overall = self.overall.max(used);
@@ -176,7 +188,7 @@ fn run(nets: usize, seed: u64) {
         deepest: Deepest::default(),
         overall: 0,
     };
-    meter.call(Mode::Plain, &[], 0, 0).ok();
+    meter.call(JOBS[0], &[], 0, 0).ok();
     meter.part("refusal 1");
     for net in [line(32, 0), line(32, 3), largest_record()] {
         (2..=6).for_each(|k| meter.calls(&net, k));

@@ -1,11 +1,13 @@
-//! Map with and without a loader area, forward map, mark, those of the short course and now and then the programs
-//! listing and bench against the second mapper for some minutes, on nets and candidates of every kind.
+//! Map with and without a loader area, forward map, the change-over, mark, those of the short course and now and then
+//! the programs listing and bench against the second mapper for some minutes, on nets and candidates of every kind.
 //!
 //! `soak [minutes] [seed]`: 20 minutes, and a seed from the clock. The exit code is 1 if
 //! there is a difference.
 
 use library::bench::random_bench;
-use library::compare::{each_thread, random_listing, Sides, Tally};
+use library::compare::Sides;
+use library::listing::random_listing;
+use library::tally::{each_thread, Tally};
 use second::jobs::SHORT;
 use second::Random;
 use std::collections::BTreeMap;
@@ -62,6 +64,7 @@ fn main() -> ExitCode {
         let mut maps = Sides::new(&mut random);
         let mut loads = Sides::new(&mut random);
         let mut forwards = Sides::new(&mut random);
+        let mut changes = Sides::new(&mut random);
         let mut marks = Sides::new(&mut random);
         let mut short = Sides::of(SHORT, &mut random);
         let mut texts = Tally::default();
@@ -70,6 +73,7 @@ fn main() -> ExitCode {
             maps.random_maps(&mut random);
             loads.random_loads(&mut random);
             forwards.random_forwards(&mut random);
+            changes.random_changes(&mut random);
             marks.random_mark(&mut random);
             match random.below(8) {
                 0 => marks.reader_piece(&mut random),
@@ -89,19 +93,20 @@ fn main() -> ExitCode {
             maps.tally,
             loads.tally,
             forwards.tally,
+            changes.tally,
             marks.tally,
             short.tally,
             texts,
             benches,
         ]
     });
-    let mut all: [Tally; 7] = Default::default();
+    let mut all: [Tally; 8] = Default::default();
     for own in told {
         for (sum, tally) in all.iter_mut().zip(own) {
             sum.add(tally);
         }
     }
-    let [maps, loads, forwards, marks, shorts, texts, benches] = &all;
+    let [maps, loads, forwards, changes, marks, shorts, texts, benches] = &all;
     let of_map: Vec<usize> = (1..=12).collect();
     let of_mark: Vec<usize> = [1].into_iter().chain(3..=11).chain(13..=18).collect();
     print("map", maps, &of_map, "length", 100);
@@ -109,6 +114,7 @@ fn main() -> ExitCode {
     print("map with a loader", loads, &of_load, "length", 100);
     let of_forward: Vec<usize> = (1..=11).chain(20..=22).collect();
     print("forward map", forwards, &of_forward, "length", 100);
+    print("change-over", changes, &of_forward, "length", 100);
     print("mark", marks, &of_mark, "excess", 1);
     let of_both: Vec<usize> = (1..=18).collect();
     print("short course", shorts, &of_both, "done", 100);

@@ -11,7 +11,7 @@ use second::contents::CONTENTS_BYTES;
 use second::encode::{encode, with_section};
 use second::generate::{random_net, Shape};
 use second::jobs::{COVER_BYTES, LONG, SCRATCH_BYTES};
-use second::{Answer, Gate, Limits, Mode, Net, Random};
+use second::{Answer, Gate, Job, Limits, Mode, Net, Random};
 use std::cmp::Ordering;
 use std::collections::BTreeSet;
 use std::time::{Duration, Instant};
@@ -127,7 +127,7 @@ impl Areas {
                 loader: &mut [],
                 contents: &mut [],
             };
-            second::map_within(LONG, Mode::Plain, LIMITS, net, k, 0, areas)
+            second::map_within(LONG, Job::Plain, LIMITS, net, k, 0, areas)
         })
     }
 }

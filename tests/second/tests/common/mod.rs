@@ -1,15 +1,21 @@
 //! Helpers of several tests.
 #![allow(dead_code)]
 
+pub mod areas;
 pub mod covers;
+pub mod told;
 
 use second::encode::encode;
 use second::generate::{random_net, Shape};
 use second::jobs::{COVER_BYTES, SCRATCH_BYTES};
-use second::{Answer, Gate, Net, NodeCopy, Pin, Random};
+use second::{
+    least_period, solve, Answer, Cover, Gate, Limits, Mode, Net, NodeCopy, Pin, Random, Stop,
+};
 use std::collections::{BTreeSet, HashSet};
 
 pub const AND: u64 = 8;
+/// The table of a gate that hands its pin on.
+pub const SAME: u64 = 2;
 
 fn pins(list: &[(usize, u32)]) -> Vec<Pin> {
     list.iter()
@@ -55,6 +61,38 @@ pub fn net_b(count: u32) -> Vec<u8> {
 
 pub fn net_c() -> Vec<u8> {
     net_bytes(2, &[(&[(0, 1), (1, 1)], AND)], &[(2, 0)])
+}
+
+/// 32 gates in a line, each behind three registers, and three at the output, as a record.
+pub fn longest_line() -> Vec<u8> {
+    let pins: Vec<[(usize, u32); 1]> = (0..32).map(|i| [(i, 3)]).collect();
+    let gates: Vec<GateText> = pins.iter().map(|pins| (&pins[..], SAME)).collect();
+    net_bytes(1, &gates, &[(32, 3)])
+}
+
+/// What a section tells, node by node, the step before step 0 first.
+pub fn section_bits(section: &[u8]) -> Vec<u8> {
+    let bits = |byte: &u8| [0, 1, 2].map(|at| byte >> at & 1);
+    section.iter().flat_map(bits).collect()
+}
+
+/// The forward cover of a net for a target, 0 for the least period.
+pub fn forward(net: &Net, k: u32, target: u32) -> Result<Cover, Stop> {
+    let solved = solve(net, Mode::Forward, k, target, Limits::default());
+    solved.map(|(cover, _)| cover)
+}
+
+/// Some net with many registers, its k and a target that is met.
+pub fn moving_net(random: &mut Random, gates: usize) -> (Net, u32, u32) {
+    let k = random.within(2, 5);
+    let shape = Shape {
+        registers: random.pick(&[20, 50, 80]),
+        ..Shape::any(random, gates, k)
+    };
+    let net = random_net(random, &shape);
+    let least = least_period(&net, Mode::Forward, k as u32).expect("a period");
+    let target = random.pick(&[0, least, least + 1, 32]);
+    (net, k as u32, target)
 }
 
 /// Map with areas that are large enough: the record, or the other answer.
