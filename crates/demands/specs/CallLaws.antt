@@ -1,11 +1,12 @@
 -- Laws of calls: what the certificate says of map and mark, one law for each field or two.
 use mathlib.Core.Path.{_≡_, refl, sym, subst, ap, _∙_}
 use mathlib.Core.Bool.{Bool}
-use mathlib.Core.List.{List}
+use mathlib.Core.List.{List, []}
 use mathlib.Core.Logic.{_↔_}
 use Prim.Native.Nat.{ℕ, zero, suc, _+_, _-_, _≤_, _<_}
 use native.Mathlib.Omega.{arith}
-use lib.ListN.{length, getD, take}
+use lib.ListN.{length, getD, take, drop}
+use lib.Seq.{take-at}
 use Rattle.limits.specs.Limits.{coverArea, scratchArea, mostPeriod}
 use Rattle.limits.specs.Courses.{long, is-long}
 use Rattle.net_model.specs.Net.{Net}
@@ -18,9 +19,11 @@ use Rattle.cover_theory.specs.KeyUnique.{entries-unique}
 use Rattle.cover_theory.specs.Joined.{reachable-met, met-reachable}
 use Rattle.cover_theory.specs.Period.{leastPeriod, leastPeriod-is, leastPeriod-unique, leastPeriod-bound}
 use Rattle.cover_theory.specs.Written.{noEntry}
+use Rattle.net_bytes.specs.Reading.{got}
 use Rattle.net_bytes.specs.Readers.{got-value}
-use Rattle.cover_records.specs.CoverBytes.{Record, coverBytes}
-use Rattle.cover_records.specs.KeyRecord.{roomy, WithinLimits, key-length}
+use Rattle.label_theory.specs.Labels.{plain}
+use Rattle.cover_records.specs.CoverBytes.{Record, coverBytes, coverReader}
+use Rattle.cover_records.specs.KeyRecord.{roomy, WithinLimits, key-back, key-length}
 use Rattle.cover_records.specs.Outcomes.{accepted, turnedBack, passes, checkNet, cleared, written, mapSizes, MapOutcome, mapWritten, mapOutcome, markSizes, MarkOutcome, markOutcome}
 use Rattle.job_sizes.specs.Sizes.{Fit}
 use Rattle.job_sizes.specs.SizeLaws.{size-none, mark-sizes-are}
@@ -30,7 +33,7 @@ use Rattle.demands.specs.OrderLaws.{told-first, told-none, one-net, net-
 use Rattle.demands.specs.Endings as ends
 use Rattle.demands.specs.MapEndsLaws as map
 use Rattle.demands.specs.MarkEndsLaws as mark
-use Rattle.demands.specs.Right.{RightRecord}
+use Rattle.demands.specs.Right.{RightRecord, KeyRead}
 use Rattle.demands.specs.Demand2.{accepts, accepted-if, right-runs, right-excess, period-stated, target-accepted, least-accepted}
 use Rattle.demands.specs.Right.{Wrote}
 use Rattle.demands.specs.Demand3.{wrote-key, limits, map-fit, met-written, least-written}
@@ -162,6 +165,34 @@ module _ (c : MapCall) where
         ),
         w .wiped,
       )
+
+  -- the record that is read is the key's
+  pub read-key : (n : ℕ) → (mapDone c) .answer ≡ accepted n → (N : Net) → IsNet (c .k) (c .net) N → (r : Record) → IsRecord N (c .k) (take n ((mapDone c) .area)) r → KeyRead plain N (c .k) r
+  read-key n e N i r q = subst (KeyRead plain N (c .k)) record-same (subst (λ (M : Net). KeyRead plain M (c .k) recorded) net-same here)
+    where
+      w : Made n
+      w = made n e
+
+      bytes : List ℕ
+      bytes = coverBytes long (w .period) (entries (w .key))
+
+      recorded : Record
+      recorded = record { period = w .period; entries = entries (w .key) }
+
+      net-same : w .net ≡ N
+      net-same = one-net (c .k) (c .net) (w .isNet) i
+
+      front : take n ((mapDone c) .area) ≡ bytes
+      front = ap (take n) (w .front) ∙ take-at bytes (drop (length bytes) (c .area)) n (sym (w .size))
+
+      back : coverReader long (w .net) (c .k) bytes ≡ got recorded []
+      back = key-back (roomy is-long) (w .passed) (made-limits w) (made-positive w) (w .key) (made-near w)
+
+      record-same : recorded ≡ r
+      record-same = got-value recorded [] r (q .0) (sym back ∙ ap (λ (M : Net). coverReader long M (c .k) bytes) net-same ∙ ap (coverReader long N (c .k)) (sym front) ∙ q .1)
+
+      here : KeyRead plain (w .net) (c .k) recorded
+      here = record { passed = w .passed; positive = made-positive w; key = w .key; same = refl }
 
   pub keyed : (n : ℕ) → (mapDone c) .answer ≡ accepted n → (N : Net) → IsNet (c .k) (c .net) N → (φ : ℕ) → Asked c N φ
       → Key N (c .k) φ × ((K : Key N (c .k) φ) → (n ≡ length (coverBytes long φ (entries K))) × ((mapDone c) .area ≡ written (coverBytes long φ (entries K)) (c .area)))

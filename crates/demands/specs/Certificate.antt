@@ -44,6 +44,8 @@ use Rattle.demands.specs.ForwardMap.{ForwardMap}
 use Rattle.demands.specs.ForwardMapLaws.{forward-map}
 use Rattle.demands.specs.ChangeOver.{ChangeOver}
 use Rattle.demands.specs.ChangeOverLaws.{change-over-map}
+use Rattle.demands.specs.LeastLags.{LeastLags}
+use Rattle.demands.specs.LeastLagsLaws.{least-lags}
 use Rattle.demands.specs.LoaderArea.{LoaderArea}
 use Rattle.demands.specs.LoaderAreaLaws.{loader-area}
 use Rattle.demands.specs.CallLaws as law
@@ -124,6 +126,8 @@ pub record Certificate : Type 0 where
   pub forward : ForwardMap
   -- ---- Document 02, E7: change-over on a running unit, fields in `ChangeOver`, over the outcome `changeOutcome` of every call.
   pub change : ChangeOver
+  -- ---- Document 02, E9: the lags are the least, fields in `LeastLags`, over every accepted call of map and of forward map.
+  pub lags : LeastLags
 
 -- **All of it is proved.**
 pub certificate : Certificate
@@ -162,4 +166,5 @@ certificate = record {
   bench = bench-run;
   forward = forward-map;
   change = change-over-map;
+  lags = least-lags;
 }

@@ -44,7 +44,7 @@ use Rattle.demands.specs.TurnedBack.{IsNet, IsRecord}
 use Rattle.demands.specs.Calls.{markDone}
 use Rattle.demands.specs.CallLaws.{turned-not, accepted-not, turned-same}
 use Rattle.demands.specs.OrderLaws.{one-net, net-range}
-use Rattle.demands.specs.Right.{RightRecord}
+use Rattle.demands.specs.Right.{RightRecord, KeyRead}
 use Rattle.demands.specs.Demand2.{key-right, key-accepted}
 use Rattle.demands.specs.Demand3.{wrote-key, limits, map-fit}
 use Rattle.demands.specs.BenchRun.{IsDrawn}
@@ -410,6 +410,12 @@ module _ (c : ForwardCall) (start : Start) where
             λ board b i s h. boarded-unique (w .passed .sound) (right w .isCover) (w .period) (positive w) (right w .meets) (tablesIn (recorded w)) contents inputs b i s (omega (arith, e, h)),
           )
 
+  -- the record that is read is the key's
+  pub forward-key : (n : ℕ) (N : Net) (r : Record) → Read c (done c start) n N r → KeyRead forward N (c .k) r
+  forward-key n N r t =
+      let w = made n (t .told) in
+      as-made w (λ (M : Net) (q : Record). KeyRead forward M (c .k) q) (record { passed = w .passed; positive = positive w; key = w .key; same = refl }) N r (t .isNet) (t .reads)
+
   -- what the board's theorems ask of the record that is read
   pub sure : (n : ℕ) (N : Net) (r : Record) → Read c (done c start) n N r → Sure N (c .k) r
   sure n N r t =
@@ -427,7 +433,7 @@ module _ (c : ForwardCall) (start : Start) where
 
 -- ---- E6: the board starts from the section
 
-abbrev first : Start
+abbrev pub first : Start
 first N section = sectionIn section
 
 first-is : (c : ForwardCall) → forwardDone c ≡ done c first

@@ -24,4 +24,6 @@ pub mod ForwardEnds
 pub mod ForwardMapLaws
 pub mod ChangeOver
 pub mod ChangeOverLaws
+pub mod LeastLags
+pub mod LeastLagsLaws
 pub mod Certificate

@@ -1,12 +1,14 @@
--- Definitions: a right record of a cover, and what map wrote.
+-- Definitions: a right record of a cover, what map wrote, and the record of a key.
 use mathlib.Core.Path.{_≡_}
 use mathlib.Core.List.{List, [], _++_}
-use Prim.Native.Nat.{ℕ}
+use Prim.Native.Nat.{ℕ, _≤_}
 use lib.ListN.{length, drop}
 use Rattle.limits.specs.Courses.{long}
 use Rattle.net_model.specs.Net.{Net}
+use Rattle.net_model.specs.Checks.{Passed}
+use Rattle.label_theory.specs.Labels.{Mode}
 use Rattle.cover_theory.specs.Covers.{IsCover, Meets}
-use Rattle.cover_theory.specs.Key.{Entry, asCover}
+use Rattle.cover_theory.specs.Key.{KeyIn, Entry, entries, asCover}
 use Rattle.net_bytes.specs.Reading.{got}
 use Rattle.cover_records.specs.CoverBytes.{Record, coverReader}
 use Rattle.cover_records.specs.Marking.{TablesRight}
@@ -28,3 +30,10 @@ pub record Wrote (N : Net) (k φ : ℕ) (area area′ : List ℕ) (length′ : �
   pub stated : period ≡ φ
   pub isCover : IsCover N k (asCover N luts)
   pub meets : Meets N (asCover N luts) φ
+
+-- a record that is that of a key of its period, in a mode
+pub record KeyRead (M : Mode) (N : Net) (k : ℕ) (r : Record) : Type 0 where
+  pub passed : Passed N k
+  pub positive : 1 ≤ r .period
+  pub key : KeyIn M N k (r .period)
+  pub same : entries key ≡ r .entries

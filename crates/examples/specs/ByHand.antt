@@ -44,7 +44,7 @@ module _ (N : Net) (v : ℕ) (a b : Copy) (g : IsGate N v) (rises : Before a b) 
       after c (here e) = subst (λ (x : Copy). Before a x) (sym e) rises
       after c (there h) = absurd (not-in-nil h)
 
-  pair-cut : IsCut N 2 v (a ∷ b ∷ [])
+  pub pair-cut : IsCut N 2 v (a ∷ b ∷ [])
   pair-cut = record { cone = copy v 0 ∷ []; isCone = alone-cone; isLeaves = alone-leaves; few = omega arith }
 
 -- ---- net B
@@ -64,8 +64,8 @@ gate-4 : IsGate netB 4
 gate-4 = record { low = omega arith; high = omega arith }
 
 -- what feeds a gate is one of its two pins' copies
-fed-by : (v : ℕ) (p q : Pin) → pins netB v ≡ p ∷ q ∷ [] → (y : Copy) → Feeds netB y (copy v 0) → y ∈ copy (p .src) (p .count) ∷ copy (q .src) (q .count) ∷ []
-fed-by v p q two y f = go (subst (λ (l : List Pin). f .pin ∈ l) two (f .isPin))
+pub fed-by : (N : Net) (v : ℕ) (p q : Pin) → pins N v ≡ p ∷ q ∷ [] → (y : Copy) → Feeds N y (copy v 0) → y ∈ copy (p .src) (p .count) ∷ copy (q .src) (q .count) ∷ []
+fed-by N v p q two y f = go (subst (λ (l : List Pin). f .pin ∈ l) two (f .isPin))
   where
     deep : {d c e : ℕ} → d ≡ 0 + c → c ≡ e → d ≡ e
     deep p q = omega (arith, p, q)
@@ -86,7 +86,7 @@ swap (there (here e)) = here e
 swap (there (there h)) = absurd (not-in-nil h)
 
 -- a member of a list of two has what both have
-both : (P : Copy → Type 0) {a b : Copy} → P a → P b → (y : Copy) → y ∈ a ∷ b ∷ [] → P y
+pub both : (P : Copy → Type 0) {a b : Copy} → P a → P b → (y : Copy) → y ∈ a ∷ b ∷ [] → P y
 both P pa pb y (here e) = subst P (sym e) pa
 both P pa pb y (there (here e)) = subst P (sym e) pb
 both P pa pb y (there (there h)) = absurd (not-in-nil h)
@@ -97,7 +97,7 @@ cut-3 = pair-cut netB 3 (copy 0 0) (copy 1 0) gate-3 (inl (omega arith))
     (record { gate = gate-3; pin = pin 0 0; isPin = here refl; source = refl; depth = refl })
     (record { gate = gate-3; pin = pin 1 0; isPin = there (here refl); source = refl; depth = refl })
     (both (λ (y : Copy). ¬ (y .node ≡ 3)) (λ e. omega (arith, e)) (λ e. omega (arith, e)))
-    (fed-by 3 (pin 0 0) (pin 1 0) refl)
+    (fed-by netB 3 (pin 0 0) (pin 1 0) refl)
 
 cut-4 : IsCut netB 2 4 (copy 2 0 ∷ copy 3 0 ∷ [])
 unfolding gate
@@ -105,7 +105,7 @@ cut-4 = pair-cut netB 4 (copy 2 0) (copy 3 0) gate-4 (inl (omega arith))
     (record { gate = gate-4; pin = pin 2 0; isPin = there (here refl); source = refl; depth = refl })
     (record { gate = gate-4; pin = pin 3 0; isPin = here refl; source = refl; depth = refl })
     (both (λ (y : Copy). ¬ (y .node ≡ 4)) (λ e. omega (arith, e)) (λ e. omega (arith, e)))
-    (λ y f. swap (fed-by 4 (pin 3 0) (pin 2 0) refl y f))
+    (λ y f. swap (fed-by netB 4 (pin 3 0) (pin 2 0) refl y f))
 
 no-input : {u : ℕ} → u < 3 → IsGate netB u → ⊥
 no-input h g = let a = g .low in omega arith

@@ -166,7 +166,7 @@ section-C = refl
 gate-C : {v : ℕ} → IsGate netC v → v ≡ 2
 gate-C g = let l : 2 ≤ _ = g .low in let h : _ < 3 = g .high in omega arith
 
-alone-C : {C : List Copy} {x : Copy} → IsGate netC (x .node) → ((y : Copy) → y ∈ C → IsGate netC (y .node)) → Leads netC C (copy 2 0) x → x .back ≡ 0
+pub alone-C : {C : List Copy} {x : Copy} → IsGate netC (x .node) → ((y : Copy) → y ∈ C → IsGate netC (y .node)) → Leads netC C (copy 2 0) x → x .back ≡ 0
 unfolding gate
 alone-C g all (stop e) = ap (λ (y : Copy). y .back) e
 alone-C {C} {x} g all (step z i f l) = absurd (go (f .pin) (subst (λ (v : ℕ). f .pin ∈ pins netC v) (gate-C (all z i)) (f .isPin)) (sym (f .source) ∙ gate-C g))

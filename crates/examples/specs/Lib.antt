@@ -6,4 +6,5 @@ pub mod Plan
 pub mod Marked
 pub mod ForwardExamples
 pub mod ChangeExamples
+pub mod LagExamples
 pub mod Inhabited

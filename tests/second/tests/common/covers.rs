@@ -1,9 +1,11 @@
 //! Covers of small nets, enumerated outright, and held against labels.
 
 use super::{grown_cuts, ConeAndLeaves};
+use second::cuts::Limits;
 use second::mark::{check_cover, longest_chain};
-use second::{check_net, lag_of, least_labels, least_period, lut_table};
+use second::{check_net, lag_of, least_labels, least_period, lut_table, solve};
 use second::{Cover, Gate, Lut, Mode, Net, Outcome, Pin};
+use std::collections::BTreeMap;
 use std::ops::RangeInclusive;
 
 pub type Sets = Vec<Vec<ConeAndLeaves>>;
@@ -226,8 +228,15 @@ fn each_cover(
     }
 }
 
+/// The cover that map writes for a period that some cover of the mode meets.
+fn written_for(net: &Net, mode: Mode, k: u32, period: u32) -> Cover {
+    let solved = solve(net, mode, k, period, Limits::default());
+    solved.expect("some cover meets the period").0
+}
+
 /// The number of covers of the mode that the marker accepts, where they are few enough to be tried; the
-/// shortest period among them is the least one.
+/// shortest period among them is the least one, and none has a LUT with a smaller lag than that of the
+/// same root in the cover written for its period.
 pub fn count_covers(net: &Net, mode: Mode, k: u32) -> Option<usize> {
     let sets = sets(net, k, MOST_CONES)?;
     let lags = -(net.most_registers().min(3) as i64)..=2;
@@ -237,10 +246,20 @@ pub fn count_covers(net: &Net, mode: Mode, k: u32) -> Option<usize> {
         return None;
     }
     let (mut good, mut shortest) = (0, u32::MAX);
+    let mut written: BTreeMap<u32, Cover> = BTreeMap::new();
     each_cover(net, &sets, mode, lags, &mut |cover| {
         if !cover.luts.is_empty() && check_cover(net, cover).is_ok() {
             good += 1;
-            shortest = shortest.min(longest_chain(net, cover));
+            let period = longest_chain(net, cover);
+            shortest = shortest.min(period);
+            let key = written
+                .entry(period)
+                .or_insert_with(|| written_for(net, mode, k, period));
+            for lut in &key.luts {
+                let mut rivals = cover.luts.iter().filter(|rival| rival.root == lut.root);
+                let none_smaller = rivals.all(|rival| lut.lag <= rival.lag);
+                assert!(none_smaller, "{net:?} k {k} {cover:?} beside {key:?}");
+            }
         }
     });
     assert_eq!(Some(shortest), least_period(net, mode, k), "{net:?} k {k}");
