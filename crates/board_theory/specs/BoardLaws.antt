@@ -10,7 +10,7 @@ use Rattle.net_model.specs.Copies.{Copy}
 use Rattle.net_model.specs.Tables.{apply}
 use Rattle.label_theory.specs.Lower.{input_or_gate, leaf-node}
 use Rattle.cone_values.specs.Values.{map_same}
-use Rattle.run_theory.specs.AgoLaws.{ago-agree}
+use Rattle.run_theory.proofs.AgoLaws.{ago-agree}
 use Rattle.run_theory.specs.Bench.{ago}
 use Rattle.run_theory.specs.Rules.{Causal, solves, solved_once}
 use Rattle.cover_theory.specs.Covers.{Cover, lut, registers, IsCover, Meets}

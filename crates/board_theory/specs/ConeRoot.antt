@@ -9,7 +9,7 @@ use Rattle.net_model.specs.Tables.{apply, feeding, table_of}
 use Rattle.cone_theory.specs.CopyOrder.{levels}
 use Rattle.cone_values.specs.RunLaws.{map-map}
 use Rattle.cone_values.specs.Values.{map_same, table_is}
-use Rattle.run_theory.specs.AgoLaws.{ago-same, ago-now}
+use Rattle.run_theory.proofs.AgoLaws.{ago-same, ago-now}
 use Rattle.run_theory.specs.Bench.{ago, pin_from, Bench}
 
 module _ {N : Net} (loopless : Loopless N) {section inputs value : ℕ → ℕ → Bool} (b : Bench N section inputs value) {v : ℕ} {C L : List Copy} (i : IsCone N v C) (l : IsLeaves N C L) where

@@ -1,9 +1,4 @@
 pub mod Boards
 pub mod ConeRoot
 pub mod BoardLaws
-pub mod RunBoards
-pub mod SameInputs
-pub mod Wakes
 pub mod Contents
-pub mod ContentsLaws
-pub mod ContentsNear

@@ -3,6 +3,5 @@ pub mod AgreesLaws
 pub mod AlignOutcome
 pub mod AlignTold
 pub mod AlignAnswers
-pub mod CaptureLaws
 pub mod WordRuns
 pub mod WordRunLaws

@@ -1,4 +1,6 @@
 // Two captures of one unit: the smallest shift at which they agree.
+#![tactic(auto)]
+
 ghost use Rattle.std.specs.Prelude.{◌≡◌, ◌+◌, ◌≤◌, ◌<◌, length};
 ghost use Rattle.sequences.specs.Tests.{Tells};
 ghost use Rattle.captures.specs.Captures.{most_words, most_shift, no_shift, least_overlap, overlap, Agrees};

@@ -7,7 +7,7 @@ use Rattle.sequences.specs.TestLaws.{tells_no, tells_yes}
 use Rattle.sequences.specs.Member.{◌∈◌, in_get_or, get_or_in, in_equal}
 use Rattle.net_model.specs.Net.{Net}
 use Rattle.net_model.specs.Copies.{Copy, copy, IsCone, IsLeaves}
-use Rattle.net_model.specs.CopyLaws.{copy-path}
+use Rattle.net_model.proofs.CopyLaws.{copy-path}
 use Rattle.net_model.specs.ArrayLaws.{length-copies_from, get_or_copies_from}
 use Rattle.net_model.specs.Arrays.{copy_at}
 use Rattle.sequences.specs.Tests.{Tells, First}

@@ -7,7 +7,7 @@ use Rattle.net_model.specs.ArrayLaws.{pin_at}
 use Rattle.net_model.specs.Wired.{Wired}
 use Rattle.net_model.specs.WiredLaws.{wired-gate, wired-pin, pin-wired}
 use Rattle.net_model.specs.Copies.{Copy, copy, Feeds}
-use Rattle.net_model.specs.CopyLaws.{copy-path}
+use Rattle.net_model.proofs.CopyLaws.{copy-path}
 use Rattle.cone_copies.specs.CopyLists.{source_at}
 
 module _ {N : Net} {I G : ℕ} {ps sources counts : List ℕ} (w : Wired N I G ps sources counts) where

@@ -1,5 +1,7 @@
 // Lists of copies in arrays: a list is two arrays, nodes and backs.
 // A net's wiring is in arrays: gate g has pins[g] pins, and pin j of gate g stands at 6g + j.
+#![tactic(auto)]
+
 ghost use Rattle.std.specs.Prelude.{◌≡◌, ◌<◌, length};
 ghost use Rattle.net_model.specs.Copies.{copy};
 ghost use Rattle.net_model.specs.Arrays.{copy_at};

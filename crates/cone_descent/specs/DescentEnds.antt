@@ -7,7 +7,7 @@ use Rattle.net_model.specs.Net.{Net}
 use Rattle.net_model.specs.Checks.{Loopless}
 use Rattle.net_model.specs.Arrays.{copy_at}
 use Rattle.net_model.specs.Copies.{Copy, copy, Feeds, Before, Rising, Leaf}
-use Rattle.net_model.specs.CopyLaws.{before_irrefl}
+use Rattle.net_model.proofs.CopyLaws.{before_irrefl}
 use Rattle.net_model.specs.Wired.{Wired}
 use Rattle.cone_theory.specs.Reach.{reach}
 use Rattle.cone_theory.specs.CopyOrder.{levels}

@@ -8,7 +8,7 @@ use Rattle.sequences.specs.Member.{◌∈◌, here, there, not_in_nil, in_equal,
 use Rattle.net_model.specs.Net.{Net}
 use Rattle.net_model.specs.Arrays.{copy_at}
 use Rattle.net_model.specs.Copies.{Copy, copy, Feeds}
-use Rattle.net_model.specs.CopyLaws.{copy-path}
+use Rattle.net_model.proofs.CopyLaws.{copy-path}
 use Rattle.net_model.specs.Wired.{Wired}
 use Rattle.cone_theory.specs.CopyOrder.{Levels, measure, feeds-measure}
 use Rattle.cone_copies.specs.CopyPinLaws.{pin-feeds}

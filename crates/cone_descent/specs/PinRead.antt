@@ -3,7 +3,7 @@ use Rattle.std.specs.Prelude.{◌≡◌, List, ℕ, ◌+◌, ◌*◌, ◌<◌, l
 use Rattle.std.proofs.Common.{sym, ap, arith, length-drop, get_or-drop}
 use Rattle.net_model.specs.Arrays.{stride}
 use Rattle.net_model.specs.Copies.{copy}
-use Rattle.net_model.specs.CopyLaws.{copy-path}
+use Rattle.net_model.proofs.CopyLaws.{copy-path}
 use Rattle.net_model.specs.PackedNet.{sources_at, counts_at}
 use Rattle.cone_copies.specs.CopyLists.{source_at}
 

@@ -6,7 +6,7 @@ use Rattle.std.proofs.Math.Decide.{ℕ_discrete}
 use Rattle.sequences.specs.Member.{◌∈◌, here, there, not_in_nil, in_equal, in_append_left, in_append_right, in_append_cases}
 use Rattle.net_model.specs.Arrays.{copy_at}
 use Rattle.net_model.specs.Copies.{Copy, copy}
-use Rattle.net_model.specs.CopyLaws.{copy-path}
+use Rattle.net_model.proofs.CopyLaws.{copy-path}
 use Rattle.cone_descent.specs.Descent.{place, Inside, Trail, Clear, seat_mark, open_mark}
 
 -- ---- places

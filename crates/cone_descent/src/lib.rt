@@ -1,5 +1,7 @@
 // Cones: from a root and its leaves the copies between them, by a walk from the root, depth first: each copy is opened once and each of its pins is looked at once.
 // A copy is written when it is left, so sources come first. A table of marks has a byte for each copy u:d, at place u * width + d: 1 while the copy is open, then its place in the list, counted round from 2.
+#![tactic(auto)]
+
 ghost use Rattle.std.specs.Prelude.{◌≡◌, ℕ, ◌+◌, ◌≤◌, ◌<◌, length, get_or, set, drop};
 ghost use Rattle.sequences.specs.Tests.{First};
 ghost use Rattle.net_model.specs.Arrays.{copy_at};
@@ -22,7 +24,7 @@ use limits::{BEYOND, COPIES, PINS, REACH};
 const ROUND: usize = 254;
 
 // A question: are the leaves a cut of the gate? The table has width places for a node, no copy with d above the border is opened, and there is room for so many copies.
-#[derive(Drop)]
+#[derive(Clone, Copy)]
 pub struct CutQuery {
     pub inputs: usize,
     pub gates: usize,

@@ -1,4 +1,6 @@
 // The leaf lookup: the test whether a copy is a leaf ends at the first leaf beyond the copy, by node, then by d.
+#![tactic(auto)]
+
 ghost use Rattle.std.specs.Prelude.{◌≡◌, ◌<◌, length};
 ghost use Rattle.net_model.specs.Copies.{copy};
 ghost use Rattle.net_model.specs.Arrays.{copy_at};

@@ -7,7 +7,7 @@ use Rattle.std.proofs.Math.Decide.{ℕ_discrete}
 use Rattle.std.proofs.Math.Seq.{ext_get_or}
 use Rattle.sequences.specs.Behind.{behind}
 use Rattle.net_model.specs.Copies.{Copy, copy, Rising}
-use Rattle.net_model.specs.CopyLaws.{copy-path}
+use Rattle.net_model.proofs.CopyLaws.{copy-path}
 use Rattle.net_model.specs.Arrays.{stride, copy_at, copies_from}
 use Rattle.net_model.specs.ArrayLaws.{length-copies_from, get_or_copies_from}
 use Rattle.cover_records.specs.Rows.{sizes_in, nodes_in, backs_in}

@@ -1,5 +1,7 @@
 // The LUT over given leaves: whether they are a cut of a gate, and the full table over the cone between. The full tables of a cover's LUTs.
 // The first bytes of work are the walk's table of marks: all 0 before and after.
+#![tactic(auto)]
+
 ghost use Rattle.std.specs.Prelude.{◌+◌, ◌*◌, ◌≤◌, ◌<◌, length, get_or, drop};
 ghost use Rattle.limits.specs.Limits.{most_pins, most_table};
 ghost use Rattle.cone_copies.specs.CopyLists.{SmallWires, copies_in};

@@ -1,4 +1,6 @@
 // The table of a LUT over a cone: a word for each copy, from the words of the copies before it. A copy's place in the list is found by its mark in the walk's table.
+#![tactic(auto)]
+
 ghost use Rattle.std.specs.Prelude.{◌≡◌, ℕ, ◌-◌, ◌*◌, ◌≤◌, ◌<◌, length, get_or, drop};
 ghost use Rattle.limits.specs.Limits.{most_pins, most_nodes, most_table};
 ghost use Rattle.net_model.specs.Arrays.{copy_at};
@@ -14,7 +16,7 @@ use cone_walk::Cone;
 use limits::{BEYOND, COPIES, PINS, REACH};
 
 // How many inputs and gates the net has, how many leaves the cone, and how many copies.
-#[derive(Drop)]
+#[derive(Clone, Copy)]
 struct ConeSizes {
     inputs: usize,
     gates: usize,

@@ -12,8 +12,8 @@ use Rattle.sequences.specs.Rising.{sort, Sorted, rising-distinct, rising_unique}
 use Rattle.net_model.specs.Net.{Net, Pin, IsGate, pins}
 use Rattle.net_model.specs.Copies.{Copy, copy, Feeds, Leaf, Before, Rising, IsLeaves}
 use Rattle.net_model.specs.Tables.{feeding}
-pub use Rattle.net_model.specs.CopyLaws.{copy-path, feeds_in, in_feeding, before_irrefl, before_trans, before_asym}
-unfoldable pub use Rattle.net_model.specs.CopyLaws.{copy_step, Copy-dec, before-step, before_cmp}
+pub use Rattle.net_model.proofs.CopyLaws.{copy-path, feeds_in, in_feeding, before_irrefl, before_trans, before_asym}
+unfoldable pub use Rattle.net_model.proofs.CopyLaws.{copy_step, Copy-dec, before-step, before_cmp}
 
 unfoldable pub member? : (c : Copy) (C : List Copy) → Dec (c ∈ C)
 unfolding memb? memb_step Copy-dec
@@ -89,7 +89,7 @@ feeders_in N (c ∷ C) {y} h = go (feeders_in N C) (in_append_cases (feeding_if 
     go rest (inl k) = (c, here refl, feeding_if_in (is_gate? N c.node) k)
     go rest (inr k) = let r = rest k in (r.0, there r.1, r.2)
 
-pub in_feeders : {N : Net} {C : List Copy} {y x : Copy} → x ∈ C → Feeds N y x → y ∈ feeders N C
+pub in_feeders : {N : Net} {y x : Copy} {C : List Copy} → x ∈ C → Feeds N y x → y ∈ feeders N C
 unfolding feeders
 in_feeders {N} {y} (here {x = c} {xs = C} e) f = in_append_left (feeders N C) (in_feeding_if (is_gate? N c.node) (subst (λ (z : Copy). Feeds N y z) e f))
 in_feeders {N} (there {x = c} h) f = in_append_right (feeding_if N c (is_gate? N c.node)) (in_feeders h f)

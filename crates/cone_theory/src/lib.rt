@@ -1,1 +1,2 @@
 // Theory only: cones, their leaves and their reach, in specs/.
+#![tactic(auto)]

@@ -1,5 +1,3 @@
 pub mod LeafWords
-pub mod LeafWordLaws
 pub mod WholeWords
-pub mod WholeWordLaws
 pub mod RepeatLaws

@@ -1,4 +1,6 @@
 // Truth tables as words of 64 bits, shifted and masked: bit i is the value in choice i of the leaves' values.
+#![tactic(auto)]
+
 ghost use Rattle.std.specs.Prelude.{◌≡◌, ◌+◌, ◌*◌, ◌%◌, ◌^◌, ◌≤◌, ◌<◌, length, get_or};
 ghost use Rattle.limits.specs.Limits.{most_pins};
 ghost use Rattle.net_model.specs.Tables.{bit, as_number};

@@ -18,20 +18,20 @@ use Rattle.net_reader.specs.declared.NetSizes.{NetSizes}
 use Rattle.net_checks.specs.Graphs.{outs_of, delays_of}
 use Rattle.run_theory.specs.Bench.{value_at, Counts}
 use Rattle.run_theory.specs.BenchBytes.{section_in, steps_of, kept_after}
-use Rattle.run_theory.specs.AgoLaws.{ago-same}
+use Rattle.run_theory.proofs.AgoLaws.{ago-same}
 use Rattle.run_values.specs.SheetLaws.{runnable-sound, runnable-counts}
 use Rattle.run_step.specs.Stepping.{RunTo}
 use Rattle.label_theory.specs.Lower.{leaf-node}
 use Rattle.cover_theory.specs.Covers.{Lut, lut, lag_of, registers, output, output_registers, IsCover}
 use Rattle.cover_theory.specs.Forward.{Forward}
 use Rattle.cover_theory.specs.Key.{Entry, place_of, as_lut, as_cover}
-use Rattle.cover_theory.specs.Written.{no_entry, lut-as_cover, luts-as_cover}
+use Rattle.cover_period.specs.Written.{no_entry, lut-as_cover, luts-as_cover}
 use Rattle.cover_theory.specs.SharedRegisters.{Tap, gather, leaves_tapped, lut_tapped, output_tapped, cover_taps, Reader, leaf, outgoing}
-use Rattle.cover_theory.specs.SharedCovers.{tap_reader}
+use Rattle.cover_theory.proofs.SharedCovers.{tap_reader}
 use Rattle.board_theory.specs.Boards.{held, leaf_contents, output_contents}
 use Rattle.board_theory.specs.Contents.{cells, leaf_cells, lut_cells, output_cells, contents_bytes, quiet, contents_of}
-use Rattle.board_theory.specs.ContentsLaws.{leaf-late, output-late}
-use Rattle.board_theory.specs.ContentsNear.{contents-near}
+use Rattle.board_theory.proofs.ContentsLaws.{leaf-late, output-late}
+use Rattle.board_theory.proofs.ContentsNear.{contents-near}
 use Rattle.cover_records.specs.Kept.{entries_in}
 use Rattle.cover_records.specs.Rows.{kept_in, row_room, sizes_in, nodes_in, backs_in}
 use Rattle.cover_records.specs.Listing.{lag_in}

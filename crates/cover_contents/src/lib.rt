@@ -1,5 +1,7 @@
 // The contents of a forward cover's registers at a step. The net runs on the input pairs up to that step and then on with all inputs 0; each sample of this second part is kept in
 // a trace, and the registers of each connection are read off it, newest first. Without pairs these are the first contents.
+#![tactic(auto)]
+
 ghost use Rattle.std.specs.Prelude.{◌≡◌, [], ◌∷◌, ◌+◌, ◌*◌, ◌≤◌, ◌<◌, pos, ◌+ℤ◌, ◌-ℤ◌, length};
 ghost use Rattle.limits.specs.Limits.{depth_room, most_inputs, most_nodes};
 ghost use Rattle.net_model.specs.Arrays.{net_in, copies_from, pins_in};

@@ -1,4 +1,6 @@
 // The image for the chip's loader, from the cover that arrays keep: eight bytes for each LUT, by rising root.
+#![tactic(auto)]
+
 ghost use Rattle.std.specs.Prelude.{◌*◌, ◌≤◌, ◌<◌, length};
 ghost use Rattle.cover_writer.specs.Writing.{Wrote};
 ghost use Rattle.cover_image.specs.Images.{number_at, numbers_to, Loadable, Imaged};

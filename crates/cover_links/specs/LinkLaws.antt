@@ -17,7 +17,7 @@ use Rattle.net_model.specs.Arrays.{stride, copy_at, pins_in}
 use Rattle.net_model.specs.ArrayLaws.{length-pins_in, pin_at, get_or_pins_in, pins_in_in, in_pins_in, copies_from_in, in_copies_from}
 use Rattle.cover_theory.specs.Covers.{Lut, Cover, lut, lag_of, registers, output, output_registers, Chain, one, more}
 use Rattle.cover_theory.specs.Key.{Entry, HasLut, place_of, as_lut, as_cover}
-use Rattle.cover_theory.specs.Written.{no_entry, lut-as_cover, luts-as_cover, place_of_is}
+use Rattle.cover_period.specs.Written.{no_entry, lut-as_cover, luts-as_cover, place_of_is}
 use Rattle.cover_records.specs.Marking.{AllFed, EnoughRegisters, ShortChains}
 use Rattle.cover_records.specs.MarkingDecided.{shorter}
 use Rattle.cover_records.specs.Held.{Held, WellHeld, held, lut_at, luts_from, luts_in}

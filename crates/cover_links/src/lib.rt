@@ -1,4 +1,6 @@
 // Checks 16, 17 and 18 for LUTs kept in arrays: LUT i has its leaves from place 6i on. The LUT of a node is found in an array by node, made once.
+#![tactic(auto)]
+
 ghost use Rattle.std.specs.Prelude.{◌≡◌, ℕ, ◌+◌, ◌*◌, ◌≤◌, ◌<◌, pos, length, get_or};
 ghost use Rattle.std.specs.Int.Signed.{mag};
 ghost use Rattle.limits.specs.Limits.{most_count, most_nodes, most_period};

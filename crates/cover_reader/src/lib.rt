@@ -1,5 +1,7 @@
 // The byte walk over a candidate's cover record: one pass over any bytes, each LUT stored as it is read. Every refusal is 13.
 // Of n LUTs the slice of rows has first the n roots, then the n numbers of leaves, then six places a LUT for the leaves' nodes, then six for their d.
+#![tactic(auto)]
+
 ghost use Rattle.std.specs.Prelude.{◌≡◌, false, ◌+◌, ◌*◌, ◌≤◌, ◌<◌, length};
 ghost use Rattle.limits.specs.Courses.{Offered};
 ghost use Rattle.limits.specs.Limits.{most_gates, most_inputs, most_k, most_luts, most_pins};

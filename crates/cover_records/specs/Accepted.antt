@@ -11,8 +11,8 @@ use Rattle.net_model.specs.Runs.{Run}
 use Rattle.cover_theory.specs.Covers.{Lut, lut, output, registers, output_registers, RootedAt, IsCover, Meets, Met, LeastPeriod}
 use Rattle.cover_theory.specs.Board.{Satisfied}
 use Rattle.cover_theory.specs.Key.{Entry, HasLut, place_of, as_lut, as_cover}
-use Rattle.cover_theory.specs.Written.{no_entry, lut-as_cover, luts-as_cover, place_of_is}
-use Rattle.cover_theory.specs.Period.{least_period, least_period-is}
+use Rattle.cover_period.specs.Written.{no_entry, lut-as_cover, luts-as_cover, place_of_is}
+use Rattle.cover_period.specs.Period.{least_period, least_period-is}
 use Rattle.cover_theory.specs.Satisfies.{satisfied}
 use Rattle.cover_records.specs.Marking.{CutsRight, TablesRight, AllFed, EnoughRegisters, ShortChains}
 

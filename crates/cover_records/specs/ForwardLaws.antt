@@ -23,13 +23,13 @@ use Rattle.net_bytes.specs.Walk.{Drawn, drawn_reader}
 use Rattle.run_theory.specs.Bench.{value_at, Counts}
 use Rattle.label_theory.specs.Labels.{Mode, plain, forward}
 use Rattle.cover_theory.specs.Covers.{Lut, Cover, lut, lag_of}
-use Rattle.cover_theory.specs.Joined.{key-met, key-suited}
+use Rattle.cover_period.specs.Joined.{key-met, key-suited}
 use Rattle.cover_theory.specs.Key.{KeyIn, Entry, entries, as_cover}
-use Rattle.cover_theory.specs.KeyOf.{entries_in_lem, roots-gate}
-use Rattle.cover_theory.specs.Written.{no_entry, lut-as_cover, luts-as_cover}
+use Rattle.cover_period.specs.KeyOf.{entries_in_lem, roots-gate}
+use Rattle.cover_period.specs.Written.{no_entry, lut-as_cover, luts-as_cover}
 use Rattle.board_theory.specs.Boards.{Tabled, leaf_contents, output_contents}
 use Rattle.board_theory.specs.Contents.{quiet, contents_of}
-use Rattle.board_theory.specs.ContentsLaws.{bytes-few}
+use Rattle.board_theory.proofs.ContentsLaws.{bytes-few}
 use Rattle.cover_records.specs.CoverBytes.{cover_bytes}
 use Rattle.cover_records.specs.KeyRecord.{roomy, WithinLimits, key-lag-range, few-entries}
 use Rattle.cover_records.specs.LoaderImage.{is_lent, loaded}

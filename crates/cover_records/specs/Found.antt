@@ -7,8 +7,8 @@ use Rattle.net_model.specs.Net.{Net}
 use Rattle.net_model.specs.Checks.{Passed}
 use Rattle.label_theory.specs.Labels.{Mode}
 use Rattle.cover_theory.specs.Key.{KeyIn}
-use Rattle.cover_theory.specs.Joined.{key_in?}
-use Rattle.cover_theory.specs.Period.{least_period_in, least_key_in}
+use Rattle.cover_period.specs.Joined.{key_in?}
+use Rattle.cover_period.specs.Period.{least_period_in, least_key_in}
 use Rattle.cover_records.specs.Outcomes.{covered, unreachable, for_target, mapped_in}
 
 module _ (M : Mode) {N : Net} {k : ℕ} (P : Passed N k) where

@@ -7,7 +7,7 @@ use native.Mathlib.Omega.{arith}
 use Rattle.sequences.specs.Listed.{Listed, listed_next, listed-first}
 use Rattle.sequences.specs.Member.{◌∈◌, here, there, not_in_nil}
 use Rattle.cover_theory.specs.Key.{Entry}
-use Rattle.cover_theory.specs.Written.{no_entry}
+use Rattle.cover_period.specs.Written.{no_entry}
 use Rattle.cover_records.specs.Held.{Held, leaves_at, lut_at, luts_from, luts_in}
 
 module _ (a : Held) where

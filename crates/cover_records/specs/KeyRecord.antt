@@ -10,9 +10,10 @@ use native.Mathlib.Omega.{arith}
 use Rattle.std.proofs.Math.ListN.{length, length-map, length-append}
 use Rattle.std.proofs.Math.Pow.{pow_mono}
 use Rattle.integers.specs.Parts.{ints, sub_parts, neg_parts}
-use Rattle.integers.specs.Height.{height, height-parts}
+use Rattle.integers.specs.Height.{height}
+use Rattle.integers.proofs.Height.{height-parts}
 use Rattle.integers.specs.Lag.{lag}
-use Rattle.integers.specs.Cover.{lag-lower, lag_upper}
+use Rattle.integers.proofs.Cover.{lag-lower, lag_upper}
 use Rattle.sequences.specs.Member.{◌∈◌, here, there, not_in_nil, Within}
 use Rattle.sequences.specs.Distinct.{Distinct, pigeonhole, distinct_cons, distinct_nil, length-remove}
 use Rattle.net_model.specs.Net.{Net, Pin, IsGate, IsInput, size, pins}
@@ -25,10 +26,10 @@ use Rattle.cone_theory.specs.Reach.{reach_of, reach_of_le, cut-reach-leaf}
 use Rattle.cone_values.specs.Values.{table-small}
 use Rattle.label_theory.specs.Labels.{Mode}
 use Rattle.label_theory.specs.Lower.{leaf-node}
-use Rattle.label_theory.specs.Floor.{floor}
+use Rattle.label_bounds.specs.Floor.{floor}
 use Rattle.label_theory.specs.Small.{least-small}
 use Rattle.cover_theory.specs.Key.{KeyIn, Root, source, leaf, RisingNumbers, Entry, entries}
-use Rattle.cover_theory.specs.KeyOf.{entry_of, roots-gate}
+use Rattle.cover_period.specs.KeyOf.{entry_of, roots-gate}
 use Rattle.limits.specs.Courses.{Offered, is-long, is-short}
 use Rattle.limits.specs.declared.Rules.{Rules}
 use Rattle.limits.specs.Limits.{most_count, most_k, most_pins}

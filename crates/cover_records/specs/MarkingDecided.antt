@@ -24,7 +24,7 @@ use Rattle.cone_values.specs.Values.{table_same}
 use Rattle.cover_theory.specs.Covers.{Cover, lut, output, registers, output_registers, Chain, one, more, Meets}
 use Rattle.cover_theory.specs.Depths.{chain?}
 use Rattle.cover_theory.specs.Key.{Entry, HasLut, as_cover}
-use Rattle.cover_theory.specs.Written.{luts-as_cover}
+use Rattle.cover_period.specs.Written.{luts-as_cover}
 use Rattle.cover_records.specs.Marking.{CutsRight, TableRight, TablesRight, AllFed, EnoughRegisters, ShortChains}
 
 -- ---- 14

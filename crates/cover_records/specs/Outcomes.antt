@@ -7,8 +7,8 @@ use Rattle.cone_theory.specs.ChecksDecided.{loopless?, reached?, leading?}
 use Rattle.cone_theory.specs.Ranks.{ranked}
 use Rattle.label_theory.specs.Labels.{Mode, plain, forward}
 use Rattle.cover_theory.specs.Key.{KeyIn, Entry, entries}
-use Rattle.cover_theory.specs.Joined.{key_in?}
-use Rattle.cover_theory.specs.Period.{least_period, least_period_in, least_key_in}
+use Rattle.cover_period.specs.Joined.{key_in?}
+use Rattle.cover_period.specs.Period.{least_period, least_period_in, least_key_in}
 use Rattle.limits.specs.Limits.{least_k}
 use Rattle.limits.specs.declared.Rules.{Rules}
 use Rattle.net_bytes.specs.Reading.{Result, got, refused, between}

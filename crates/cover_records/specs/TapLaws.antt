@@ -7,7 +7,7 @@ use Rattle.net_model.specs.Checks.{Sound}
 use Rattle.net_model.specs.Copies.{Copy}
 use Rattle.label_theory.specs.Lower.{leaf-node}
 use Rattle.cover_theory.specs.Key.{Key, Entry, entries}
-use Rattle.cover_theory.specs.KeyOf.{key-labelled}
+use Rattle.cover_period.specs.KeyOf.{key-labelled}
 use Rattle.cover_theory.specs.SharedRegisters.{Tap}
 use Rattle.cover_records.specs.Listing.{leaf_taps, lut_taps, output_taps, entry_taps}
 

@@ -10,7 +10,7 @@ use Rattle.net_model.specs.Copies.{Copy}
 use Rattle.cover_theory.specs.Covers.{Lut, lut, lag_of, output}
 use Rattle.cover_theory.specs.Key.{Entry, place_of, as_lut, as_cover}
 use Rattle.cover_theory.specs.SharedRegisters.{Tap, tap, gather, leaves_tapped, lut_tapped, output_tapped, cover_taps}
-use Rattle.cover_theory.specs.Written.{no_entry, lut-as_cover, luts-as_cover}
+use Rattle.cover_period.specs.Written.{no_entry, lut-as_cover, luts-as_cover}
 use Rattle.cover_records.specs.Listing.{lag_in, leaf_taps, lut_taps, output_taps, entry_taps}
 
 -- the lag written for a root is that of the entry at its place

@@ -12,7 +12,7 @@ use Rattle.limits.specs.Limits.{most_gates, most_nodes}
 use Rattle.sequences.specs.Member.{◌∈◌}
 use Rattle.cover_theory.specs.Key.{Entry}
 use Rattle.cover_theory.specs.SharedRegisters.{Tap, tap, shared_count}
-use Rattle.cover_theory.specs.SharedLaws.{count-beyond}
+use Rattle.cover_theory.proofs.SharedLaws.{count-beyond}
 use Rattle.cover_records.specs.Kept.{Kept, kept, entry_at, entries_from, entries_in, label_at}
 use Rattle.cover_records.specs.Listing.{lag_in, leaf_taps, lut_taps, output_taps, entry_taps, register_count}
 use Rattle.cover_writer.specs.Writing.{ArraysHeld, LutsHeld}

@@ -1,4 +1,6 @@
 // The register count of the cover kept: all leaves of its LUTs and all outputs, taken into a tally.
+#![tactic(auto)]
+
 ghost use Rattle.std.specs.Prelude.{◌≡◌, [], ◌∷◌, ◌+◌, ◌≤◌, ◌<◌, pos, ◌+ℤ◌, ◌-ℤ◌, length};
 ghost use Rattle.integers.specs.Parts.{up};
 ghost use Rattle.net_model.specs.Arrays.{copies_from, pins_in};

@@ -5,7 +5,7 @@ use Rattle.std.proofs.Math.Path.{fun_ext}
 use Rattle.std.proofs.Math.Decide.{dec_le}
 use Rattle.integers.specs.Order.{≤ℤ_trans}
 use Rattle.integers.specs.Parts.{ints, +-parts, sub_parts}
-use Rattle.integers.specs.Height.{height-parts}
+use Rattle.integers.proofs.Height.{height-parts}
 use Rattle.net_model.specs.Net.{Net, IsGate, IsInput}
 use Rattle.net_model.specs.Checks.{Sound}
 use Rattle.net_model.specs.Copies.{copy, Chosen}
@@ -16,7 +16,7 @@ use Rattle.cut_theory.specs.Choice.{chosen-leaves}
 use Rattle.label_theory.specs.Labels.{Mode, Inside, Low, LowCutIn, LeastIn}
 use Rattle.label_theory.specs.Modes.{Topped, Bordered, labelling-top}
 use Rattle.label_theory.specs.Lower.{input_or_gate}
-use Rattle.label_theory.specs.Pins.{pin_lemma, pin-input}
+use Rattle.label_theory.proofs.Pins.{pin_lemma, pin-input}
 use Rattle.label_theory.specs.Forced.{Falling, separation-cut}
 use Rattle.cut_circuit.specs.Packed.{packed_of}
 use Rattle.cut_circuit.specs.declared.Extent.{Extent}

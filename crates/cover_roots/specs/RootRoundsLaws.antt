@@ -13,7 +13,7 @@ use Rattle.net_model.specs.Arrays.{stride, copy_at, copies_from}
 use Rattle.net_model.specs.ArrayLaws.{pin_at, pins_in_in, in_pins_in, copies_from_in, in_copies_from}
 use Rattle.net_model.specs.PackedNetLaws.{part_same}
 use Rattle.cover_theory.specs.Key.{Root, source, leaf}
-use Rattle.cover_theory.specs.KeyOf.{root-gate}
+use Rattle.cover_period.specs.KeyOf.{root-gate}
 use Rattle.cut_circuit.specs.Circuit.{Circuit}
 use Rattle.cover_records.specs.Rows.{sizes_in, nodes_in, backs_in, row_room}
 use Rattle.cover_roots.specs.Choosing.{Chooses, Keyed, Reads, RootsTold}

@@ -1,4 +1,6 @@
 // The chosen roots of a cover and the chosen cut of each: from the outputs back, one root after another. They are kept in one slice, rows.
+#![tactic(auto)]
+
 ghost use Rattle.std.specs.Prelude.{◌≡◌, false, [], ◌≤◌, ◌<◌, length};
 ghost use Rattle.net_model.specs.Arrays.{stride};
 ghost use Rattle.net_model.specs.PackedNet.{packed_room};

@@ -1,5 +1,7 @@
 // The rows of a cover record: what stands before the LUTs; one LUT, its root, and behind it its head, leaves and tail. Numbers take one byte
 // or two.
+#![tactic(auto)]
+
 ghost use Rattle.std.specs.Prelude.{◌≡◌, ◌+◌, ◌^◌, ◌≤◌, ◌<◌};
 ghost use Rattle.limits.specs.Courses.{Offered};
 ghost use Rattle.limits.specs.Limits.{most_k, most_pins};
@@ -61,7 +63,7 @@ struct Tail {
 }
 
 // A LUT as read, and the place behind it.
-#[derive(Drop)]
+#[derive(Clone, Copy)]
 pub struct Row {
     pub verdict: Verdict,
     pub at: usize,

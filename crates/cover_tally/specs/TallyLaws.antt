@@ -8,7 +8,7 @@ use Rattle.integers.specs.Parts.{up}
 use Rattle.sequences.specs.Member.{◌∈◌, here, Within, in_append_left, in_append_right, in_append_cases}
 use Rattle.sequences.specs.Zeros.{zeros}
 use Rattle.cover_theory.specs.SharedRegisters.{Tap, tap, longest, over_nodes, shared_count}
-use Rattle.cover_theory.specs.SharedLaws.{larger-is, longest-own, longest-other, longest-bound, longest-least, longest-within, longest-same, over-same}
+use Rattle.cover_theory.proofs.SharedLaws.{larger-is, longest-own, longest-other, longest-bound, longest-least, longest-within, longest-same, over-same}
 use Rattle.cover_tally.specs.Tallies.{Tallied, Took}
 
 -- **Order and repetition do not matter.**

@@ -1,4 +1,6 @@
 // A tally of registers shared at their source: for each node the largest number on what it feeds. It is made empty, takes one connection or output per call, and the total is read at the end.
+#![tactic(auto)]
+
 ghost use Rattle.std.specs.Prelude.{◌≡◌, List, [], ◌∷◌, ◌<◌, pos};
 ghost use Rattle.limits.specs.Limits.{most_nodes};
 ghost use Rattle.cover_theory.specs.SharedRegisters.{Tap, tap, shared_count};

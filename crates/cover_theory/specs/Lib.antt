@@ -3,16 +3,6 @@ pub mod Forward
 pub mod Board
 pub mod Key
 pub mod Depths
-pub mod CoverLabels
-pub mod Written
-pub mod KeyOf
-pub mod Joined
-pub mod Period
 pub mod Satisfies
-pub mod KeyUnique
-pub mod Alone
 pub mod Routes
-pub mod RouteLaws
 pub mod SharedRegisters
-pub mod SharedLaws
-pub mod SharedCovers

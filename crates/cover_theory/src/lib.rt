@@ -1,1 +1,2 @@
 // Definitions and theory only: covers and the written cover, in specs/.
+#![tactic(auto)]

@@ -1,4 +1,6 @@
 // The cover kept, written as a cover record: each LUT into the part of the area that starts behind the last one.
+#![tactic(auto)]
+
 ghost use Rattle.std.specs.Prelude.{◌≡◌, cond, false, [], ◌∷◌, map, ◌+◌, ◌≤◌, ◌<◌, length};
 ghost use Rattle.limits.specs.Courses.{long};
 ghost use Rattle.limits.specs.Limits.{depth_room, most_pins};
@@ -19,7 +21,7 @@ use net_fields::table_bytes;
 use signed::lag_of;
 
 // The number of inputs and of gates, and the period.
-#[derive(Drop)]
+#[derive(Clone, Copy)]
 pub struct CoverHead {
     pub inputs: usize,
     pub gates: usize,

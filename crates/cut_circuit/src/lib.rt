@@ -1,4 +1,6 @@
 // The extent of the expanded circuit, and the chains of the pins that read a node.
+#![tactic(auto)]
+
 ghost use Rattle.std.specs.Prelude.{◌≡◌, true, false, ◌+◌, ◌-◌, ◌*◌, ◌/◌, ◌^◌, ◌≤◌, ◌<◌, [], length, get_or, set, drop};
 ghost use Rattle.limits.specs.Limits.{most_pins};
 ghost use Rattle.cut_circuit.specs.Circuit.{feeding_at, among, forced_at};
@@ -9,7 +11,7 @@ use inputs::word;
 use limits::{PINS, SLOTS};
 
 // The copy u:d has the number u * width + d; copies with d above the border are terminals.
-#[derive(Drop)]
+#[derive(Clone, Copy)]
 pub struct Extent {
     pub inputs: usize,
     pub gates: usize,
@@ -110,7 +112,7 @@ pub fn number_at(list: &[u32], i: usize) -> usize
 
 // Writes a number that fits 32 bits.
 pub fn put_number(list: &mut [u32], i: usize, n: usize)
-    requires* i_bound { do ⌜ i < (← ⟦list.len()⟧) ⌝ }
+    requires i_bound { i < length list.old }
     requires n_bound { n < 2 ^ 32 }
     ensures { list.new ≡ set list.old i n }
 {

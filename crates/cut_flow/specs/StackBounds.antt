@@ -27,8 +27,9 @@ length-sources_of G p (x ∷ L) =
       suc-mul (length L) p,
     )
 
-in_sources_of : (G : Graph) (p : ℕ) {L : List ℕ} {x : ℕ} → x ∈ L → (j : ℕ) → j < p → G.source x j ∈ sources_of G p L
-in_sources_of G p {L = y ∷ L} {x} (here e) j h =
+in_sources_of : (G : Graph) (p : ℕ) {x : ℕ} {L : List ℕ} → x ∈ L → (j : ℕ) → j < p → G.source x j ∈ sources_of G p L
+in_sources_of G p {x} {L = []} i j h = elim i [ ]
+in_sources_of G p {x} {L = y ∷ L} (here e) j h =
     in_append_left (sources_of G p L) (subst (λ (z : ℕ). G.source x j ∈ map (G.source z) (up_to p)) e (in_map (G.source x) (in_up_to h)))
 in_sources_of G p {L = y ∷ L} (there i) j h = in_append_right (map (G.source y) (up_to p)) (in_sources_of G p i j h)
 

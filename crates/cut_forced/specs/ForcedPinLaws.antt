@@ -3,7 +3,7 @@ use Rattle.std.specs.Prelude.{◌≡◌, List, ℕ, ◌+◌, ◌*◌, ◌/◌, �
 use Rattle.std.proofs.Common.{sym, subst, ◌∙◌, inl, inr, not-suc-le-zero, mul-le-mul_left, mod-lt, arith}
 use Rattle.std.proofs.Math.Decide.{ℕ_discrete}
 use Rattle.integers.specs.Parts.{ints, sub_parts}
-use Rattle.integers.specs.Height.{height-parts}
+use Rattle.integers.proofs.Height.{height-parts}
 use Rattle.net_model.specs.Net.{Net}
 use Rattle.net_model.specs.Copies.{Copy, copy, Feeds}
 use Rattle.label_theory.specs.Labels.{Low}

@@ -148,7 +148,7 @@ pub data PinTold (inputs gates width border : ℕ) (ls : List ℤ) (φ : ℕ) (h
 
 -- ---- one member
 pub record MemberAsked (W : Circuit) (ls : List ℤ) (φ : ℕ) (h : ℤ) (k : ℕ) (slots members : List ℕ) (m x : ℕ) : Type 0 where
-  pub ground : Ground W ls φ k
+  pub grounded : Ground W ls φ k
   pub root : ℕ
   pub growing : Growing W (target ls φ root h) k slots members m
   pub member : 0 < marked W slots x
@@ -159,7 +159,7 @@ MemberTold W ls φ h k slots members m x slots' members' r =
 
 -- ---- all of them
 pub record GrowAsked (W : Circuit) (ls : List ℤ) (φ : ℕ) (h : ℤ) (k : ℕ) (slots members : List ℕ) : Type 0 where
-  pub ground : Ground W ls φ k
+  pub grounded : Ground W ls φ k
   pub root : ℕ
   pub growing : Growing W (target ls φ root h) k slots members 1
 
@@ -180,7 +180,7 @@ pub record Progress (W : Circuit) (T : Target) (k : ℕ) (slots members : List �
 
 -- what `force` asks of gate g
 pub record ForceAsked (W : Circuit) (ls : List ℤ) (φ k g : ℕ) (slots members : List ℕ) : Type 0 where
-  pub ground : Ground W ls φ k
+  pub grounded : Ground W ls φ k
   pub places : suc most_k * W.gates ≤ length slots
   pub space : k * W.gates ≤ length members
   pub gate : g < W.gates

@@ -52,13 +52,13 @@ module _ {W : Circuit} {ls : List ℤ} {φ k g : ℕ} {slots members : List ℕ}
   x = (W.inputs + g) * W.width
 
   wide : 0 < W.width
-  wide = wide-positive a.ground.layout
+  wide = wide-positive a.grounded.layout
 
   root_below : x < total W
   root_below = omega (arith, copy-inside (W.inputs + g) 0 W.width (W.inputs + W.gates) (omega (arith, a.gate)) wide)
 
   pub root-fits : x < 2 ^ 32
-  root-fits = omega (arith, root_below, a.ground.fits)
+  root-fits = omega (arith, root_below, a.grounded.fits)
 
   some-members : 0 < k * W.gates
   some-members = omega (arith, a.gate, mul-le-mul_right {m = 1} {n = k} W.gates a.some)
@@ -82,7 +82,7 @@ module _ {W : Circuit} {ls : List ℤ} {φ k g : ℕ} {slots members : List ℕ}
   root-inner = record { below = root_below; ends = omega (arith, root-node, root-back) }
 
   empty : Slotted W k slots
-  empty = none-slotted a.ground.layout.wide a.places a.ground.limit a.unforced
+  empty = none-slotted a.grounded.layout.wide a.places a.grounded.limit a.unforced
 
   abbrev slots₁ : List ℕ
   slots₁ = holding W.gates slots g 0 0
@@ -97,7 +97,7 @@ module _ {W : Circuit} {ls : List ℤ} {φ k g : ℕ} {slots members : List ℕ}
       go (yes e) = e
       go (no n) = absurd (omega (
         arith,
-        none-marked W slots a.ground.layout.wide a.unforced z,
+        none-marked W slots a.grounded.layout.wide a.unforced z,
         marked-before empty g 0 0 a.gate (a.unforced g a.gate) a.some x root-inner root-gate root-back z n p,
       ))
 

@@ -15,7 +15,7 @@ pub record OutsideAsked (W : Circuit) (slots : List ℕ) (x : ℕ) : Type 0 wher
   pub labels : List ℤ
   pub phi : ℕ
   pub k : ℕ
-  pub ground : Ground W labels phi k
+  pub grounded : Ground W labels phi k
   pub places : suc most_k * W.gates ≤ length slots
   pub held : (g : ℕ) → g < W.gates → get_or slots g 0 ≤ most_k
   pub inner : Inner W x

@@ -13,7 +13,7 @@ use Rattle.cut_forced.specs.Outside.{OneMore, OutsideAsked, PinsOutside, Outside
 -- ---- what is asked of a pin
 module _ {W : Circuit} {slots : List ℕ} {x : ℕ} (A : OutsideAsked W slots x) where
   pub asked-few : pins_of W x ≤ most_pins
-  asked-few = A.ground.layout.few (gate_at W x) (gate-inside (wide-positive A.ground.layout) A.inner)
+  asked-few = A.grounded.layout.few (gate_at W x) (gate-inside (wide-positive A.grounded.layout) A.inner)
 
 pub one-more-bound : (inputs gates width border : ℕ) (slots : List ℕ) (y : ℕ) {c r m : ℕ} → OneMore inputs gates width border slots y c r → c ≤ m → r ≤ m + 1
 one-more-bound inputs gates width border slots y (inl (h, e)) l = omega (arith, e, l)

@@ -1,4 +1,6 @@
 // The forced set of a gate and a threshold: grown by a work list, taken back, and the copies counted that it reads outside it.
+#![tactic(auto)]
+
 ghost use Rattle.std.specs.Prelude.{◌≡◌, true, false, [], ◌+◌, ◌-◌, ◌*◌, ◌/◌, ◌%◌, ◌≤◌, ◌<◌};
 ghost use Rattle.cut_circuit.specs.Circuit.{feeder, pins_of};
 ghost use Rattle.limits.specs.Limits.{most_k, most_pins};
@@ -15,7 +17,7 @@ use limits::SLOTS;
 use signed::no_higher;
 
 // A question: has the gate a k-cut of at most this height, for period phi?
-#[derive(Drop)]
+#[derive(Clone, Copy)]
 pub struct Query {
     pub phi: usize,
     pub k: usize,

@@ -1,4 +1,6 @@
 // Kept cuts: for each gate the leaves that a search found last, in a row behind the members. They stay a cut, whatever the labels and the period.
+#![tactic(auto)]
+
 ghost use Rattle.std.specs.Prelude.{◌≡◌, true, false, ◌+◌, ◌^◌, ◌≤◌, ◌<◌, length};
 ghost use Rattle.limits.specs.Limits.{most_k};
 ghost use Rattle.signed.specs.Range.{label_in};

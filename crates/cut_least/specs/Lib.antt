@@ -1,5 +1,4 @@
 pub mod CutRounds
-pub mod CutRoundsLaws
 pub mod Collect
 pub mod CollectLaws
 pub mod CutAnswer

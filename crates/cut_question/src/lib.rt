@@ -1,4 +1,6 @@
 // The cut question: the forced set of a gate and a threshold, and its nearest minimum cut.
+#![tactic(auto)]
+
 ghost use Rattle.cut_circuit.specs.Packed.{packed_of};
 ghost use Rattle.cut_least.specs.CutRounds.{Cleared, CutAsked};
 ghost use Rattle.cut_question.specs.Question.{Asks, Decides, Takes, Written};

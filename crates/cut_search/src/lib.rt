@@ -1,4 +1,6 @@
 // One augmenting search over a table of one byte a copy, with a stack of its own: at most f + 1 copies of each node are opened, where f units flow.
+#![tactic(auto)]
+
 ghost use Rattle.std.specs.Prelude.{◌≡◌, true, false, suc, ◌+◌, ◌-◌, ◌*◌, ◌/◌, ◌^◌, ◌≤◌, ◌<◌, length, get_or, drop};
 ghost use Rattle.cut_circuit.specs.Circuit.{ending_at};
 ghost use Rattle.cut_circuit.specs.Packed.{packed_of, sources_at, counts_at, nexts_at, heads_at};
@@ -37,7 +39,7 @@ pub fn out_at(table: &[u8], c: usize) -> usize
 
 // Lists a copy, unless it is listed.
 fn touch(table: &mut [u8], list: &mut [u32], c: usize)
-    requires* c_bound { do ⌜ c < (← ⟦table.len()⟧) ⌝ }
+    requires c_bound { c < length table.old }
     requires touched { Touched table.old list.old }
     requires list_room { ListRoom table.old list.old c }
     requires c_bound_2 { c < 2 ^ 32 }
@@ -53,7 +55,7 @@ fn touch(table: &mut [u8], list: &mut [u32], c: usize)
 }
 
 fn set_in(table: &mut [u8], c: usize)
-    requires* c_bound { do ⌜ c < (← ⟦table.len()⟧) ⌝ }
+    requires c_bound { c < length table.old }
     requires c_value { (view_of table.old).inn c ≡ 0 }
     ensures { table.new ≡ with_in table.old c }
 {
@@ -61,7 +63,7 @@ fn set_in(table: &mut [u8], c: usize)
 }
 
 fn set_out(table: &mut [u8], c: usize)
-    requires* c_bound { do ⌜ c < (← ⟦table.len()⟧) ⌝ }
+    requires c_bound { c < length table.old }
     requires c_value { (view_of table.old).out c ≡ 0 }
     ensures { table.new ≡ with_out table.old c }
 {
@@ -69,7 +71,7 @@ fn set_out(table: &mut [u8], c: usize)
 }
 
 fn set_flow(table: &mut [u8], c: usize, n: u8)
-    requires* c_bound { do ⌜ c < (← ⟦table.len()⟧) ⌝ }
+    requires c_bound { c < length table.old }
     requires n_bound { n < 8 }
     ensures { table.new ≡ with_flow table.old c n }
 {
@@ -77,7 +79,7 @@ fn set_flow(table: &mut [u8], c: usize, n: u8)
 }
 
 fn mark_out(table: &mut [u8], list: &mut [u32], c: usize)
-    requires* c_bound { do ⌜ c < (← ⟦table.len()⟧) ⌝ }
+    requires c_bound { c < length table.old }
     requires noted { Noted table.old list.old }
     requires list_room { ListRoom table.old list.old c }
     requires c_bound_2 { (c < 2 ^ 32) × (length list.old < 2 ^ 32) }

@@ -5,7 +5,7 @@ use Rattle.limits.specs.Courses.{long}
 use Rattle.net_model.specs.Net.{Net}
 use Rattle.net_model.specs.Checks.{Passed}
 use Rattle.cover_theory.specs.Key.{Key}
-use Rattle.cover_theory.specs.Period.{least_period}
+use Rattle.cover_period.specs.Period.{least_period}
 use Rattle.cover_records.specs.Outcomes.{Answer, accepted, turned_back, Checked, passes, fails, check_net, cleared, MapOutcome, map_sizes, covered, map_written, MarkOutcome, mark_sizes}
 use Rattle.job_sizes.specs.Sizes.{Fit}
 use Rattle.demands.specs.TurnedBack.{IsNet, NetFails, MapFails, MarkFails, Outside, First}

@@ -11,7 +11,7 @@ use Rattle.label_theory.specs.Labels.{forward}
 use Rattle.cover_theory.specs.Covers.{Cover}
 use Rattle.cover_theory.specs.Forward.{Forward, ForwardMet, LeastForwardPeriod}
 use Rattle.cover_theory.specs.Key.{KeyIn, entries, as_cover}
-use Rattle.cover_theory.specs.Written.{no_entry}
+use Rattle.cover_period.specs.Written.{no_entry}
 use Rattle.board_theory.specs.Boards.{Boarded, board_at}
 use Rattle.board_theory.specs.Contents.{contents_bytes, contents_of, board_shows, net_shows}
 use Rattle.cover_records.specs.CoverBytes.{Record, cover_bytes}

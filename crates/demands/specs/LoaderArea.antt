@@ -12,7 +12,7 @@ use Rattle.net_model.specs.FullTables.{repeated_table}
 use Rattle.cover_theory.specs.Covers.{Cover, lut}
 use Rattle.cover_theory.specs.Board.{Carries, Brought}
 use Rattle.cover_theory.specs.Key.{Key, Entry, entries, as_cover}
-use Rattle.cover_theory.specs.Written.{no_entry}
+use Rattle.cover_period.specs.Written.{no_entry}
 use Rattle.cover_records.specs.CoverBytes.{cover_bytes}
 use Rattle.cover_records.specs.LoaderImage.{image_bytes}
 use Rattle.cover_records.specs.LoaderOutcome.{LoaderOutcome, loader_outcome, beside}

@@ -19,11 +19,11 @@ use Rattle.label_theory.specs.Labels.{forward, Inside, LowCutIn, LabellingIn, La
 use Rattle.label_theory.specs.Lower.{remember}
 use Rattle.label_theory.specs.Modes.{labelling-top}
 use Rattle.cover_theory.specs.Key.{KeyIn, Key, Entry, entries, as_cover, place_of}
-use Rattle.cover_theory.specs.KeyUnique.{entries_unique}
+use Rattle.cover_period.specs.KeyUnique.{entries_unique}
 use Rattle.cover_theory.specs.Forward.{LeastForwardPeriod}
-use Rattle.cover_theory.specs.Joined.{key_in?, reachable-forward, forward-reachable}
-use Rattle.cover_theory.specs.KeyOf.{key_of}
-use Rattle.cover_theory.specs.Period.{gates-reach_in}
+use Rattle.cover_period.specs.Joined.{key_in?, reachable-forward, forward-reachable}
+use Rattle.cover_period.specs.KeyOf.{key_of}
+use Rattle.cover_period.specs.Period.{gates-reach_in}
 use Rattle.board_theory.specs.Contents.{cells, leaf_cells, lut_cells, output_cells, contents_bytes, contents_of}
 use Rattle.cover_records.specs.CoverBytes.{cover_bytes}
 use Rattle.cover_records.specs.ForwardLaws.{forward-unmet, forward-written, none-lacking}

@@ -8,11 +8,11 @@ use Rattle.net_model.specs.Tables.{apply, bit}
 use Rattle.cone_theory.specs.ChecksDecided.{passed?}
 use Rattle.label_theory.specs.Labels.{Reachable}
 use Rattle.cover_theory.specs.Covers.{Met, LeastPeriod}
-use Rattle.cover_theory.specs.Joined.{key_meets, key-reachable}
+use Rattle.cover_period.specs.Joined.{key_meets, key-reachable}
 use Rattle.cover_theory.specs.Key.{Key, entries}
 use Rattle.cover_records.specs.CoverBytes.{Record}
 use Rattle.demands.specs.Right.{RightRecord}
-use Rattle.demands.specs.Demand2.{key_right}
+use Rattle.demands.proofs.Demand2.{key_right}
 use Rattle.examples.specs.Plan.{given}
 use Rattle.examples.specs.Nets.{net_a, net_c}
 use Rattle.examples.specs.Marked.{marked_examples}

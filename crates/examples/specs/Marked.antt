@@ -7,7 +7,8 @@ use Rattle.std.proofs.Math.Decide.{ℕ_discrete}
 use Rattle.std.specs.Int.Count.{ones}
 use Rattle.std.proofs.Math.ListN.{length}
 use Rattle.integers.specs.Height.{height}
-use Rattle.integers.specs.Lag.{lag, lag_examples}
+use Rattle.integers.specs.Lag.{lag}
+use Rattle.integers.proofs.Lag.{lag_examples}
 use Rattle.integers.specs.Order.{≤ℤ?}
 use Rattle.sequences.specs.Decide.{all?, any?, below?, dec_map, dec-×, dec-→, dec-¬}
 use Rattle.sequences.specs.Member.{◌∈◌, here, there, not_in_nil}
@@ -21,11 +22,11 @@ use Rattle.cone_theory.specs.Ranks.{ranked}
 use Rattle.cone_theory.specs.Reach.{reach_of}
 use Rattle.label_theory.specs.Labels.{plain, LowCut}
 use Rattle.label_theory.specs.Lower.{replace}
-use Rattle.label_theory.specs.Bounds.{LowerBound, raise}
-use Rattle.label_theory.specs.LabelDecision.{start, starting, start-bound}
+use Rattle.label_bounds.specs.Bounds.{LowerBound, raise}
+use Rattle.label_bounds.specs.LabelDecision.{start, starting, start-bound}
 use Rattle.cover_theory.specs.Key.{Key, Entry, entries, place_of, source}
-use Rattle.cover_theory.specs.KeyOf.{entry_of, in_entries}
-use Rattle.cover_theory.specs.Period.{least_period}
+use Rattle.cover_period.specs.KeyOf.{entry_of, in_entries}
+use Rattle.cover_period.specs.Period.{least_period}
 use Rattle.cover_theory.specs.SharedRegisters.{longest, over_nodes, shared_count}
 use Rattle.limits.specs.Limits.{scratch_area}
 use Rattle.limits.specs.Courses.{long}
@@ -36,7 +37,7 @@ use Rattle.cover_records.specs.MarkingDecided.{cuts_right?, tables_right?, all_f
 use Rattle.cover_records.specs.Marking.{CutsRight, TableRight, TablesRight, AllFed, EnoughRegisters, ShortChains}
 use Rattle.cover_records.specs.Outcomes.{Answer, turned_back, Checked, cleared, judged, mark_read, mark_sizes, mark_sized, mark_checked, mark_outcome}
 use Rattle.cover_records.specs.Listing.{register_count, entry_taps, lut_taps, leaf_taps, output_taps, lag_in}
-use Rattle.demands.specs.Demand2.{key_right}
+use Rattle.demands.proofs.Demand2.{key_right}
 use Rattle.examples.specs.Nets.{pin, through_b, bytes_a, net_a, bytes_b, net_b, bytes_b0, net_b0, bytes_c, net_c, bytes_d, net_d, bytes_e, net_e}
 use Rattle.examples.specs.Statements.{lut, labels, Refuses, Maps, Tie}
 use Rattle.examples.specs.Plan.{given, weaker?, weaken, by-input, by-pin, from-floor, no_cut?, outputs_met?, plan?, planned, refuses, maps, maps-all, net-passes}

@@ -26,15 +26,15 @@ use Rattle.cut_theory.specs.Choice.{tighten}
 use Rattle.cut_theory.specs.CutDecision.{CutSet, cut_set?, cut?}
 use Rattle.label_theory.specs.Labels.{plain, Low, LowCut, OutputsMet}
 use Rattle.label_theory.specs.Lower.{InputsZero, outputs-under, replace}
-use Rattle.label_theory.specs.Pins.{pin-input}
-use Rattle.label_theory.specs.Bounds.{LowerBound, settled-least, raised, pin-bound}
+use Rattle.label_theory.proofs.Pins.{pin-input}
+use Rattle.label_bounds.specs.Bounds.{LowerBound, settled-least, raised, pin-bound}
 use Rattle.label_theory.specs.Forced.{Forced, root, behind, forced-inside}
 use Rattle.label_theory.specs.Modes.{inside?}
-use Rattle.label_theory.specs.LabelDecision.{low_cut?, start, start-bound}
+use Rattle.label_bounds.specs.LabelDecision.{low_cut?, start, start-bound}
 use Rattle.cover_theory.specs.Key.{Key, Entry, entries}
-use Rattle.cover_theory.specs.KeyOf.{root_list, root_of?, root_list-root, root-root_list, numbers-rising, rising-gates}
-use Rattle.cover_theory.specs.KeyUnique.{label_same, entries_unique}
-use Rattle.cover_theory.specs.Joined.{key?}
+use Rattle.cover_period.specs.KeyOf.{root_list, root_of?, root_list-root, root-root_list, numbers-rising, rising-gates}
+use Rattle.cover_period.specs.KeyUnique.{label_same, entries_unique}
+use Rattle.cover_period.specs.Joined.{key?}
 use Rattle.limits.specs.Limits.{least_k, most_k, most_period, cover_area, scratch_area}
 use Rattle.limits.specs.Courses.{long}
 use Rattle.net_bytes.specs.Reading.{Result, got, between}
@@ -42,7 +42,7 @@ use Rattle.net_bytes.specs.Walk.{net_reader}
 use Rattle.net_bytes.specs.Sound.{walk-sound, walk-fits}
 use Rattle.cover_records.specs.CoverBytes.{cover_bytes}
 use Rattle.cover_records.specs.Outcomes.{accepted, turned_back, passes, check_graph, check_read, check_net, map_sizes, cleared, written, for_target, map_written, mapped_in, map_outcome}
-use Rattle.demands.specs.Demand3.{outcome-is}
+use Rattle.demands.proofs.Demand3.{outcome-is}
 use Rattle.examples.specs.Statements.{labels, Room, Refuses, Maps}
 
 -- ---- what a decision computes to

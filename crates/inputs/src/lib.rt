@@ -1,5 +1,7 @@
 // Bytes and numbers: widths, and the parts of a program's input.
-ghost use Rattle.std.specs.Prelude.{◌≡◌, ◌+◌, ◌*◌, ◌≤◌, ◌<◌, length, get_or};
+#![tactic(auto)]
+
+ghost use Rattle.std.specs.Prelude.{◌≡◌, ◌++◌, ◌+◌, ◌*◌, ◌≤◌, ◌<◌, length, get_or, drop};
 ghost use Rattle.inputs.specs.InputParts.{Behind};
 
 // A number of 32 bits as a machine word, a machine word as a byte, a byte as a machine word.
@@ -57,4 +59,15 @@ pub fn net_length(input: &[u8]) -> usize
     let low = byte_at(input, 1);
     let high = byte_at(input, 2);
     word(low + 256 * high)
+}
+
+// Writes bytes over the first ones of an area, which has room for them; how many there were.
+pub fn copy_in(from: &[u8], to: &mut [u8]) -> usize
+    requires { length from.now ≤ length to.old }
+    ensures count { result ≡ length from.now }
+    ensures bytes { to.new ≡ from.now ++ drop (length from.now) to.old }
+{
+    let n = from.len();
+    to[..n].copy_from_slice(from);
+    n
 }

@@ -2,4 +2,3 @@ pub mod Parts
 pub mod Order
 pub mod Height
 pub mod Lag
-pub mod Cover

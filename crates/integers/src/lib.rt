@@ -1,1 +1,2 @@
 // Theory only: facts about whole numbers, in specs/.
+#![tactic(auto)]

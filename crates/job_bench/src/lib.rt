@@ -1,4 +1,6 @@
 // The bench: from the bytes read (k, the net's length, the net, pairs of input bytes) to the text printed.
+#![tactic(auto)]
+
 ghost use Rattle.std.specs.Prelude.{◌≡◌, not, ◌≤◌, length};
 ghost use Rattle.limits.specs.Limits.{least_k, most_k, most_nodes, bench_room};
 ghost use Rattle.net_model.specs.Arrays.{net_in};
@@ -9,7 +11,7 @@ ghost use Rattle.cover_writer.specs.Writing.{Wrote};
 ghost use Rattle.job_bench.specs.BenchProgram.{bench_drawn, bench_of, bench_program};
 ghost use Rattle.job_bench.specs.BenchJob.{Benching};
 
-use inputs::{byte_at, net_length, place_behind, wide};
+use inputs::{byte_at, copy_in, net_length, place_behind, wide};
 use limits::{BENCH_TEXT, GATES, LEAST_K, MOST_K, NODES, PACKED, long_course};
 use net_checks::check_graph;
 use net_fields::Verdict;
@@ -74,7 +76,7 @@ fn bench_section(
     ensures { Wrote (bench_drawn (drawn (net_in (arrays_of z net.old tables.now)) section.now) pairs.now) out.old out.new result }
 {
     let mut kept = [0u8; NODES];
-    let n = bytes::copy(section, &mut kept);
+    let n = copy_in(section, &mut kept);
     bench_read(z, net, tables, &mut kept[..n], pairs, out)
 }
 

@@ -1,4 +1,6 @@
 // Whether a gate has a LUT in a stored cover record (E1): a reading that stops at the first root not below the gate. The LUT's byte walk is mark's.
+#![tactic(auto)]
+
 ghost use Rattle.std.specs.Prelude.{◌≡◌, length, drop};
 ghost use Rattle.limits.specs.Courses.{Offered};
 ghost use Rattle.job_find.specs.RootLookup.{look_luts, told, look_up, find_root};

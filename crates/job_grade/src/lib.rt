@@ -1,4 +1,6 @@
 // The marking: from the bytes read (k, the net's length, the net, the record) to the text printed.
+#![tactic(auto)]
+
 ghost use Rattle.std.specs.Prelude.{◌≡◌, ◌+◌, ◌*◌, ◌-◌, ◌≤◌, ◌<◌, length, get_or, drop};
 ghost use Rattle.cover_records.specs.Program.{marking, marking_program};
 ghost use Rattle.cover_writer.specs.Writing.{Wrote};

@@ -6,7 +6,7 @@ use Rattle.net_model.specs.Net.{Net}
 use Rattle.net_model.specs.Checks.{Passed}
 use Rattle.net_bytes.specs.Reading.{got}
 use Rattle.cone_theory.specs.Ranks.{ranked}
-use Rattle.cover_theory.specs.Period.{least_period}
+use Rattle.cover_period.specs.Period.{least_period}
 use Rattle.cover_records.specs.CoverBytes.{Record}
 use Rattle.cover_records.specs.MarkingDecided.{cuts_right?, tables_right?, all_fed?, enough?, short_chains?}
 use Rattle.cover_records.specs.Marking.{CutsRight, TablesRight, AllFed, EnoughRegisters, ShortChains}

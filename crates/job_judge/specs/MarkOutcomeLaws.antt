@@ -21,7 +21,7 @@ use Rattle.net_bytes.specs.Walk.{net_reader}
 use Rattle.cone_theory.specs.Ranks.{ranked}
 use Rattle.label_theory.specs.Labels.{plain}
 use Rattle.cover_theory.specs.Covers.{LeastPeriod}
-use Rattle.cover_theory.specs.Period.{least_period, least_period-is, least_period_unique}
+use Rattle.cover_period.specs.Period.{least_period, least_period-is, least_period_unique}
 use Rattle.cover_records.specs.Accepted.{Covering, excess-is}
 use Rattle.cover_records.specs.CoverBytes.{Record, cover_reader}
 use Rattle.cover_records.specs.Held.{Held}

@@ -1,4 +1,6 @@
 // Checks 13 to 18 of a candidate's record against a net read, and its excess over the least period. The first bytes of work are the walk's table of marks: all 0 before and after.
+#![tactic(auto)]
+
 ghost use Rattle.std.specs.Prelude.{◌≤◌, length};
 ghost use Rattle.limits.specs.Courses.{Offered};
 ghost use Rattle.limits.specs.Limits.{most_table};

@@ -1,4 +1,6 @@
 // The least period of a net read, with checks 9 to 11 and without a cover: what mark asks of a net.
+#![tactic(auto)]
+
 ghost use Rattle.std.specs.Prelude.{◌≤◌, length};
 ghost use Rattle.limits.specs.Limits.{most_table};
 ghost use Rattle.net_model.specs.Arrays.{net_in};

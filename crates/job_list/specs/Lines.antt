@@ -7,8 +7,8 @@ use Rattle.net_model.specs.Net.{Net, IsGate}
 use Rattle.net_model.specs.Checks.{Passed}
 use Rattle.label_theory.specs.Labels.{plain, Reachable}
 use Rattle.cover_theory.specs.Key.{Key, Entry, entries}
-use Rattle.cover_theory.specs.KeyOf.{key-labelled}
-use Rattle.cover_theory.specs.KeyUnique.{entries_unique, label_same}
+use Rattle.cover_period.specs.KeyOf.{key-labelled}
+use Rattle.cover_period.specs.KeyUnique.{entries_unique, label_same}
 use Rattle.cover_records.specs.Kept.{Kept, entries_in, label_at}
 use Rattle.cover_records.specs.Listing.{decimal, register_count, period_word, luts_word, registers_word, newline, lut_line, lut_lines, cover_text, refusal_text}
 use Rattle.cover_records.specs.Outcomes.{Mapped, mapped}

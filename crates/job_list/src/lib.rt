@@ -1,4 +1,6 @@
 // The listing: from the bytes read (k, the target, the net) to the text printed.
+#![tactic(auto)]
+
 ghost use Rattle.std.specs.Prelude.{◌≡◌, ◌≤◌, ◌<◌, length, get_or, drop};
 ghost use Rattle.net_model.specs.Arrays.{net_in};
 ghost use Rattle.net_bytes.specs.Walk.{rest};

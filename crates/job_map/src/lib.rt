@@ -1,6 +1,8 @@
 // Map: the key of the examination. A net, k and a target; a cover in the cover area, or a refusal; the image in the loader area and the registers' contents in the contents area, if they are lent.
 // The work is done under rules and in a mode; map, map_loader, map_forward and change_over take document 01's rules, short_map those of the short course. Only map_forward and change_over ask for
 // forward covers, and only they lend a contents area; only change_over lends input pairs; map and short_map lend no loader area.
+#![tactic(auto)]
+
 ghost use Rattle.std.specs.Prelude.{◌≡◌, true, ◌&&◌, ltb, eqb, length};
 ghost use Rattle.limits.specs.Limits.{contents_area, loader_area};
 ghost use Rattle.limits.specs.Courses.{long, short, Offered};

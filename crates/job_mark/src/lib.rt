@@ -1,4 +1,6 @@
 // Mark: the marks of the examination. A net, k and a candidate's record; its excess over the least period, or a refusal. The work is done under rules; mark itself takes document 01's.
+#![tactic(auto)]
+
 ghost use Rattle.std.specs.Prelude.{◌≡◌, length};
 ghost use Rattle.limits.specs.Courses.{long, short, Offered};
 ghost use Rattle.net_model.specs.Arrays.{net_in};

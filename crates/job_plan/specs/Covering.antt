@@ -16,8 +16,8 @@ use Rattle.net_model.specs.FullTables.{repeated_table, full_of}
 use Rattle.cone_values.specs.FullTableLaws.{full-low, full-repeated}
 use Rattle.label_theory.specs.Labels.{Mode, ReachableIn}
 use Rattle.cover_theory.specs.Key.{KeyIn, Root, Entry, entries}
-use Rattle.cover_theory.specs.KeyOf.{key_of, entry_of, root-gate}
-use Rattle.cover_theory.specs.KeyUnique.{numbers_unique}
+use Rattle.cover_period.specs.KeyOf.{key_of, entry_of, root-gate}
+use Rattle.cover_period.specs.KeyUnique.{numbers_unique}
 use Rattle.cover_records.specs.Kept.{Kept, kept, short_table, entry_at, entries_from, entries_in, Whole}
 use Rattle.cone_table.specs.ConeWords.{Tabled}
 use Rattle.cut_circuit.specs.Bridge.{Holds}

@@ -8,8 +8,8 @@ use Rattle.net_model.specs.Net.{Net}
 use Rattle.net_model.specs.Checks.{Passed}
 use Rattle.label_theory.specs.Labels.{Mode, ReachableIn}
 use Rattle.cover_theory.specs.Key.{KeyIn}
-use Rattle.cover_theory.specs.Joined.{key_in?}
-use Rattle.cover_theory.specs.Period.{least_key_in}
+use Rattle.cover_period.specs.Joined.{key_in?}
+use Rattle.cover_period.specs.Period.{least_key_in}
 use Rattle.cover_records.specs.Kept.{Kept}
 use Rattle.cover_records.specs.Outcomes.{MappedIn, covered, unreachable, for_target, mapped_in}
 use Rattle.label_period.specs.PeriodSearchLaws.{first_unique}

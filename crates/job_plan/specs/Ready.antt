@@ -13,7 +13,7 @@ use Rattle.net_model.specs.Checks.{Passed}
 use Rattle.net_model.specs.PackedNet.{first_at, sources_at, counts_at, order_at, tops_at, outs_at, delays_at, packed_room, NetKept}
 use Rattle.net_model.specs.PackedNetLaws.{length_part, kept-between, kept-net}
 use Rattle.label_theory.specs.Labels.{Mode, plain, forward}
-use Rattle.label_theory.specs.Pins.{OutPath}
+use Rattle.label_theory.proofs.Pins.{OutPath}
 use Rattle.limits.specs.Limits.{most_beyond, most_count, most_gates, most_nodes, most_period, most_pins, most_reach, most_rows, most_table, most_held}
 use Rattle.cone_theory.specs.Ranks.{ranked}
 use Rattle.cone_theory.specs.Reach.{reach_of}

@@ -1,4 +1,6 @@
 // The cover of a net that passed the checks, plain or forward: period, labels, chosen roots, their cuts and tables, kept in slices.
+#![tactic(auto)]
+
 ghost use Rattle.std.specs.Prelude.{◌≡◌, false, ◌+◌, ◌-◌, ◌*◌, ◌≤◌, ◌<◌, length};
 ghost use Rattle.net_model.specs.Arrays.{net_in};
 ghost use Rattle.limits.specs.Limits.{most_table};

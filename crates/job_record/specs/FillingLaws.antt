@@ -14,7 +14,7 @@ use Rattle.run_values.specs.SheetLaws.{runnable-counts}
 use Rattle.cover_theory.specs.Covers.{Cover, IsCover}
 use Rattle.cover_theory.specs.Forward.{Forward}
 use Rattle.cover_theory.specs.Key.{KeyIn, Entry, entries, as_cover}
-use Rattle.cover_theory.specs.Joined.{key-met, key-suited}
+use Rattle.cover_period.specs.Joined.{key-met, key-suited}
 use Rattle.board_theory.specs.Contents.{contents_of}
 use Rattle.cover_records.specs.Kept.{Kept, entries_in}
 use Rattle.cover_records.specs.Rows.{kept_in, sizes_in, nodes_in, backs_in}

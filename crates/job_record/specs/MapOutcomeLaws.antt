@@ -14,7 +14,7 @@ use Rattle.net_bytes.specs.Walk.{net_reader}
 use Rattle.run_theory.specs.BenchBytes.{kept_after}
 use Rattle.label_theory.specs.Labels.{Mode, ReachableIn}
 use Rattle.cover_theory.specs.Key.{Entry, entries, as_cover}
-use Rattle.cover_theory.specs.KeyUnique.{entries_unique}
+use Rattle.cover_period.specs.KeyUnique.{entries_unique}
 use Rattle.board_theory.specs.Contents.{contents_of}
 use Rattle.cover_records.specs.CoverBytes.{cover_bytes}
 use Rattle.cover_records.specs.Kept.{Kept, entries_in}

@@ -20,7 +20,7 @@ use Rattle.limits.specs.Limits.{most_nodes, most_gates, most_pins, most_rows, mo
 use Rattle.limits.specs.Courses.{long, is-long}
 use Rattle.label_theory.specs.Labels.{Mode}
 use Rattle.cover_theory.specs.Key.{Entry, entries}
-use Rattle.cover_theory.specs.Period.{least_period_in-bound}
+use Rattle.cover_period.specs.Period.{least_period_in-bound}
 use Rattle.cover_records.specs.CoverBytes.{cover_bytes}
 use Rattle.cover_records.specs.Kept.{Kept, entry_at, entries_from, entries_in}
 use Rattle.cover_records.specs.Rows.{kept_in}

@@ -1,5 +1,7 @@
 // Checks 9 to 11, 21, 12 or 22 of a net read, its cover as a record in the cover area, the image in the loader area and the registers' contents at the step behind the input pairs in the
 // contents area, where they are lent.
+#![tactic(auto)]
+
 ghost use Rattle.std.specs.Prelude.{◌≡◌, []};
 ghost use Rattle.net_model.specs.Arrays.{net_in};
 ghost use Rattle.net_reader.specs.ReadAnswer.{arrays_of};
@@ -13,7 +15,7 @@ ghost use Rattle.job_record.specs.Filling.{Filling};
 use cover_contents::write_contents;
 use cover_image::write_image;
 use cover_writer::{CoverHead, write_cover};
-use inputs::narrow;
+use inputs::{copy_in, narrow};
 use job_settle::{Call, settle};
 use limits::{GATES, NODES, ROWS};
 use net_reader::NetSizes;
@@ -46,7 +48,7 @@ fn fill_contents(
         return;
     }
     let mut kept = [0u8; NODES];
-    let n = bytes::copy(section, &mut kept);
+    let n = copy_in(section, &mut kept);
     write_contents(
         z,
         net,

@@ -1,4 +1,6 @@
 // The scratch, as every outcome but refusals 1 to 3 leaves it.
+#![tactic(auto)]
+
 ghost use Rattle.std.specs.Prelude.{◌≡◌, ◌≤◌, length};
 ghost use Rattle.cover_records.specs.Outcomes.{cleared};
 

@@ -1,4 +1,6 @@
 // The net read, checked and covered: 9 to 11, 21, 12 or 22, and the cover kept in slices.
+#![tactic(auto)]
+
 ghost use Rattle.std.specs.Prelude.{◌≡◌, ◌+◌, ◌≤◌, length};
 ghost use Rattle.limits.specs.Limits.{most_table};
 ghost use Rattle.net_model.specs.Arrays.{net_in};

@@ -1,4 +1,6 @@
 // Checks 1, 2 and 3 under rules, by the lengths of the areas; and what is told of an area that may be lent: 3 or 20.
+#![tactic(auto)]
+
 ghost use Rattle.std.specs.Prelude.{◌≡◌};
 ghost use Rattle.job_sizes.specs.Sizes.{sizes_of, lent_size};
 

@@ -1,5 +1,7 @@
 // The library for other programs: map and mark of both courses, map with a loader area and in forward mode, the change-over, the root lookup and align, each with one number for its answer,
 // and the classes of three-input tables.
+#![tactic(auto)]
+
 ghost use Rattle.std.specs.Prelude.{◌≡◌, get_or};
 ghost use Rattle.limits.specs.Courses.{long, short};
 ghost use Rattle.lutclass.specs.Classes.{IsClass};
@@ -46,14 +48,7 @@ fn mark_code(m: Grade) -> i64
 }
 
 // Map: the record's length, or minus the number of the refusal.
-#[unsafe(no_mangle)]
-pub extern "C" fn kamfelu_map(
-    net: &[u8],
-    k: u32,
-    target: u32,
-    cover: &mut [u8],
-    scratch: &mut [u8],
-) -> i64
+pub fn kamfelu_map(net: &[u8], k: u32, target: u32, cover: &mut [u8], scratch: &mut [u8]) -> i64
     ensures answer { result ≡ coded (map_outcome long net.now k target cover.old scratch.old).answer }
     ensures area { cover.new ≡ (map_outcome long net.now k target cover.old scratch.old).area }
     ensures scratch { scratch.new ≡ (map_outcome long net.now k target cover.old scratch.old).scratch }
@@ -63,8 +58,7 @@ pub extern "C" fn kamfelu_map(
 }
 
 // Map with a loader area, which gets the image; of length 0 it is not lent.
-#[unsafe(no_mangle)]
-pub extern "C" fn kamfelu_map_loader(
+pub fn kamfelu_map_loader(
     net: &[u8],
     k: u32,
     target: u32,
@@ -82,8 +76,7 @@ pub extern "C" fn kamfelu_map_loader(
 }
 
 // Map in forward mode, with a loader area, which gets the image, and a contents area, which gets the first contents; of length 0 an area is not lent.
-#[unsafe(no_mangle)]
-pub extern "C" fn kamfelu_map_forward(
+pub fn kamfelu_map_forward(
     net: &[u8],
     k: u32,
     target: u32,
@@ -103,8 +96,7 @@ pub extern "C" fn kamfelu_map_forward(
 }
 
 // The change-over: map in forward mode, its contents those of the step behind the input pairs, two bytes a step. A contents area must be lent; a loader area of length 0 is not lent.
-#[unsafe(no_mangle)]
-pub extern "C" fn kamfelu_change_over(
+pub fn kamfelu_change_over(
     net: &[u8],
     k: u32,
     target: u32,
@@ -125,8 +117,7 @@ pub extern "C" fn kamfelu_change_over(
 }
 
 // Map of the short course.
-#[unsafe(no_mangle)]
-pub extern "C" fn kamfelu_short_map(
+pub fn kamfelu_short_map(
     net: &[u8],
     k: u32,
     target: u32,
@@ -142,8 +133,7 @@ pub extern "C" fn kamfelu_short_map(
 }
 
 // Mark: the excess, or minus the number of the refusal.
-#[unsafe(no_mangle)]
-pub extern "C" fn kamfelu_mark(net: &[u8], k: u32, cover: &[u8], scratch: &mut [u8]) -> i64
+pub fn kamfelu_mark(net: &[u8], k: u32, cover: &[u8], scratch: &mut [u8]) -> i64
     ensures answer { result ≡ coded (mark_outcome long net.now k cover.now scratch.old).answer }
     ensures scratch { scratch.new ≡ (mark_outcome long net.now k cover.now scratch.old).scratch }
 {
@@ -152,8 +142,7 @@ pub extern "C" fn kamfelu_mark(net: &[u8], k: u32, cover: &[u8], scratch: &mut [
 }
 
 // The same for the short course.
-#[unsafe(no_mangle)]
-pub extern "C" fn kamfelu_short_mark(net: &[u8], k: u32, cover: &[u8], scratch: &mut [u8]) -> i64
+pub fn kamfelu_short_mark(net: &[u8], k: u32, cover: &[u8], scratch: &mut [u8]) -> i64
     ensures answer { result ≡ coded (mark_outcome short net.now k cover.now scratch.old).answer }
     ensures scratch { scratch.new ≡ (mark_outcome short net.now k cover.now scratch.old).scratch }
 {
@@ -162,8 +151,7 @@ pub extern "C" fn kamfelu_short_mark(net: &[u8], k: u32, cover: &[u8], scratch: 
 }
 
 // The smallest table that a table of three leaves can be turned into: its entry in the table of classes.
-#[unsafe(no_mangle)]
-pub extern "C" fn kamfelu_class(table: u8) -> u8
+pub fn kamfelu_class(table: u8) -> u8
     ensures entry { result ≡ get_or shipped table 0 }
     ensures class { IsClass table result }
 {
@@ -171,8 +159,7 @@ pub extern "C" fn kamfelu_class(table: u8) -> u8
 }
 
 // The byte offset of gate g's LUT in a cover record, 0 for none, or minus the number of the refusal.
-#[unsafe(no_mangle)]
-pub extern "C" fn kamfelu_find_root(cover: &[u8], g: u16) -> i64
+pub fn kamfelu_find_root(cover: &[u8], g: u16) -> i64
     ensures { result ≡ coded_root (find_root g cover.now) }
 {
     let f = find_root(cover, g);
@@ -184,8 +171,7 @@ pub extern "C" fn kamfelu_find_root(cover: &[u8], g: u16) -> i64
 }
 
 // The shift, 256 for none, or minus the number of the refusal.
-#[unsafe(no_mangle)]
-pub extern "C" fn kamfelu_align(first: &[u16], second: &[u16]) -> i64
+pub fn kamfelu_align(first: &[u16], second: &[u16]) -> i64
     ensures { result ≡ coded_shift (align_outcome first.now second.now) }
 {
     let a = align(first, second);

@@ -1,4 +1,6 @@
 // What is asked of the labels, and the border of a question about them: in forward mode it is how far back a cone may reach.
+#![tactic(auto)]
+
 ghost use Rattle.std.specs.Prelude.{◌≡◌, true, false, ◌+◌, ◌*◌, ◌≤◌, ◌<◌, pos, ◌-ℤ◌, ◌≤ℤ◌, ◌<ℤ◌};
 ghost use Rattle.label_theory.specs.Labels.{forward};
 ghost use Rattle.label_theory.specs.Modes.{Topped};
@@ -10,7 +12,7 @@ use signed::{minus, no_higher, whole};
 
 // What is asked of the labels: a period, the most leaves of a LUT, the outputs of the net, and a ceiling of all gates, in periods; 0: each gate has its own.
 // Whether covers are to be forward, and whether the labels are those of a trial, raised by φ times the width.
-#[derive(Drop)]
+#[derive(Clone, Copy)]
 pub struct Aim {
     pub phi: usize,
     pub k: usize,

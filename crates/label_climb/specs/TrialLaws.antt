@@ -10,7 +10,7 @@ use Rattle.net_model.specs.Net.{Net, IsGate, IsInput}
 use Rattle.label_theory.specs.Labels.{Mode}
 use Rattle.label_theory.specs.Lower.{input_or_gate}
 use Rattle.label_theory.specs.Near.{Rose}
-use Rattle.label_theory.specs.NearLaws.{bound-near, near-bound, jump}
+use Rattle.label_bounds.specs.NearLaws.{bound-near, near-bound, jump}
 use Rattle.signed.specs.Range.{Small, room, label_in}
 use Rattle.signed.specs.RangeLaws.{small-between}
 use Rattle.cut_circuit.specs.Circuit.{Circuit}

@@ -1,4 +1,6 @@
 // Labels that climb for ever: a trial raises those that rose of late by far; where each rises further and a ceiling is passed, the target is not reachable.
+#![tactic(auto)]
+
 ghost use Rattle.std.specs.Prelude.{◌≡◌, true, false, ℕ, ◌+◌, ◌*◌, ◌≤◌, ◌<◌, pos, length, ◌<ℤ◌};
 ghost use Rattle.signed.specs.Range.{Small, room, label_in};
 ghost use Rattle.cut_circuit.specs.Packed.{packed_of};

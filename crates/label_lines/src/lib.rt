@@ -1,4 +1,6 @@
 // The longest line of gates without registers between them: a LUT for each gate alone meets that period.
+#![tactic(auto)]
+
 ghost use Rattle.std.specs.Prelude.{◌≡◌, true, max, ◌*◌, ◌≤◌, ◌<◌, length, get_or};
 ghost use Rattle.net_model.specs.Arrays.{stride};
 ghost use Rattle.net_model.specs.Wired.{Wires};

@@ -1,4 +1,6 @@
 // One sweep over the gates, and some in a row: labels raised from below, gate by gate.
+#![tactic(auto)]
+
 ghost use Rattle.std.specs.Prelude.{◌≡◌, ◌≤◌, ◌<◌, length, get_or};
 ghost use Rattle.cut_circuit.specs.Packed.{packed_of};
 ghost use Rattle.cut_question.specs.Separating.{AtRest};

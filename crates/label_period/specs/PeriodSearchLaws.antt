@@ -7,9 +7,9 @@ use Rattle.net_model.specs.Arrays.{pins_in}
 use Rattle.net_model.specs.Checks.{Passed}
 use Rattle.label_theory.specs.Labels.{Mode, plain, ReachableIn}
 use Rattle.cover_theory.specs.Covers.{LeastPeriod}
-use Rattle.cover_theory.specs.KeyOf.{key_of}
-use Rattle.cover_theory.specs.Joined.{key-met, key-suited, cover-reachable, reachable-met, met-reachable}
-use Rattle.cover_theory.specs.Period.{least_period_in, least-reached, none-smaller, least-some, lines_reach_in}
+use Rattle.cover_period.specs.KeyOf.{key_of}
+use Rattle.cover_period.specs.Joined.{key-met, key-suited, cover-reachable, reachable-met, met-reachable}
+use Rattle.cover_period.specs.Period.{least_period_in, least-reached, none-smaller, least-some, lines_reach_in}
 use Rattle.cut_circuit.specs.Circuit.{Circuit}
 use Rattle.cut_circuit.specs.declared.Extent.{Extent}
 use Rattle.signed.specs.Range.{label_in}

@@ -1,4 +1,6 @@
 // The least period: small ones are asked from 1 up, larger ones by halves, up to the longest line of gates without registers.
+#![tactic(auto)]
+
 ghost use Rattle.std.specs.Prelude.{◌≤◌, ◌<◌, length};
 ghost use Rattle.net_model.specs.PackedNet.{packed_room};
 ghost use Rattle.cut_circuit.specs.Packed.{packed_of};

@@ -1,4 +1,6 @@
 // The highest of a gate's pins: the largest label(u) − φ·w.
+#![tactic(auto)]
+
 ghost use Rattle.std.specs.Prelude.{◌≡◌, true, false, ℕ, ◌+◌, ◌*◌, ◌≤◌, ◌<◌, length, ◌≤ℤ◌, ◌<ℤ◌};
 ghost use Rattle.label_pins.specs.PinHeights.{height_at, PinFits, Best};
 

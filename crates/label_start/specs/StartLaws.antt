@@ -4,13 +4,13 @@ use Rattle.std.proofs.Common.{sym, ◌∙◌, subst, div-lt_iff_lt-mul, mul-le-m
 use Rattle.std.proofs.Math.Decide.{ℕ_discrete, dec_lt}
 use Rattle.std.proofs.Math.ListN.{get_or-eq_default}
 use Rattle.integers.specs.Parts.{ints, sub_parts}
-use Rattle.integers.specs.Height.{height-parts}
+use Rattle.integers.proofs.Height.{height-parts}
 use Rattle.net_model.specs.Net.{Net, IsGate}
 use Rattle.net_model.specs.Arrays.{stride}
 use Rattle.net_model.specs.ArrayLaws.{pin_at}
 use Rattle.cone_theory.specs.Reach.{reach_of}
 use Rattle.label_theory.specs.Labels.{Labelling}
-use Rattle.label_theory.specs.Floor.{floor, floor-pin}
+use Rattle.label_bounds.specs.Floor.{floor, floor-pin}
 use Rattle.signed.specs.Range.{Small, room, label_in}
 use Rattle.signed.specs.RangeLaws.{small-between}
 use Rattle.cut_circuit.specs.Circuit.{Circuit}

@@ -2,8 +2,8 @@
 use Rattle.std.specs.Prelude.{◌≡◌, List, ℕ, ◌+◌, ◌*◌, ◌^◌, ◌≤◌, ◌<◌, ℤ, pos, length}
 use Rattle.limits.specs.Limits.{most_k}
 use Rattle.net_model.specs.Net.{Net}
-use Rattle.label_theory.specs.Bounds.{LowerBound}
-use Rattle.label_theory.specs.Floor.{Floors}
+use Rattle.label_bounds.specs.Bounds.{LowerBound}
+use Rattle.label_bounds.specs.Floor.{Floors}
 use Rattle.signed.specs.Range.{Small, room, label_in}
 use Rattle.cut_circuit.specs.Circuit.{Circuit}
 use Rattle.cut_circuit.specs.declared.Extent.{Extent}

@@ -1,4 +1,6 @@
 // The labels at the start: a floor for each gate, 1 − φ times the registers on a path from an input that goes along the order.
+#![tactic(auto)]
+
 ghost use Rattle.std.specs.Prelude.{◌≡◌, ◌+◌, ◌*◌, ◌≤◌, ◌<◌, pos, ◌-ℤ◌, length};
 ghost use Rattle.signed.specs.Range.{Small, room};
 ghost use Rattle.label_visit.specs.LabelVisits.{wiring, Ready};

@@ -1,4 +1,6 @@
 // The label sweep: labels raised from below, sweep after sweep, until nothing can change or a label would pass its ceiling.
+#![tactic(auto)]
+
 ghost use Rattle.std.specs.Prelude.{◌≡◌, true, false, ℕ, ◌≤◌, pos, length, ◌≤ℤ◌, ◌<ℤ◌};
 ghost use Rattle.net_model.specs.PackedNet.{packed_room};
 ghost use Rattle.signed.specs.Range.{Small, room, label_in};

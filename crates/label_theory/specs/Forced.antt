@@ -4,7 +4,8 @@ use Rattle.std.specs.Prelude.{◌≡◌, refl, List, [], ◌∷◌, ◌⊎◌, �
 use Rattle.std.proofs.Common.{sym, subst, ap, ◌∙◌, inl, inr, arith}
 use Rattle.integers.specs.Parts.{ints, sub_parts, scale}
 use Rattle.integers.specs.Order.{≤ℤ?}
-use Rattle.integers.specs.Height.{height, height-parts}
+use Rattle.integers.specs.Height.{height}
+use Rattle.integers.proofs.Height.{height-parts}
 use Rattle.sequences.specs.Member.{◌∈◌, Within}
 use Rattle.sequences.specs.Decide.{dec_stable}
 use Rattle.net_model.specs.Net.{Net, Pin, IsGate, pins}

@@ -1,12 +1,6 @@
 pub mod Labels
 pub mod Modes
 pub mod Lower
-pub mod Pins
-pub mod Floor
-pub mod Bounds
 pub mod Near
-pub mod NearLaws
-pub mod LabelDecision
 pub mod Small
-pub mod Exists
 pub mod Forced

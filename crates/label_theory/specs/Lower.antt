@@ -5,7 +5,8 @@ use Rattle.std.proofs.Math.Decide.{ℕ_discrete, dec_lt}
 use Rattle.std.specs.Int.Signed.{≤ℤ_refl}
 use Rattle.integers.specs.Parts.{ints, sub_parts}
 use Rattle.integers.specs.Order.{≤ℤ_trans, ≤ℤ_antisym, minℤ, minℤ-left, minℤ-right, minℤ-cases}
-use Rattle.integers.specs.Height.{height, height_mono}
+use Rattle.integers.specs.Height.{height}
+use Rattle.integers.proofs.Height.{height_mono}
 use Rattle.sequences.specs.Member.{◌∈◌}
 use Rattle.net_model.specs.Net.{Net, Pin, IsGate, IsInput, IsNode, size}
 use Rattle.net_model.specs.Checks.{Sound}

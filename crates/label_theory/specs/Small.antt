@@ -4,7 +4,8 @@ use Rattle.std.proofs.Common.{sym, subst, ap, ◌∙◌, inl, inr, arith}
 use Rattle.std.specs.Int.Signed.{≤ℤ_refl}
 use Rattle.integers.specs.Parts.{ints, +-parts, sub_parts}
 use Rattle.integers.specs.Order.{≤ℤ_trans, ≤ℤ_total, <ℤ?, ℤ_dec}
-use Rattle.integers.specs.Height.{height, height-parts}
+use Rattle.integers.specs.Height.{height}
+use Rattle.integers.proofs.Height.{height-parts}
 use Rattle.sequences.specs.Member.{◌∈◌, here, there, not_in_nil}
 use Rattle.sequences.specs.Decide.{any?, all?, not-all, count-from, in_count-from, count-from_in, length-count-from}
 use Rattle.sequences.specs.Distinct.{inject, distinct-count-from, remove, length-remove, remove-cases}

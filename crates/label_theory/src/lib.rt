@@ -1,1 +1,2 @@
 // Definitions and theory only: labellings, in specs/.
+#![tactic(auto)]

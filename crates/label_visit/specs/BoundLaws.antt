@@ -12,9 +12,9 @@ use Rattle.net_model.specs.ArrayLaws.{pin_at, pins_in_in, in_pins_in}
 use Rattle.net_model.specs.Checks.{Sound}
 use Rattle.label_theory.specs.Labels.{Mode, plain, forward, Inside, LowCutIn, LeastIn}
 use Rattle.label_theory.specs.Lower.{remember, replace, replace-same, replace-other}
-use Rattle.label_theory.specs.Bounds.{PinsReach, refutes, alone-cut, settled-least}
+use Rattle.label_bounds.specs.Bounds.{PinsReach, refutes, alone-cut, settled-least}
 use Rattle.label_theory.specs.Near.{Keeps, TrialCut}
-use Rattle.label_theory.specs.NearLaws.{bound-near, near-bound, keeps-pin, keeps-more}
+use Rattle.label_bounds.specs.NearLaws.{bound-near, near-bound, keeps-pin, keeps-more}
 use Rattle.label_theory.specs.Modes.{Topped, labelling-top}
 use Rattle.label_theory.specs.Forced.{Falling}
 use Rattle.signed.specs.Range.{label_in}

@@ -9,8 +9,8 @@ use Rattle.net_model.specs.Checks.{Sound, Fits, Loopless}
 use Rattle.cone_theory.specs.Ranks.{Ranked}
 use Rattle.cone_theory.specs.Reach.{reach_of}
 use Rattle.label_theory.specs.Labels.{Mode, plain, forward, LabellingIn, OutputsMet}
-use Rattle.label_theory.specs.Pins.{OutPath}
-use Rattle.label_theory.specs.Bounds.{LowerBoundIn}
+use Rattle.label_theory.proofs.Pins.{OutPath}
+use Rattle.label_bounds.specs.Bounds.{LowerBoundIn}
 use Rattle.label_theory.specs.Forced.{Falling}
 use Rattle.label_theory.specs.Near.{Keeps, TrialCut}
 use Rattle.signed.specs.Range.{Small, room, label_in}

@@ -1,4 +1,6 @@
 // One visit of a gate: its label raised to what every labelling reaches, unless nothing can change or it would pass its ceiling.
+#![tactic(auto)]
+
 ghost use Rattle.std.specs.Prelude.{◌≡◌, true, false, ◌+◌, ◌*◌, ◌≤◌, ◌<◌, pos, ◌+ℤ◌, length, get_or, set, ◌≤ℤ◌, ◌<ℤ◌};
 ghost use Rattle.signed.specs.Range.{Small, room, label_in};
 ghost use Rattle.cut_circuit.specs.Packed.{packed_of};

@@ -1,5 +1,7 @@
 // Document 01's limits and the sizes that follow from them, as constants of the programs.
 // specs/Limits.antt has the same numbers as definitions; `agree` is proved, so the two cannot part.
+#![tactic(auto)]
+
 ghost use Rattle.std.specs.Prelude.{◌≡◌, ◌≤◌};
 ghost use Rattle.limits.specs.Courses.{long, short};
 ghost use Rattle.limits.specs.Limits.{most_inputs, most_gates, most_outputs, least_k, most_k, most_count, most_period, most_luts, cover_area, scratch_area, loader_area, contents_area, short_gates, short_k, most_pins, most_items, most_nodes, most_places, most_rows, most_copies, most_reach, most_beyond, most_table, most_list, most_stack, most_held, most_packed, text_room, refusal_room, line_room, input_room, most_steps, bench_input, bench_room};
@@ -204,7 +206,7 @@ pub fn agree() -> Limits
 
 // The rules of a course: whether numbers take two bytes, the most gates, the greatest k and period, the most LUTs, the bytes of cover area and scratch.
 // By value; specs/Courses.antt names the values that are offered.
-#[derive(Drop)]
+#[derive(Clone, Copy)]
 pub struct Rules {
     pub wide: bool,
     pub gates: usize,

@@ -3,6 +3,4 @@ pub mod Turnings
 pub mod TurningLaws
 pub mod ClassLaws
 pub mod ClassTable
-pub mod ClassTableLaws
 pub mod Feeding
-pub mod FeedingLaws

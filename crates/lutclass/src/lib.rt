@@ -1,4 +1,6 @@
 // Classes of three-input LUTs: the constant table, and the generator's rule.
+#![tactic(auto)]
+
 mod constants;
 
 ghost use Rattle.std.specs.Prelude.{◌≡◌, ◌<◌, min, get_or};

@@ -50,7 +50,7 @@ module _ {A B : Type 0} where
 
 pub framed_number : (w : Bool) (early bad : ℕ) (ok : ℕ → Bool) → Framed (number w early bad ok)
 framed_number false early bad ok = framed_byte early bad ok
-framed_number true early bad ok = framed_then (framed_byte early bad _) λ low. framed_then (framed_byte early bad _) λ high. framed_check (ok (low + 256 * high)) bad (low + 256 * high)
+framed_number true early bad ok = framed_then (framed_byte early bad (λ x. true)) λ low. framed_then (framed_byte early bad (λ x. true)) λ high. framed_check (ok (low + 256 * high)) bad (low + 256 * high)
 
 pub framed_times : {A : Type 0} {m : Reader A} → Framed m → (n : ℕ) → Framed (times n m)
 unfolding times

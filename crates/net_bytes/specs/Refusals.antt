@@ -40,8 +40,8 @@ module _ (P : ℕ → Type 0) where
   pub only-number : (wide : Bool) (early bad : ℕ) (ok : ℕ → Bool) (s : List ℕ) → P early → P bad → Only (number wide early bad ok s)
   only-number false early bad ok s p q = only-byte early bad ok s p q
   only-number true early bad ok s p q =
-      only_then _ _ (only-byte early bad _ s p q) λ low t.
-      only_then _ _ (only-byte early bad _ t p q) λ high u. only-check (ok (low + 256 * high)) bad (low + 256 * high) u q
+      only_then _ _ (only-byte early bad (λ x. true) s p q) λ low t.
+      only_then _ _ (only-byte early bad (λ x. true) t p q) λ high u. only-check (ok (low + 256 * high)) bad (low + 256 * high) u q
 
   pub only-times : {A : Type 0} (m : Reader A) → ((s : List ℕ) → Only (m s)) → (k : ℕ) (s : List ℕ) → Only (times k m s)
   unfolding times

@@ -113,8 +113,8 @@ number_bytes wide = cond wide 2 1
 pub short-number : (wide : Bool) (early bad : ℕ) (ok : ℕ → Bool) → Short (number_bytes wide) (λ n. ok n ≡ true) (number wide early bad ok)
 short-number false early bad ok = short-known (λ n h. h.1) (short-byte early bad ok)
 short-number true early bad ok =
-    short-then (short-byte early bad _) λ low hl.
-    short-then (short-byte early bad _) λ high hh. test (low + 256 * high) (ok (low + 256 * high)) refl
+    short-then (short-byte early bad (λ x. true)) λ low hl.
+    short-then (short-byte early bad (λ x. true)) λ high hh. test (low + 256 * high) (ok (low + 256 * high)) refl
   where
     test : (n : ℕ) (t : Bool) → ok n ≡ t → Short 0 (λ m. ok m ≡ true) (check t bad n)
     test n true e = short-check true bad n e

@@ -5,7 +5,7 @@ use Rattle.net_model.specs.Net.{Net}
 use Rattle.net_model.specs.Wired.{Wires, Wired}
 use Rattle.net_model.specs.Checks.{Loopless, AllReached, AllLeading}
 use Rattle.net_model.specs.PackedNet.{first_at, sources_at, counts_at, order_at, tops_at, outs_at, delays_at, packed_room, Apart, NetKept}
-use Rattle.label_theory.specs.Pins.{OutPath}
+use Rattle.label_theory.proofs.Pins.{OutPath}
 use Rattle.net_reader.specs.declared.NetSizes.{NetSizes}
 use Rattle.net_loops.specs.Placing.{PlaceCheck}
 use Rattle.net_reached.specs.Reaching.{ReachCheck}

@@ -1,4 +1,6 @@
 // Checks 9, 10 and 11 of a net in one slice, in this order. What they find is stored in the slice: the gates in order, the first pins, the tops. The two arrays lent have a number a gate.
+#![tactic(auto)]
+
 ghost use Rattle.std.specs.Prelude.{◌≡◌, length};
 ghost use Rattle.net_checks.specs.Graphs.{Checkable, Lent, Placed, Reached, Headed, NineTold, TenTold, ElevenTold, GraphTold};
 ghost use Rattle.net_checks.specs.Lowering.{Counting, Lowered};

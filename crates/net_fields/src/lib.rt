@@ -1,4 +1,6 @@
 // The fields of a net record and of a cover record, the bytes that may stand in them and the numbers of one or two bytes: each tested when read.
+#![tactic(auto)]
+
 ghost use Rattle.std.specs.Prelude.{◌≡◌, Bool, true, false, ◌&&◌, List, ℕ, ◌+◌, ◌*◌, ◌^◌, ◌≤◌, ◌<◌, leb, ltb, drop};
 ghost use Rattle.std.specs.Int.Count.{ones};
 ghost use Rattle.limits.specs.Limits.{depth_room, most_items, most_pins};
@@ -16,14 +18,14 @@ use limits::{
 };
 
 // How the walk ended: the record was read, or it was refused with this number.
-#[derive(Drop)]
+#[derive(Clone, Copy)]
 pub enum Verdict {
     Read,
     Refused(u8),
 }
 
 // What a byte of a net record may be.
-#[derive(Drop)]
+#[derive(Clone, Copy)]
 pub enum NetField {
     Inputs,
     Outputs,
@@ -36,7 +38,7 @@ pub enum NetField {
 }
 
 // What a number of a net record or of a cover record may be. A root has the least one allowed.
-#[derive(Drop)]
+#[derive(Clone, Copy)]
 pub enum NumberField {
     Gates,
     Source,
@@ -50,7 +52,7 @@ pub enum NumberField {
 }
 
 // What a byte of a cover record may be.
-#[derive(Drop)]
+#[derive(Clone, Copy)]
 pub enum CoverField {
     Size,
     Map,
@@ -58,7 +60,7 @@ pub enum CoverField {
 }
 
 // What a byte of a record may be.
-#[derive(Drop)]
+#[derive(Clone, Copy)]
 pub enum Field {
     Net(NetField),
     Cover(CoverField),

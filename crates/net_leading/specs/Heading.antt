@@ -5,7 +5,7 @@ use Rattle.net_model.specs.Net.{Net}
 use Rattle.net_model.specs.Arrays.{stride, pins_in}
 use Rattle.net_model.specs.Wired.{Wired}
 use Rattle.net_model.specs.Checks.{AllLeading}
-use Rattle.label_theory.specs.Pins.{OutPath}
+use Rattle.label_theory.proofs.Pins.{OutPath}
 use Rattle.sequences.specs.Tests.{Tells}
 use Rattle.net_marks.specs.Marks.{Marked, Low, Above, Fallen, unmarked}
 

@@ -11,7 +11,7 @@ use Rattle.net_model.specs.ArrayLaws.{pin_at, in_pins_in, pins_in_in}
 use Rattle.net_model.specs.Wired.{Wires, Wired}
 use Rattle.net_model.specs.WiredLaws.{wired-gate, gate-wired, wired-pin, pin-wired}
 use Rattle.net_model.specs.Checks.{Leading}
-use Rattle.label_theory.specs.Pins.{OutPath, last, then, out-path}
+use Rattle.label_theory.proofs.Pins.{OutPath, last, then, out-path}
 use Rattle.sequences.specs.Tests.{Tells}
 use Rattle.net_marks.specs.Marks.{Marked, Low, Above, Fallen, unmarked, left}
 use Rattle.net_marks.specs.MarkLaws.{low-more, gate-low, low-falls, fallen-none, fallen-one, fallen_trans, left-fits, unmarked-set, unmarked-bound}

@@ -1,4 +1,6 @@
 // Check 11 over a net's wiring, with the fewest registers from each gate to an output.
+#![tactic(auto)]
+
 ghost use Rattle.std.specs.Prelude.{◌≡◌, true, false, ◌+◌, ◌-◌, ◌*◌, ◌<◌, length, get_or};
 ghost use Rattle.net_model.specs.Wired.{Wires};
 ghost use Rattle.sequences.specs.Tests.{Tells};

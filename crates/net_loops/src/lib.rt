@@ -1,4 +1,6 @@
 // Check 9 over a net's wiring, with an order in which what drives a gate without a register stands before it. Gate g has pins[g] pins, pin j of gate g stands at PINS·g + j.
+#![tactic(auto)]
+
 ghost use Rattle.std.specs.Prelude.{◌≡◌, false, ℕ, ◌+◌, ◌-◌, ◌*◌, ◌≤◌, ◌<◌, length, get_or};
 ghost use Rattle.net_model.specs.Wired.{Wires};
 ghost use Rattle.sequences.specs.Tests.{Tells, First};

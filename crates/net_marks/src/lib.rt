@@ -1,4 +1,6 @@
 // Numbers of gates in arrays, shared by the reader and the checks 9, 10 and 11: marks, which are numbers other than 0, and numbers stored in a row.
+#![tactic(auto)]
+
 ghost use Rattle.std.specs.Prelude.{◌≡◌, true, false, ℕ, ◌+◌, ◌-◌, ◌≤◌, ◌<◌, length, get_or};
 ghost use Rattle.sequences.specs.Stored.{Stored};
 ghost use Rattle.sequences.specs.Tests.{Tells};

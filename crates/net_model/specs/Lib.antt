@@ -4,7 +4,6 @@ pub mod Copies
 pub mod Tables
 pub mod FullTables
 pub mod Runs
-pub mod CopyLaws
 pub mod Arrays
 pub mod ArrayLaws
 pub mod Wired

@@ -1,4 +1,6 @@
 // Check 10 over a net's wiring, with a rank and an input pin of each gate.
+#![tactic(auto)]
+
 ghost use Rattle.std.specs.Prelude.{◌≡◌, ℕ, ◌+◌, ◌-◌, ◌*◌, ◌≤◌, ◌<◌, length, get_or};
 ghost use Rattle.net_model.specs.Wired.{Wires};
 ghost use Rattle.sequences.specs.Tests.{First, Tells};

@@ -1,4 +1,6 @@
 // The byte walk over a net record under rules: one pass over any bytes, head, body, section and end, each byte tested when read. The net is stored in one slice of numbers and one of tables.
+#![tactic(auto)]
+
 ghost use Rattle.std.specs.Prelude.{◌≡◌, cond, ◌+◌, ◌≤◌, ◌<◌, length};
 ghost use Rattle.limits.specs.Limits.{most_gates, most_inputs, most_pins};
 ghost use Rattle.limits.specs.Courses.{Offered};
@@ -18,7 +20,7 @@ use net_rows::{GateRow, read_gate, read_output};
 use net_section::read_section;
 
 // The numbers of inputs, gates and outputs of a net.
-#[derive(Drop)]
+#[derive(Clone, Copy)]
 pub struct NetSizes {
     pub inputs: usize,
     pub gates: usize,

@@ -1,4 +1,6 @@
 // The rows of a net record: one gate, and one output.
+#![tactic(auto)]
+
 ghost use Rattle.std.specs.Prelude.{◌≡◌, List, ℕ, ◌+◌, ◌<◌};
 ghost use Rattle.std.specs.Int.Count.{ones};
 ghost use Rattle.limits.specs.Limits.{most_pins};

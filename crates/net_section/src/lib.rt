@@ -1,4 +1,6 @@
 // The last section of a net record: one byte a node, each tested when read.
+#![tactic(auto)]
+
 ghost use Rattle.net_section.specs.SectionRead.{SectionRead};
 
 use net_fields::{Field, NetField, Verdict, read_byte};

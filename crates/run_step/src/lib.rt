@@ -1,4 +1,6 @@
 // One step of a net from what is kept of its run, and the run over pairs of input bytes. A step is step 0 of the run from what is kept; its inputs are a number, input i in bit i.
+#![tactic(auto)]
+
 ghost use Rattle.std.specs.Prelude.{◌≡◌, ◌+◌, ◌*◌, ◌<◌, length};
 ghost use Rattle.run_theory.specs.BenchBytes.{pair_at, steps_of};
 ghost use Rattle.run_values.specs.Sheets.{sheet, StepReady};

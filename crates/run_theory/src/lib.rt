@@ -1,1 +1,2 @@
 // Theory only: runs of a net from its starting values, and what a program keeps of one from step to step, in specs/.
+#![tactic(auto)]

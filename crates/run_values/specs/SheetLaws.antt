@@ -22,7 +22,7 @@ use Rattle.net_reader.specs.declared.NetSizes.{NetSizes}
 use Rattle.net_checks.specs.Graphs.{sources_of, counts_of, outs_of, delays_of}
 use Rattle.run_theory.specs.Bench.{ago, Bench, Counts, value_at}
 use Rattle.run_theory.specs.BenchBytes.{section_in}
-use Rattle.run_theory.specs.BenchLaws.{bench}
+use Rattle.run_theory.proofs.BenchLaws.{bench}
 use Rattle.run_theory.specs.LevelOf.{level_of, level-rises, level-bound}
 use Rattle.run_values.specs.Sheets.{Runnable, Sheet, net_of, word_in, value_of, value_back, pin_of, told, StepReady, More, NodeAsked, NodeTold, PinAsked, PinTold, pins_now, node_measure, pin_measure}
 

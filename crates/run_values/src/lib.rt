@@ -1,5 +1,7 @@
 // The values of nodes in a step of a run: gate evaluation and pin evaluation call each other. Kept is a byte a node, as in a net's last section: its value one, two and
 // three steps back. `known` has a number a gate: 0, or 1 more than its value of this step.
+#![tactic(auto)]
+
 ghost use Rattle.std.specs.Prelude.{◌≡◌, ◌+◌, ◌≤◌, ◌<◌, length};
 ghost use Rattle.limits.specs.Limits.{most_inputs, most_count};
 ghost use Rattle.net_model.specs.Tables.{bit, as_number};

@@ -22,7 +22,7 @@ module _ {A : Type 0} where
   within_trans f g a h = g a (f a h)
 
   pub not_in_nil : {a : A} → a ∈ [] → ⊥
-  not_in_nil h = Memᴰ.not_nil h
+  not_in_nil h = Memᴰ.not-nil h
 
   -- An element equal to a member is a member.
   pub in_equal : {a b : A} {l : List A} → a ≡ b → b ∈ l → a ∈ l

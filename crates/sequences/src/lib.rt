@@ -1,1 +1,2 @@
 // Theory only: facts about lists, in specs/.
+#![tactic(auto)]

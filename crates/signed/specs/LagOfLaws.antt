@@ -4,7 +4,8 @@ use Rattle.std.proofs.Common.{sym, ap, ◌∙◌, mod-lt, div-le_self, arith}
 use Rattle.std.proofs.Math.Nat.{div-add-mod}
 use Rattle.std.specs.Int.Signed.{quot_z, rem_z, mag, mag_rem}
 use Rattle.integers.specs.Parts.{ints, +-parts, sub_parts, neg_parts, *-parts, scale}
-use Rattle.integers.specs.Lag.{lag, Lag, lag-is, lag_unique}
+use Rattle.integers.specs.Lag.{lag, Lag}
+use Rattle.integers.proofs.Lag.{lag-is, lag_unique}
 
 -- a positive remainder: the quotient
 pub lag_quot : (φ : ℕ) → 1 ≤ φ → (z : ℤ) → pos 0 <ℤ rem_z z (pos φ) → quot_z z (pos φ) ≡ lag φ z

@@ -1,4 +1,6 @@
 // Labels and lags as signed numbers. Ranges are wide enough for labels of 300 gates at periods up to 300.
+#![tactic(auto)]
+
 ghost use Rattle.std.specs.Prelude.{◌≡◌, true, false, ◌≤◌, ◌<◌, ℤ, pos, ◌+ℤ◌, ◌-ℤ◌, ◌≤ℤ◌, ◌<ℤ◌};
 ghost use Rattle.integers.specs.Lag.{lag};
 ghost use Rattle.signed.specs.Range.{Small, room};

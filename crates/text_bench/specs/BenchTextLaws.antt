@@ -19,9 +19,9 @@ use Rattle.net_reader.specs.declared.NetSizes.{NetSizes}
 use Rattle.net_checks.specs.Graphs.{outs_of, delays_of}
 use Rattle.run_theory.specs.Bench.{ago, pin_from, value_at}
 use Rattle.run_theory.specs.BenchBytes.{section_in, pair_at, pairs_in}
-use Rattle.run_theory.specs.AgoLaws.{ago-agree}
-use Rattle.run_theory.specs.BenchLaws.{bench, value_before}
-use Rattle.run_theory.specs.StepLaws.{step-pin}
+use Rattle.run_theory.proofs.AgoLaws.{ago-agree}
+use Rattle.run_theory.proofs.BenchLaws.{bench, value_before}
+use Rattle.run_theory.proofs.StepLaws.{step-pin}
 use Rattle.run_values.specs.Sheets.{Runnable, Sheet, sheet, net_of, value_of, value_back, pin_of, StepReady, More, NodeAsked, NodeTold}
 use Rattle.run_values.specs.SheetLaws.{runnable-sound, runnable-counts, sheet-bench}
 use Rattle.run_step.specs.Stepping.{Valued, RunTo}

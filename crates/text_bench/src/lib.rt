@@ -1,4 +1,6 @@
 // The text of the bench: a line of 0s and 1s for each step of a net that was read and checked, outputs in order.
+#![tactic(auto)]
+
 ghost use Rattle.std.specs.Prelude.{◌≡◌, ◌+◌, ◌<◌};
 ghost use Rattle.net_model.specs.Arrays.{net_in};
 ghost use Rattle.net_reader.specs.ReadAnswer.{arrays_of};

@@ -5,7 +5,7 @@ use Rattle.sequences.specs.Decide.{count-from, up_to}
 use Rattle.sequences.specs.Listed.{Listed, listed_next}
 use Rattle.lutclass.specs.Turnings.{class_of, generated}
 use Rattle.lutclass.specs.ClassTable.{shipped}
-use Rattle.lutclass.specs.ClassTableLaws.{shipped-generated}
+use Rattle.lutclass.proofs.ClassTableLaws.{shipped-generated}
 use Rattle.text_classes.specs.ClassText.{number_line, number_lines, class_text}
 
 -- the lines of the first n entries

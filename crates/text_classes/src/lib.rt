@@ -1,4 +1,6 @@
 // The text of the generator: the table of classes, decimal, one a line.
+#![tactic(auto)]
+
 ghost use Rattle.std.specs.Prelude.{◌+◌, ◌*◌, ◌≤◌, length};
 ghost use Rattle.cover_writer.specs.Writing.{Wrote};
 ghost use Rattle.text_digits.specs.Put.{Put};

@@ -1,4 +1,6 @@
 // Words and numbers as text, and the line of a refusal or an excess.
+#![tactic(auto)]
+
 ghost use Rattle.std.specs.Prelude.{◌≡◌, [], ◌∷◌, ◌++◌, ◌+◌, ◌-◌, ◌≤◌, ◌<◌, nat_abs, length};
 ghost use Rattle.cover_records.specs.Listing.{digit, decimal, signed, table_text, newline, refusal_text, excess_text};
 ghost use Rattle.signed.specs.Range.{Small};

@@ -1,4 +1,6 @@
 // The listing's text of the cover kept.
+#![tactic(auto)]
+
 ghost use Rattle.std.specs.Prelude.{◌+◌, ◌*◌, ◌-◌, ◌≤◌, length};
 ghost use Rattle.net_model.specs.Arrays.{copies_from};
 ghost use Rattle.cover_records.specs.Rows.{kept_in, row_room};

@@ -1,4 +1,6 @@
 // The reader's answers as lines: a batch of cases, each k, the net's length in two bytes and the net.
+#![tactic(auto)]
+
 ghost use Rattle.std.specs.Prelude.{◌≡◌, ◌≤◌, ◌<◌, length, get_or, drop};
 ghost use Rattle.net_bytes.specs.Walk.{net_reader};
 ghost use Rattle.cover_writer.specs.Writing.{Wrote};

@@ -1,0 +1,5 @@
+pub mod RunBoards
+pub mod SameInputs
+pub mod Wakes
+pub mod ContentsLaws
+pub mod ContentsNear

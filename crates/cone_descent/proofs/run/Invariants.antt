@@ -1,0 +1,17 @@
+use mathlib.Core.Path.{◌≡◌, refl, ◌∙◌}
+use Prim.Native.Nat.{◌+◌, ◌-◌, ◌*◌, ◌<◌, ◌^◌}
+use native.Mathlib.Omega.{arith}
+use lib.ListN.{length, drop}
+use Rattle.net_model.specs.PackedNet.{sources_at, counts_at}
+use Rattle.cone_descent.specs.DescentSteps.{work, Turn}
+use Rattle.cone_descent.specs.DescentStepLaws.{top-low, top-gate, top_below, top-table, top-pin, run_moved, run-denied, run-left, run-done, work-left}
+use Rattle.cone_descent.proofs.run.Given as goal
+
+abbrev pub invariant-loop-depth : goal.invariant-loop-depth
+invariant-loop-depth l =
+    Turn l.q.inputs l.q.gates l.q.width l.q.border l.q.room l.net (drop (sources_at l.q.gates) l.net) (drop (counts_at l.q.gates) l.net) l.leaf_nodes l.leaf_backs l.q.leaves (l.q.inputs + l.q.gate) l.nodes
+    l.backs l.len l.stack_nodes l.stack_backs l.turns l.depth l.seen l.marks × (length l.seen ≡ length l.initial.seen) × (length l.marks ≡ length l.initial.marks)
+
+abbrev pub decreases-loop-depth : goal.decreases-loop-depth
+decreases-loop-depth l =
+    work l.q.room (l.len + l.depth) l.turns l.depth

@@ -1,0 +1,60 @@
+use native.Mathlib.Omega.{arith}
+use Rattle.cone_copies.specs.CopyListLaws.{place, member}
+use Rattle.std.proofs.Common.{rules}
+use Rattle.cone_table.proofs.copy_word.Goals as goal
+
+pub overflow_sub-g : goal.overflow_sub-g
+overflow_sub-g c =
+    let start = c in
+    let m = member c.args.cone_nodes.now c.args.cone_backs.now c.args.s.copies c.args.p c.requires.0.bounded c.requires.2 in
+    m.low
+
+pub gather-fed-requires : goal.gather-fed-requires
+gather-fed-requires c =
+    let start = c in
+    let w = c.requires.0.wires in
+    let r = c.requires.0.room in
+    let m = member c.args.cone_nodes.now c.args.cone_backs.now c.args.s.copies c.args.p c.requires.0.bounded c.requires.2 in
+    let g = m.gate in
+    let d = w.gates in
+    let n = m.near in
+    let f = r.fits in
+    let s = w.wires.sizes in (
+      (
+        c.requires.0.few,
+        c.requires.0.leaf_nodes,
+        c.requires.0.leaf_backs,
+        let e = r.nodes in omega arith,
+        let e = r.backs in omega arith,
+        let e = c.requires.1 in
+            omega arith,
+        c.requires.0.rising,
+        c.requires.0.space,
+        λ q h. c.requires.0.marked q (omega (arith, h, c.requires.2)),
+      ),
+      λ j h. place _ j w g h,
+      omega arith,
+      w.wires.pins _ g,
+      omega arith,
+    )
+
+pub bounds-tables-g : goal.bounds-tables-g
+bounds-tables-g c =
+    let start = c in
+    let w = c.requires.0.wires in
+    let r = c.requires.0.room in
+    let m = member c.args.cone_nodes.now c.args.cone_backs.now c.args.s.copies c.args.p c.requires.0.bounded c.requires.2 in
+    let g = m.gate in
+    let d = w.gates in
+    let s = c.requires.0.tables in
+    omega arith
+
+pub bounds-net-g : goal.bounds-net-g
+bounds-net-g c =
+    let start = c in
+    let w = c.requires.0.wires in
+    let r = c.requires.0.room in
+    let m = member c.args.cone_nodes.now c.args.cone_backs.now c.args.s.copies c.args.p c.requires.0.bounded c.requires.2 in
+    let g = m.gate in
+    let s = w.wires.sizes in
+    omega arith

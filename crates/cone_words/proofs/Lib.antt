@@ -1,0 +1,2 @@
+pub mod LeafWordLaws
+pub mod WholeWordLaws

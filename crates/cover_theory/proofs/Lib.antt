@@ -1,0 +1,3 @@
+pub mod SharedLaws
+pub mod SharedCovers
+pub mod CoverLabels

@@ -1,0 +1,91 @@
+use mathlib.Core.Path.{◌≡◌, ap, ◌∙◌}
+use mathlib.Core.Bool.{false}
+use mathlib.Core.List.{List}
+use Prim.Native.Nat.{ℕ, ◌≤◌, ◌+◌, ◌*◌}
+use native.Mathlib.Omega.{arith}
+use lib.IntN.{ℤ, pos}
+use lib.ListN.{get_or}
+use mir.Syntax.{w64}
+use mir.Val.{to_z, of_z}
+use Rattle.integers.specs.Lag.{lag}
+use Rattle.net_model.specs.Arrays.{stride}
+use Rattle.cover_records.specs.Kept.{Kept, short_table}
+use Rattle.cover_records.specs.CoverBytes.{lut_bytes}
+use Rattle.cover_records.specs.Rows.{kept_in}
+use Rattle.cover_records.specs.RowLaws.{size-at, row-lent, row-whole}
+use Rattle.signed.specs.Range.{Small, room}
+use Rattle.signed.specs.RangeLaws.{back, small-fits}
+use Rattle.cover_writer.specs.Writing.{LutAsked, lut_of, GateAsked, LutHeld, Wrote}
+use Rattle.cover_writer.specs.BytesBehind.{wrote_none}
+use Rattle.cover_writer.specs.LagBytesLaws.{lag-fits}
+use Rattle.cover_writer.specs.CoverBytesLaws.{at_none, at_some}
+use Rattle.std.proofs.Common.{rules}
+use Rattle.cover_writer.proofs.write_gate.Goals as goal
+
+-- `cover_writer::write_gate` meets its contract, by the mark.
+-- what gate g needs, where its mark is not 0
+module _ (a : Kept) (g : ℕ) {area : List ℕ} (p : GateAsked a g area) (m : get_or a.marks g 0 ≡ 0 → ⊥) where
+  label : ℤ
+  label = get_or a.labels (a.inputs + g) (pos 0)
+
+  held : LutHeld a g
+  held = p.luts.each g p.gate m
+
+  lag-asked : Small (to_z w64 (of_z w64 label)) × (1 ≤ a.period) × (a.period ≤ room)
+  unfolding label
+  lag-asked = let h = p.arrays in (rw (back label (small-fits label held.label)) held.label, h.least, omega arith)
+
+  -- the lag as it was given and lent
+  lagged : (r : ℤ) → r ≡ lag a.period (to_z w64 (of_z w64 label)) → to_z w64 (of_z w64 r) ≡ lag a.period label
+  unfolding label
+  lagged r e =
+      let f = e ∙ ap (lag a.period) (back label (small-fits label held.label)) in
+      ap (λ (z : ℤ). to_z w64 (of_z w64 z)) f ∙ back (lag a.period label) (lag-fits held.small_lag)
+
+  lut-asked : LutAsked (a.inputs + g) a.nodes a.backs (stride * g) (get_or a.sizes g 0) (lag a.period label) (short_table (get_or a.sizes g 0) (get_or a.tables g 0)) area
+  unfolding label
+  lut-asked =
+      let h = p.arrays in
+      let f = held.few in
+      let i = p.gate in
+      record {
+        byte = omega arith;
+        few = held.few;
+        nodes_held = omega arith;
+        backs_held = omega arith;
+        nodes_small = held.nodes;
+        backs_small = held.backs;
+        small_lag = held.small_lag;
+        room = rw (at_some a g m) at p.room;
+      }
+
+pub returns-then-rows-g-eq0 : goal.returns-then-rows-g-eq0
+returns-then-rows-g-eq0 c =
+    let a = c.args in
+    rw (at_none (kept_in a.s.inputs a.s.gates a.s.period a.labels.now a.rows.now a.tables.now) a.g c.if-rows-g-eq0.true) (wrote_none a.area.now)
+
+pub write_lut-requires : goal.write_lut-requires
+unfolding label
+write_lut-requires c =
+    let lag-of = c.lag_of-lag in
+    let if1 = c.if-rows-g-eq0 in
+    let start = c in
+    let a = c.args in
+    let k = (kept_in a.s.inputs a.s.gates a.s.period a.labels.now a.rows.now a.tables.now) in
+    let v = lag a.s.period (get_or a.labels.now (a.s.inputs + a.g) (pos 0)) in
+    rw (c.low-table.ensures, lagged k a.g c.requires.gate_asked if1.false lag-of.result lag-of.ensures)
+    (row-lent a.s.gates a.rows.now (λ (no ba : List ℕ) (n : ℕ). LutAsked (a.s.inputs + a.g) no ba (stride * a.g) n v (short_table n (get_or a.tables.now a.g 0)) a.area.now) a.g
+    (lut-asked k a.g c.requires.gate_asked if1.false))
+
+pub returns : goal.returns
+unfolding label
+returns c =
+    let lag-of = c.lag_of-lag in
+    let if1 = c.if-rows-g-eq0 in
+    let start = c in
+    let a = c.args in
+    let k = (kept_in a.s.inputs a.s.gates a.s.period a.labels.now a.rows.now a.tables.now) in
+    let v = lag a.s.period (get_or a.labels.now (a.s.inputs + a.g) (pos 0)) in
+    rw (at_some k a.g if1.false)
+    (row-whole a.s.gates a.rows.now (λ (no ba : List ℕ) (n : ℕ). Wrote (lut_bytes false (lut_of (a.s.inputs + a.g) no ba (stride * a.g) n v (short_table n (get_or a.tables.now a.g 0)))) a.area.now c.write_lut.new.area c.write_lut.result) a.g
+    (rw (c.low-table.ensures, lagged k a.g c.requires.gate_asked if1.false lag-of.result lag-of.ensures) at c.write_lut.ensures))

@@ -1,0 +1,3 @@
+pub mod Few
+pub mod Meaning
+pub mod RestLaws

@@ -1,0 +1,8 @@
+use mathlib.Core.Path.{sym, ap, ◌∙◌}
+use Prim.Native.Nat.{ℕ, ◌/◌, ◌%◌}
+use Rattle.cut_search.specs.SearchTableLaws.{out-is}
+use Rattle.std.proofs.Common.{rules}
+use Rattle.cut_search.proofs.out_at.Goals as goal
+
+pub returns : goal.returns
+returns c = ap (λ (b : ℕ). b / 8 / 2 % 2) c.wide.ensures ∙ sym (out-is c.args.table.now c.args.c)

@@ -1,0 +1,17 @@
+pub mod BenchRunLaws
+pub mod CallLaws
+pub mod ChangeOverLaws
+pub mod Demand2
+pub mod Demand3
+pub mod ForwardEnds
+pub mod ForwardMapLaws
+pub mod ForwardTurns
+pub mod LeastLagsLaws
+pub mod LoaderAreaLaws
+pub mod MapEndsLaws
+pub mod MarkEndsLaws
+pub mod OrderLaws
+pub mod Roots
+pub mod SharedCountLaws
+pub mod ShortCourseLaws
+pub mod Certificate

@@ -1,0 +1,5 @@
+pub mod Bounds
+pub mod Exists
+pub mod Floor
+pub mod LabelDecision
+pub mod NearLaws

@@ -1,0 +1,8 @@
+use mathlib.Core.Path.{sym}
+use native.Mathlib.Omega.{arith}
+use Rattle.net_bytes.specs.Maps.{only_mask}
+use Rattle.std.proofs.Common.{rules}
+use Rattle.net_fields.proofs.within.Goals as goal
+
+pub returns : goal.returns
+returns c = rw c.wide-m.ensures (sym (only_mask 8 c.args.whole c.args.map (omega arith)))

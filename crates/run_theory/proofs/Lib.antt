@@ -1,0 +1,3 @@
+pub mod AgoLaws
+pub mod BenchLaws
+pub mod StepLaws
