@@ -38,7 +38,7 @@ fn without<'a>(words: &[&str], line: &'a str) -> &'a str {
     words.iter().fold(line, strip)
 }
 
-/// The name that a line of a specs file declares: its type follows, or parameters of a record.
+/// The name that a line of a file of specs or proofs declares: its type follows, or parameters of a record.
 fn definition(line: &str) -> Option<&str> {
     let line = without(&["abbrev ", "unfoldable ", "pub "], line.trim_start());
     let rest = without(&["record ", "data "], line);
@@ -60,13 +60,15 @@ fn item(line: &str) -> Option<&str> {
 fn known() -> BTreeSet<String> {
     let mut all = BTreeSet::new();
     for folder in listed("crates", "") {
-        for file in listed(&format!("crates/{folder}/specs"), ".antt") {
-            all.insert(format!("{folder}/{file}"));
-            all.insert(format!("{folder}/*.{file}"));
-            let text = read(&format!("crates/{folder}/specs/{file}.antt"));
-            for name in text.lines().filter_map(definition) {
-                all.insert(format!("{folder}/{file}.{name}"));
-                all.insert(format!("{folder}/*.{name}"));
+        for part in ["specs", "proofs"] {
+            for file in listed(&format!("crates/{folder}/{part}"), ".antt") {
+                all.insert(format!("{folder}/{file}"));
+                all.insert(format!("{folder}/*.{file}"));
+                let text = read(&format!("crates/{folder}/{part}/{file}.antt"));
+                for name in text.lines().filter_map(definition) {
+                    all.insert(format!("{folder}/{file}.{name}"));
+                    all.insert(format!("{folder}/*.{name}"));
+                }
             }
         }
         for file in listed(&format!("crates/{folder}/src"), ".rt") {
@@ -243,7 +245,7 @@ fn every_crate_is_described() {
         .lines()
         .filter(|line| !line.starts_with('#'))
     {
-        let folder = line.split(':').next().unwrap();
+        let folder = line.split([':', ' ']).next().unwrap();
         let own = format!("`{folder}`");
         let Some((place, row)) = rows.iter().find(|(_, row)| row[..2].contains(&own)) else {
             wrong.push(format!("docs/ARCHITECTURE.md: no row for {folder}"));
