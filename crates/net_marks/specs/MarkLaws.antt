@@ -1,11 +1,11 @@
 -- Laws of marks.
-use Rattle.std.specs.Prelude.{◌≡◌, Bool, true, false, not, List, [], ◌∷◌, ◌⊎◌, ℕ, zero, suc, ◌+◌, ◌-◌, ◌*◌, ◌≤◌, ◌<◌, eqb, length, get_or, set}
+use Rattle.std.specs.Prelude.{◌≡◌, Bool, true, false, not, List, [], ◌∷◌, ℕ, zero, suc, ◌+◌, ◌-◌, ◌*◌, ◌≤◌, ◌<◌, eqb, length, get_or, set}
 use Rattle.std.proofs.Math.Path.{refl}
 use Rattle.std.proofs.Common.{sym, ap, ◌∙◌, subst, true≢false, inl, inr, not-suc-le-zero, le_of_suc-le-suc, arith, eqb-true, length-set, get_or-set_same, get_or-set_other}
 use Rattle.std.proofs.lemmas.Bool.{false≢true, eqb-false}
 use Rattle.std.proofs.Math.Decide.{ℕ_discrete, dec_lt}
 use Rattle.sequences.specs.Keep.{keep, length-keep, length-keep_cons, bit_yes, bit_no}
-use Rattle.sequences.specs.Tests.{Tells, First}
+use Rattle.sequences.specs.Tests.{Tells}
 use Rattle.net_marks.specs.Marks.{Marked, Known, Low, Above, unmarked, room, left, Grown, Fallen}
 
 pub known-input : (I : ℕ) (m : List ℕ) (u : ℕ) → u < I → Tells true (Known I m u)

@@ -1,8 +1,7 @@
 -- Definitions: marks on gates, and what they mean to the checks.
-use Rattle.std.specs.Prelude.{◌≡◌, List, [], ◌∷◌, ◌⊎◌, ℕ, zero, suc, ◌+◌, ◌*◌, ◌≤◌, ◌<◌, length, get_or}
+use Rattle.std.specs.Prelude.{◌≡◌, List, [], ◌∷◌, ◌⊎◌, ℕ, zero, suc, ◌+◌, ◌≤◌, ◌<◌, length, get_or}
 use Rattle.std.proofs.Math.Decide.{ℕ_discrete}
 use Rattle.sequences.specs.Keep.{keep}
-use Rattle.net_model.specs.Arrays.{stride}
 
 -- gate g carries a mark
 abbrev pub Marked : List ℕ → ℕ → Type 0

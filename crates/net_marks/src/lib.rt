@@ -11,11 +11,7 @@ pub fn known(inputs: usize, seen: &[usize], node: usize) -> bool
     requires { node < inputs + length seen.now }
     ensures { Tells result (Known inputs seen.now node) }
 {
-    if node < inputs {
-        true
-    } else {
-        seen[node - inputs] != 0
-    }
+    node < inputs || seen[node - inputs] != 0
 }
 
 // Whether the first n gates are all marked.
@@ -23,25 +19,14 @@ pub fn all_marked(seen: &[usize], n: usize) -> bool
     requires { n ≤ length seen.now }
     ensures { Tells result ((g : ℕ) → g < n → Marked seen.now g) }
 {
-    let mut g = 0;
-    while g < n {
-        if seen[g] == 0 {
-            return false;
-        }
-        g += 1;
-    }
-    true
+    seen[..n].iter().all(|x| *x != 0)
 }
 
 // Sets all to 0.
 pub fn zero(seen: &mut [usize])
     ensures { (length seen.new ≡ length seen.old) × ((g : ℕ) → g < length seen.old → get_or seen.new g 0 ≡ 0) }
 {
-    let mut g = 0;
-    while g < seen.len() {
-        seen[g] = 0;
-        g += 1;
-    }
+    seen.fill(0);
 }
 
 // Stores the first n numbers of `from` at place `at`.
@@ -50,9 +35,5 @@ pub fn store(from: &[usize], n: usize, net: &mut [usize], at: usize)
     requires n_in_bounds_2 { at + n ≤ length net.old }
     ensures { Stored net.old at from.now n net.new }
 {
-    let mut i = 0;
-    while i < n {
-        net[at + i] = from[i];
-        i += 1;
-    }
+    net[at..at + n].copy_from_slice(&from[..n]);
 }
