@@ -24,21 +24,12 @@ pub fn wide(x: u8) -> usize
     x as usize
 }
 
-fn byte(x: u8) -> u32
-    ensures { (result ≡ x) × (result < 256) }
-{
-    x as u32
-}
-
 // The byte at a place, 0 where it is missing.
 pub fn byte_at(bytes: &[u8], i: usize) -> u32
     ensures value { result ≡ get_or bytes.now i 0 }
     ensures small { result < 256 }
 {
-    if i < bytes.len() {
-        return byte(bytes[i]);
-    }
-    0
+    bytes.get(i).map_or(0, |b| u32::from(*b))
 }
 
 // The place n bytes behind another, or the end.
@@ -46,10 +37,7 @@ pub fn place_behind(input: &[u8], at: usize, n: usize) -> usize
     requires { at ≤ length input.now }
     ensures { Behind input.now at n result }
 {
-    if n < input.len() - at {
-        return at + n;
-    }
-    input.len()
+    at + n.min(input.len() - at)
 }
 
 // The net's length, two bytes, low first.
@@ -58,7 +46,7 @@ pub fn net_length(input: &[u8]) -> usize
 {
     let low = byte_at(input, 1);
     let high = byte_at(input, 2);
-    word(low + 256 * high)
+    (low + 256 * high) as usize
 }
 
 // Writes bytes over the first ones of an area, which has room for them; how many there were.
