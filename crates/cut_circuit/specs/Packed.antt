@@ -1,5 +1,5 @@
 -- Definitions: the circuit of a net in one slice of numbers; what is asked of its parts, and of a slot.
-use Rattle.std.specs.Prelude.{◌≡◌, List, ℕ, suc, ◌+◌, ◌*◌, ◌/◌, ◌-◌, ◌^◌, ◌≤◌, ◌<◌, length, get_or, drop}
+use Rattle.std.specs.Prelude.{List, ℕ, suc, ◌+◌, ◌*◌, ◌/◌, ◌-◌, ◌^◌, ◌≤◌, ◌<◌, length, get_or, drop}
 use Rattle.limits.specs.Limits.{most_k}
 pub use Rattle.net_model.specs.PackedNet.{first_at, sources_at, counts_at, nexts_at, heads_at}
 use Rattle.cut_circuit.specs.Circuit.{Circuit, circuit, place, feeding_at}
@@ -31,7 +31,3 @@ pub record SlotAsked (s : Extent) (slots : List ℕ) (x : ℕ) : Type 0 where
   pub inside : x < (s.inputs + s.gates) * s.width
   pub room : suc most_k * s.gates ≤ length slots
   pub held : (g : ℕ) → g < s.gates → get_or slots g 0 ≤ most_k
-
--- None of the i numbers from place a is d.
-abbrev pub Unheld : List ℕ → ℕ → ℕ → ℕ → Type 0
-Unheld slots a d i = (j : ℕ) → j < i → ¬ (get_or slots (a + j) 0 ≡ d)

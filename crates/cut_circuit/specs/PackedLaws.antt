@@ -1,11 +1,14 @@
 -- Laws of the packed arrays and of the slots.
-use Rattle.std.specs.Prelude.{◌≡◌, refl, List, [], ◌∷◌, ℕ, zero, suc, ◌+◌, ◌*◌, ◌/◌, ◌%◌, ◌-◌, ◌^◌, ◌≤◌, ◌<◌, length, get_or, drop, take}
-use Rattle.std.proofs.Common.{sym, ap, subst, ◌∙◌, not-suc-le-zero, arith, length-drop, get_or-drop}
-use Rattle.std.proofs.Math.Decide.{ℕ_discrete}
+use Rattle.std.specs.Prelude.{◌≡◌, refl, true, false, List, [], ◌∷◌, ℕ, zero, suc, ◌+◌, ◌*◌, ◌/◌, ◌%◌, ◌-◌, ◌^◌, ◌≤◌, ◌<◌, length, get_or, drop, take}
+use Rattle.std.proofs.Common.{sym, ap, subst, ◌∙◌, not-suc-le-zero, arith, length-drop, length-take, get_or-drop, get_or-take, eqb, eq-eqb, eqb-true}
+use Rattle.std.proofs.lemmas.Bool.{false≢true}
+use Rattle.std.specs.List.{list_any}
+use Rattle.std.proofs.lemmas.List.{get_or_default}
+use Rattle.std.proofs.lemmas.List.Folds.{Any-from_list_any, list_any_at}
 use Rattle.limits.specs.Limits.{most_k, most_pins}
 use Rattle.cut_circuit.specs.Circuit.{ending_at, feeding_at, among, forced_at}
-use Rattle.cut_circuit.specs.CircuitLaws.{node-below, held_place, held-forced}
-use Rattle.cut_circuit.specs.Packed.{packed_of, first_at, sources_at, counts_at, GateAsked, SourceAsked, SlotAsked, Unheld}
+use Rattle.cut_circuit.specs.CircuitLaws.{node-below, place-held, held_place, held-forced}
+use Rattle.cut_circuit.specs.Packed.{packed_of, first_at, sources_at, counts_at, GateAsked, SourceAsked, SlotAsked}
 use Rattle.cut_circuit.specs.declared.Extent.{Extent}
 
 -- a part up to the end
@@ -59,22 +62,31 @@ module _ {s : Extent} {slots : List ℕ} {x : ℕ} (a : SlotAsked s slots x) (e 
   pub slot-forced : forced_at s.inputs s.gates s.width s.border slots x ≡ among slots (s.gates + most_k * gate) (get_or slots gate 0) (x % s.width)
   slot-forced = held-forced s.inputs s.gates s.width s.border slots x a.inside e
 
-pub unheld-none : (slots : List ℕ) (a d : ℕ) → Unheld slots a d 0
-unheld-none slots a d j h = absurd (not-suc-le-zero h)
+-- a number found among so many places, or not
+module _ (slots : List ℕ) (a n d : ℕ) (inside : a + n ≤ length slots) where
+  abbrev part : List ℕ
+  part = take (a + n - a) (drop a slots)
 
-pub unheld-more : (slots : List ℕ) (a d i : ℕ) → Unheld slots a d i → ¬ (get_or slots (a + i) 0 ≡ d) → Unheld slots a d (i + 1)
-unheld-more slots a d i u n j h = go (ℕ_discrete j i)
-  where
-    go : Dec (j ≡ i) → ¬ (get_or slots (a + j) 0 ≡ d)
-    go (yes e) = λ q. n (ap (λ (k : ℕ). get_or slots (a + k) 0) (sym e) ∙ q)
-    go (no m) = u j (omega (arith, h, m))
+  length-part : length part ≡ n
+  length-part = simp (length-take, length-drop) (omega arith)
 
-pub unheld-all : (slots : List ℕ) (a n d i : ℕ) → n ≤ i → Unheld slots a d i → among slots a n d ≡ 0
-unheld-all slots a n d i h u = go (among slots a n d) refl
-  where
-    go : (m : ℕ) → among slots a n d ≡ m → among slots a n d ≡ 0
-    go zero q = q
-    go (suc m) q = let r = held_place slots a n d (omega (arith, q)) in absurd (u r.0 (omega (arith, r.1, h)) r.2)
+  at-part : (i : ℕ) → i < n → get_or part i 0 ≡ get_or slots (a + i) 0
+  at-part i h = get_or-take (a + n - a) (drop a slots) i 0 (omega (arith, h)) ∙ get_or-drop a slots i 0
+
+  pub any-held : list_any (λ x. eqb x d) part ≡ true → 0 < among slots a n d
+  any-held h =
+      let r = Any-from_list_any (λ x. eqb x d) part h in
+      let i : r.0 < n = omega (arith, r.2, length-part) in
+      place-held slots a n d r.0 i (sym (at-part r.0 i) ∙ (get_or_default part r.0 0 r.1 r.2 ∙ (r.3 ∙ eqb-true r.1 d r.4)))
+
+  pub none-held : list_any (λ x. eqb x d) part ≡ false → among slots a n d ≡ 0
+  none-held h = go (among slots a n d) refl
+    where
+      go : (m : ℕ) → among slots a n d ≡ m → among slots a n d ≡ 0
+      go zero q = q
+      go (suc m) q =
+          let r = held_place slots a n d (omega (arith, q)) in
+          absurd (false≢true (sym h ∙ list_any_at (λ x. eqb x d) part r.0 0 (omega (arith, r.1, length-part)) (eq-eqb (get_or part r.0 0) d (at-part r.0 r.1 ∙ r.2))))
 
 -- ---- what is asked of pins does not speak of slots
 pub source-plain : {s : Extent} {net slots : List ℕ} {x j : ℕ} → SourceAsked (packed_of s net slots) x j → SourceAsked (packed_of s net []) x j

@@ -1,5 +1,5 @@
 -- Laws of the chains, place by place.
-use Rattle.std.specs.Prelude.{◌≡◌, refl, ℕ, suc, ◌+◌, ◌*◌, ◌/◌, ◌%◌, ◌≤◌, ◌<◌, length, drop}
+use Rattle.std.specs.Prelude.{◌≡◌, ℕ, suc, ◌+◌, ◌*◌, ◌/◌, ◌%◌, ◌≤◌, ◌<◌, length, drop}
 use Rattle.std.proofs.Common.{sym, subst, ◌∙◌, not-suc-le-zero, add-one, arith, length-drop, get_or-set_same, get_or-drop, drop-set-lt}
 use Rattle.std.proofs.Math.Path.{ap}
 use mathlib.Core.List.{List}
@@ -8,11 +8,10 @@ use Rattle.std.proofs.Math.ListN.{get_or, set, length-set}
 use Rattle.std.proofs.Math.Seq.{get_or-set_other, drop-set-add}
 use Rattle.limits.specs.Limits.{most_pins}
 use Rattle.net_model.specs.PackedNet.{sources_at, nexts_at, heads_at, Apart}
-use Rattle.net_model.specs.PackedNetLaws.{length_part, part_same, apart-refl}
-use Rattle.cut_circuit.specs.Circuit.{Circuit}
+use Rattle.net_model.specs.PackedNetLaws.{length_part, part_same}
 use Rattle.cut_circuit.specs.Chains.{Chain, found, further, Chains}
 use Rattle.cut_circuit.specs.Packed.{packed_of}
-use Rattle.cut_circuit.specs.PinLinks.{LinkAsked, Linked, LinkedIn, PlaceAsked, PlaceLinked, Emptied, Links}
+use Rattle.cut_circuit.specs.PinLinks.{LinkAsked, Linked, LinkedIn, PlaceAsked, PlaceLinked, Emptied}
 use Rattle.cut_circuit.specs.declared.Extent.{Extent}
 
 -- A chain below place n is not touched by a store there.
@@ -229,23 +228,6 @@ linked-none {gates = gates} {net' = net'} f = record {
 
 pub emptied_apart : (nodes gates : ℕ) {net net' : List ℕ} → Emptied net net' (heads_at gates) nodes → Apart (nexts_at gates) (heads_at gates + nodes) net net'
 emptied_apart nodes gates f = record { below = λ i h. f.apart.below i (omega (arith, h)); above = f.apart.above; long = f.apart.long }
-
-pub emptied_none : (net : List ℕ) (at : ℕ) → Emptied net net at 0
-emptied_none net at = record { zero = λ u h. absurd (not-suc-le-zero h); apart = apart-refl at (at + 0) net }
-
-pub emptied_step : (net net' : List ℕ) (at u : ℕ) → at + u < length net → Emptied net net' at u → Emptied net (set net' (at + u) 0) at (u + 1)
-emptied_step net net' at u h f = record {
-  zero = λ s k. go s k (ℕ_discrete s u);
-  apart = record {
-    below = λ i k. get_or-set_other net' (at + u) i 0 0 (omega arith) ∙ f.apart.below i k;
-    above = λ i k. get_or-set_other net' (at + u) i 0 0 (omega arith) ∙ f.apart.above i (omega (arith, k));
-    long = length-set net' (at + u) 0 ∙ f.apart.long;
-  };
-}
-  where
-    go : (s : ℕ) → s < u + 1 → Dec (s ≡ u) → get_or (set net' (at + u) 0) (at + s) 0 ≡ 0
-    go s k (yes e) = ap (λ (q : ℕ). get_or (set net' (at + u) 0) (at + q) 0) e ∙ get_or-set_same net' (at + u) 0 0 (omega (arith, h, f.apart.long))
-    go s k (no n) = get_or-set_other net' (at + u) (at + s) 0 0 (omega (arith, n)) ∙ f.zero s (omega (arith, k, n))
 
 -- Linked places are chains.
 pub chains : (s : Extent) (net slots : List ℕ) → LinkAsked (s.inputs + s.gates) s.gates net → LinkedIn (s.inputs + s.gates) s.gates net (most_pins * s.gates) → Chains (packed_of s net slots)

@@ -1,9 +1,10 @@
 // The extent of the expanded circuit, and the chains of the pins that read a node.
 #![tactic(auto)]
 
-ghost use Rattle.std.specs.Prelude.{◌≡◌, true, false, ◌+◌, ◌-◌, ◌*◌, ◌/◌, ◌^◌, ◌≤◌, ◌<◌, [], length, get_or, set, drop};
+ghost use Rattle.std.specs.Prelude.{◌≡◌, ◌==◌, true, false, ◌+◌, ◌-◌, ◌*◌, ◌/◌, ◌^◌, ◌≤◌, ◌<◌, [], length, get_or, set, drop};
+ghost use Rattle.std.specs.List.{list_any};
 ghost use Rattle.limits.specs.Limits.{most_pins};
-ghost use Rattle.cut_circuit.specs.Circuit.{feeding_at, among, forced_at};
+ghost use Rattle.cut_circuit.specs.Circuit.{feeding_at, forced_at};
 ghost use Rattle.cut_circuit.specs.Packed.{packed_of, first_at, sources_at, counts_at, GateAsked, SourceAsked, SlotAsked};
 ghost use Rattle.cut_circuit.specs.PinLinks.{Emptied, LinkAsked, PlaceAsked, PlaceLinked, LinkedIn, Links};
 
@@ -26,11 +27,7 @@ fn empty_heads(net: &mut [usize], at: usize, nodes: usize)
     requires { at + nodes ≤ length net.old }
     ensures { Emptied net.old net.new at nodes }
 {
-    let mut u = 0;
-    while u < nodes {
-        net[at + u] = 0;
-        u += 1;
-    }
+    net[at..at + nodes].fill(0);
 }
 
 // A pin at place p stands before those that read its node so far.
@@ -54,10 +51,8 @@ fn link_places(nodes: usize, gates: usize, net: &mut [usize])
     requires { LinkAsked nodes gates net.old × LinkedIn nodes gates net.old 0 }
     ensures { Links nodes gates net.old net.new }
 {
-    let mut p = 0;
-    while p < PINS * gates {
+    for p in 0..PINS * gates {
         link_place(nodes, gates, net, p);
-        p += 1;
     }
 }
 
@@ -119,20 +114,11 @@ pub fn put_number(list: &mut [u32], i: usize, n: usize)
     list[i] = n as u32;
 }
 
-// Whether d is one of the n numbers from place a.
-fn held(slots: &[u32], a: usize, n: usize, d: usize) -> bool
-    requires { a + n ≤ length slots.now }
-    ensures yes { result ≡ true → 0 < among slots.now a n d }
-    ensures no { result ≡ false → among slots.now a n d ≡ 0 }
+// Whether d is one of the numbers.
+fn held(numbers: &[u32], d: usize) -> bool
+    ensures { result ≡ list_any (λ x. x == d) numbers.now }
 {
-    let mut i = 0;
-    while i < n {
-        if number_at(slots, a + i) == d {
-            return true;
-        }
-        i += 1;
-    }
-    false
+    numbers.iter().any(|x| word(*x) == d)
 }
 
 // Whether the copy x stands in one of its gate's slots.
@@ -151,5 +137,6 @@ pub fn is_forced(s: Extent, slots: &[u32], x: usize) -> bool
     }
     let g = u - s.inputs;
     let n = number_at(slots, g);
-    held(slots, s.gates + SLOTS * g, n, d)
+    let at = s.gates + SLOTS * g;
+    held(&slots[at..at + n], d)
 }

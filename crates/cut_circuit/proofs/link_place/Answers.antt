@@ -1,7 +1,6 @@
 use native.Mathlib.Omega.{arith}
 use lib.ListN.{length-set}
 use Rattle.cut_circuit.specs.PinLinksLaws.{place-node, place-skip, place-pin}
-use Rattle.std.proofs.Common.{rules}
 use Rattle.cut_circuit.proofs.link_place.Goals as goal
 
 pub returns-then-net-g : goal.returns-then-net-g
