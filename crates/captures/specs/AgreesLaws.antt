@@ -1,7 +1,7 @@
 -- Laws of the overlap and of agreement: how many steps overlap; agreement is decided.
 use Rattle.std.specs.Prelude.{◌≡◌, List, length, get_or}
 use Rattle.std.proofs.Math.Path.{refl}
-use Prim.Native.Nat.{ℕ, zero, suc, ◌+◌, ◌-◌, ◌≤◌, ◌<◌, suc-le-suc}
+use Prim.Native.Nat.{ℕ, zero, suc, ◌+◌, ◌≤◌, ◌<◌, suc-le-suc}
 use Rattle.std.proofs.Common.{le_of_suc-le-suc}
 use Rattle.std.proofs.Math.Decide.{ℕ_discrete, dec_le, dec_lt}
 use native.Mathlib.Omega.{arith}

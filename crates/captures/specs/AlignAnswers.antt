@@ -1,10 +1,11 @@
 -- Definitions: E10's answer for each case of align's.
+use Rattle.std.specs.Prelude.{ℕ, Result, Ok, Err, Option, Some, None}
+use Rattle.refusals.specs.declared.Refusal.{Refusal}
+use Rattle.refusals.specs.Refusals.{number_of}
 use Rattle.captures.specs.AlignOutcome.{Aligned, shifted, none, refused}
-use Rattle.captures.specs.declared.Alignment.TheVariants.{Shift, Nothing, Refused}
-use Rattle.captures.specs.declared.Alignment as declared
 
 -- "the smallest shift"; "the reply is none"; "Answers: 23"
-abbrev pub aligned_of : declared.Alignment → Aligned
-aligned_of (Shift s) = shifted s
-aligned_of Nothing = none
-aligned_of (Refused n) = refused n
+abbrev pub aligned_of : Result (Option ℕ) Refusal → Aligned
+aligned_of (Ok (Some s)) = shifted s
+aligned_of (Ok None) = none
+aligned_of (Err e) = refused (number_of e)

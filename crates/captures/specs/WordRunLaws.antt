@@ -1,8 +1,12 @@
 -- Laws of runs of words: at the start, one word on, one run on, at the end of the overlap.
 use Rattle.std.specs.Prelude.{◌≡◌, refl, Bool, true, false, ◌&&◌, List, ℕ, ◌+◌, ◌-◌, ◌≤◌, ◌<◌, eqb, length, get_or}
-use Rattle.std.proofs.Common.{subst, arith, eqb-true}
+use Rattle.std.specs.Cmp.Lexicographic.{pointwise}
+use Rattle.std.proofs.Common.{sym, ap, ◌∙◌, subst, take, drop, true≢false, arith, eqb-true, length-take, length-drop, get_or-take, get_or-drop}
 use Rattle.std.proofs.Math.Decide.{dec_lt}
 use Rattle.std.proofs.lemmas.Bool.{eqb-false}
+use Rattle.std.proofs.lemmas.Bool.Decides.{Decides-eqb}
+use Rattle.std.proofs.lemmas.Grind.{same_number_lists}
+use Rattle.std.proofs.lemmas.Slice.Eq.{slice_eq-Decides}
 use Rattle.sequences.specs.Tests.{Tells}
 use Rattle.sequences.specs.TestLaws.{tells_no, tells_yes}
 use Rattle.captures.specs.Captures.{least_overlap, overlap, Agrees}
@@ -54,3 +58,39 @@ module _ (first second : List ℕ) (s : ℕ) where
 
   pub all_same : least_overlap ≤ overlap first second s → Same first second s 0 (overlap first second s) → Tells true (Agrees first second s)
   all_same h x = tells_yes (record { enough = h; same = λ i k l. x.words i (omega arith) (overlap_in first second s i k l) })
+
+  -- a run at the start, as two ranges that are equal
+  module _ (n m : ℕ) (e : m ≡ n) (h : n ≤ length second) (k : n + s ≤ length first) where
+    one-range : take n second ≡ take m (drop s first) → Same first second s 0 n
+    one-range q = record { words = λ j l i. at j i }
+      where
+        at : (j : ℕ) → j < n → get_or second j 0 ≡ get_or first (j + s) 0
+        at j i =
+            let t : j < m = omega arith in
+            let w = ap (λ (x : List ℕ). get_or x j 0) q in
+            let x = get_or-take n second j 0 i in
+            let y = get_or-take m (drop s first) j 0 t in
+            let z = get_or-drop s first j 0 in
+            let c : s + j ≡ j + s = omega arith in
+            sym x ∙ w ∙ y ∙ z ∙ ap (λ (x : ℕ). get_or first x 0) c
+
+    two_ranges : Same first second s 0 n → take n second ≡ take m (drop s first)
+    two_ranges x = same_number_lists (take n second) (take m (drop s first)) simp (length-take, length-drop) (omega arith) at
+      where
+        at : (j : ℕ) → j < length (take n second) → get_or (take n second) j 0 ≡ get_or (take m (drop s first)) j 0
+        at j i =
+            let l : j < n = omega (arith, simp length-take at i) in
+            let t : j < m = omega arith in
+            let c : j + s ≡ s + j = omega arith in
+            get_or-take n second j 0 l ∙ x.words j (omega arith) l ∙ ap (λ (x : ℕ). get_or first x 0) c
+            ∙ sym (get_or-take m (drop s first) j 0 t ∙ get_or-drop s first j 0)
+
+    pub ranges_tell : (r : Bool) → r ≡ pointwise eqb (take n second) (take m (drop s first)) → Tells r (Same first second s 0 n)
+    ranges_tell r q =
+        let d = slice_eq-Decides Decides-eqb (take n second) (take m (drop s first)) r q in
+        record { holds = λ t. one-range (d.0 t); fails = λ f x. true≢false (sym (d.1 (two_ranges x)) ∙ f) }
+
+  -- what the run of the whole overlap tells, where that is long enough
+  pub whole_run : {r : Bool} → least_overlap ≤ overlap first second s → Tells r (Same first second s 0 (overlap first second s)) → Tells r (Agrees first second s)
+  whole_run {r = true} h t = all_same h (t.holds refl)
+  whole_run {r = false} h t = run_differs 0 (overlap first second s) (omega arith) (t.fails refl)

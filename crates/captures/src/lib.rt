@@ -8,6 +8,8 @@ ghost use Rattle.captures.specs.AlignOutcome.{align_outcome};
 ghost use Rattle.captures.specs.AlignAnswers.{aligned_of};
 ghost use Rattle.captures.specs.WordRuns.{Same};
 
+use refusals::Refusal;
+
 // specs/Captures.antt has the same numbers as definitions; `agree` is proved.
 pub const WORDS: usize = 4096;
 
@@ -41,54 +43,22 @@ pub fn agree() -> Limits
     }
 }
 
-// The shift, none, or the number of a refusal.
-#[derive(Drop)]
-pub enum Alignment {
-    Shift(usize),
-    Nothing,
-    Refused(u8),
-}
-
 // How many steps overlap.
 fn overlap_at(first: &[u16], second: &[u16], s: usize) -> usize
     ensures { result ≡ overlap first.now second.now s }
 {
-    if first.len() <= s {
-        return 0;
-    }
-    let left = first.len() - s;
-    if left < second.len() {
-        return left;
-    }
-    second.len()
+    first.len().saturating_sub(s).min(second.len())
 }
 
-// Whether the words of the second from i to e agree with those of the first, s on. Without a way out between them many words are compared at a time.
-fn same(first: &[u16], second: &[u16], s: usize, i: usize, e: usize) -> bool
-    requires { (i ≤ e) × (e ≤ length second.now) × (e + s ≤ length first.now) }
-    ensures { Tells result (Same first.now second.now s i e) }
+// Whether the first n words of the second are those of the first from s on.
+fn same(first: &[u16], second: &[u16], s: usize, n: usize) -> bool
+    requires { (n ≤ length second.now) × (n + s ≤ length first.now) }
+    ensures { Tells result (Same first.now second.now s 0 n) }
 {
-    let mut all = true;
-    let mut j = i;
-    while j < e {
-        all = all & (second[j] == first[j + s]);
-        j += 1;
-    }
-    all
+    second[..n] == first[s..s + n]
 }
 
-// Where the run of words from place i ends: it is as long as what agreed before it, and one more.
-fn stop(i: usize, n: usize) -> usize
-    requires { i < n }
-    ensures { (i < result) × (result ≤ n) }
-{
-    if n - i <= i {
-        return n;
-    }
-    i + i + 1
-}
-
-// Whether the captures agree at a shift; the first run with a mismatch ends it.
+// Whether the captures agree at a shift.
 fn agrees(first: &[u16], second: &[u16], s: usize) -> bool
     ensures { Tells result (Agrees first.now second.now s) }
 {
@@ -96,33 +66,23 @@ fn agrees(first: &[u16], second: &[u16], s: usize) -> bool
     if n < OVERLAP {
         return false;
     }
-    let mut i = 0;
-    while i < n {
-        let e = stop(i, n);
-        if !same(first, second, s, i, e) {
-            return false;
-        }
-        i = e;
-    }
-    true
+    same(first, second, s, n)
 }
 
-// The smallest shift at which the captures agree, none, or 23.
-pub fn align(first: &[u16], second: &[u16]) -> Alignment
+// The smallest shift at which the captures agree, none, or that a capture is too long.
+pub fn align(first: &[u16], second: &[u16]) -> Result<Option<usize>, Refusal>
     ensures { align_outcome first.now second.now ≡ aligned_of result }
 {
     if WORDS < first.len() {
-        return Alignment::Refused(23);
+        return Err(Refusal::LongCapture);
     }
     if WORDS < second.len() {
-        return Alignment::Refused(23);
+        return Err(Refusal::LongCapture);
     }
-    let mut s = 0;
-    while s <= SHIFT {
+    for s in 0..=SHIFT {
         if agrees(first, second, s) {
-            return Alignment::Shift(s);
+            return Ok(Some(s));
         }
-        s += 1;
     }
-    Alignment::Nothing
+    Ok(None)
 }

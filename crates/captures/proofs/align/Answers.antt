@@ -1,9 +1,5 @@
-use Prim.Native.Nat.{ℕ, suc, ◌-◌, ◌≤◌, ◌<◌}
 use native.Mathlib.Omega.{arith}
-use borrow.Author.Count.{below_more}
-use Rattle.captures.specs.Captures.{most_shift, Agrees}
 use Rattle.captures.proofs.CaptureLaws.{first-long, second-long, first-agrees, none-agrees}
-use Rattle.std.proofs.Common.{rules}
 use Rattle.captures.proofs.align.Goals as goal
 
 pub returns-then-first-gt-WORDS : goal.returns-then-first-gt-WORDS
@@ -21,7 +17,7 @@ returns-then-agrees c =
     let x = c.if-first-gt-WORDS.false in
     let y = c.if-second-gt-WORDS.false in
     let z = c.agrees.ensures.holds c.if-agrees.true in
-    first-agrees a.first.now a.second.now (omega (arith, x)) (omega (arith, y)) l.s (omega (arith, c.loop-s-test.true)) z l.invariant.1
+    first-agrees a.first.now a.second.now (omega (arith, x)) (omega (arith, y)) l.s (omega arith) z l.invariant
 
 pub returns : goal.returns
 returns c =
@@ -29,4 +25,4 @@ returns c =
     let l = c.loop-s in
     let x = c.if-first-gt-WORDS.false in
     let y = c.if-second-gt-WORDS.false in
-    none-agrees a.first.now a.second.now (omega (arith, x)) (omega (arith, y)) (λ s h. l.invariant.1 s (omega arith))
+    none-agrees a.first.now a.second.now (omega (arith, x)) (omega (arith, y)) (λ s h. l.invariant s (omega arith))
