@@ -1,131 +1,75 @@
-// Check 9 over a net's wiring, with an order in which what drives a gate without a register stands before it. Gate g has pins[g] pins, pin j of gate g stands at PINS·g + j.
+// Check 9 over a net's wiring, with an order in which what drives a gate without a register stands before it.
 #![tactic(auto)]
 
-ghost use Rattle.std.specs.Prelude.{◌≡◌, false, ℕ, ◌+◌, ◌-◌, ◌*◌, ◌≤◌, ◌<◌, length, get_or};
+ghost use Rattle.std.specs.Prelude.{◌≡◌, ℕ, ◌<◌, length, get_or, if◌then◌else◌};
 ghost use Rattle.net_model.specs.Wired.{Wires};
-ghost use Rattle.sequences.specs.Tests.{Tells, First};
-ghost use Rattle.net_marks.specs.Marks.{Known};
-ghost use Rattle.net_loops.specs.Placing.{Placing, PlaceGate, PlaceSweep, Placed, PlaceCheck};
+ghost use Rattle.sequences.specs.Tests.{Tells};
+ghost use Rattle.net_loops.specs.Placing.{OpenPin, Placing, PlaceGate, PlaceSweep, Placed, PlaceCheck};
 
 use limits::PINS;
-use net_marks::{all_marked, known, zero};
+use net_marks::{Wiring, all_marked, known, zero};
 
-// Whether a pin has no register and a source that is not known.
-fn open_pin(inputs: usize, seen: &[usize], node: usize, count: usize) -> bool
-    requires { node < inputs + length seen.now }
-    ensures { Tells result ((count ≡ 0) × (¬ Known inputs seen.now node)) }
+// Whether pin j of gate g has no register and a source that is not known.
+fn open_pin(w: Wiring, seen: &[usize], g: usize, j: usize) -> bool
+    requires { Wires w.inputs w.gates w.pins.now w.sources.now w.counts.now × (g < w.gates) × (j < get_or w.pins.now g 0) × (length seen.now ≡ w.gates) }
+    ensures { Tells result (OpenPin w.entry.inputs seen.now w.entry.sources.now w.entry.counts.now g j) }
 {
-    if count == 0 {
-        !known(inputs, seen, node)
-    } else {
-        false
-    }
+    let at = PINS * g + j;
+    w.counts[at] == 0 && !known(w.inputs, seen, w.sources[at])
 }
 
-// The first open one of n pins from place `at` on, or n.
-fn first_open(
-    inputs: usize,
-    seen: &[usize],
-    sources: &[usize],
-    counts: &[usize],
-    at: usize,
-    n: usize,
-) -> usize
-    requires { (at + n ≤ length sources.now) × (at + n ≤ length counts.now) × ((j : ℕ) → j < n → get_or sources.now (at + j) 0 < inputs + length seen.now) }
-    ensures { First (λ j. (get_or counts.now (at + j) 0 ≡ 0) × (¬ Known inputs seen.now (get_or sources.now (at + j) 0))) n result }
+// Whether gate g has an open pin.
+fn has_open_pin(w: Wiring, seen: &[usize], g: usize) -> bool
+    requires { Wires w.inputs w.gates w.pins.now w.sources.now w.counts.now × (g < w.gates) × (length seen.now ≡ w.gates) }
+    ensures { Tells result ((j : ℕ) × (j < get_or w.entry.pins.now g 0) × OpenPin w.entry.inputs seen.now w.entry.sources.now w.entry.counts.now g j) }
 {
-    let mut j = 0;
-    while j < n {
-        let node = sources[at + j];
-        let count = counts[at + j];
-        if open_pin(inputs, seen, node, count) {
-            return j;
+    for j in 0..w.pins[g] {
+        if open_pin(w, seen, g, j) {
+            return true;
         }
-        j += 1;
     }
-    n
+    false
 }
 
-// Places gate g behind the `placed` gates so far if all its sources without registers are known: 1 if it is newly placed.
-fn place_gate(
-    inputs: usize,
-    gates: usize,
-    pins: &[usize],
-    sources: &[usize],
-    counts: &[usize],
-    seen: &mut [usize],
-    order: &mut [usize],
-    placed: usize,
-    g: usize,
-) -> usize
-    requires { Wires inputs gates pins.now sources.now counts.now × (g < gates) × Placing inputs gates pins.now sources.now counts.now seen.old order.old placed }
-    ensures { PlaceGate inputs gates pins.now sources.now counts.now seen.old order.old seen.new order.new placed g result }
+// Places gate g behind the `placed` gates so far if all its sources without registers are known: whether it is newly placed.
+fn place_gate(w: Wiring, seen: &mut [usize], order: &mut [usize], placed: usize, g: usize) -> bool
+    requires { Wires w.inputs w.gates w.pins.now w.sources.now w.counts.now × (g < w.gates) × Placing w.inputs w.gates w.pins.now w.sources.now w.counts.now seen.old order.old placed }
+    ensures { PlaceGate w.entry.inputs w.entry.gates w.entry.pins.now w.entry.sources.now w.entry.counts.now seen.old order.old seen.new order.new placed g (if result then 1 else 0) }
 {
     if seen[g] != 0 {
-        return 0;
+        return false;
     }
-    let n = pins[g];
-    let j = first_open(inputs, seen, sources, counts, PINS * g, n);
-    if j < n {
-        0
-    } else {
-        seen[g] = placed + 1;
-        order[placed] = g;
-        1
+    if has_open_pin(w, seen, g) {
+        return false;
     }
+    seen[g] = placed + 1;
+    order[placed] = g;
+    true
 }
 
 // One sweep over all gates: how many are newly placed.
-fn place_sweep(
-    inputs: usize,
-    gates: usize,
-    pins: &[usize],
-    sources: &[usize],
-    counts: &[usize],
-    seen: &mut [usize],
-    order: &mut [usize],
-    placed: usize,
-) -> usize
-    requires { Wires inputs gates pins.now sources.now counts.now × Placing inputs gates pins.now sources.now counts.now seen.old order.old placed }
-    ensures { PlaceSweep inputs gates pins.now sources.now counts.now seen.old seen.new order.new placed gates result }
+fn place_sweep(w: Wiring, seen: &mut [usize], order: &mut [usize], placed: usize) -> usize
+    requires { Wires w.inputs w.gates w.pins.now w.sources.now w.counts.now × Placing w.inputs w.gates w.pins.now w.sources.now w.counts.now seen.old order.old placed }
+    ensures { PlaceSweep w.entry.inputs w.entry.gates w.entry.pins.now w.entry.sources.now w.entry.counts.now seen.old seen.new order.new placed w.entry.gates result }
 {
     let mut new = 0;
-    let mut g = 0;
-    while g < gates {
-        let r = place_gate(
-            inputs,
-            gates,
-            pins,
-            sources,
-            counts,
-            seen,
-            order,
-            placed + new,
-            g,
-        );
-        new += r;
-        g += 1;
+    for g in 0..w.gates {
+        if place_gate(w, seen, order, placed + new, g) {
+            new += 1;
+        }
     }
     new
 }
 
 // Sweeps until nothing is newly placed.
-fn place_all(
-    inputs: usize,
-    gates: usize,
-    pins: &[usize],
-    sources: &[usize],
-    counts: &[usize],
-    seen: &mut [usize],
-    order: &mut [usize],
-)
-    requires { Wires inputs gates pins.now sources.now counts.now × Placing inputs gates pins.now sources.now counts.now seen.old order.old 0 }
-    ensures { Placed inputs gates pins.now sources.now counts.now seen.new order.new }
+fn place_all(w: Wiring, seen: &mut [usize], order: &mut [usize])
+    requires { Wires w.inputs w.gates w.pins.now w.sources.now w.counts.now × Placing w.inputs w.gates w.pins.now w.sources.now w.counts.now seen.old order.old 0 }
+    ensures { Placed w.entry.inputs w.entry.gates w.entry.pins.now w.entry.sources.now w.entry.counts.now seen.new order.new }
 {
-    let mut new = place_sweep(inputs, gates, pins, sources, counts, seen, order, 0);
+    let mut new = place_sweep(w, seen, order, 0);
     let mut placed = new;
     while 0 < new {
-        new = place_sweep(inputs, gates, pins, sources, counts, seen, order, placed);
+        new = place_sweep(w, seen, order, placed);
         placed += new;
     }
 }
@@ -144,6 +88,13 @@ pub fn check_loops(
     ensures { PlaceCheck inputs gates pins.now sources.now counts.now seen.new order.new result }
 {
     zero(seen);
-    place_all(inputs, gates, pins, sources, counts, seen, order);
+    let w = Wiring {
+        inputs,
+        gates,
+        pins,
+        sources,
+        counts,
+    };
+    place_all(w, seen, order);
     all_marked(seen, gates)
 }

@@ -1,10 +1,20 @@
-// Numbers of gates in arrays, shared by the reader and the checks 9, 10 and 11: marks, which are numbers other than 0, and numbers stored in a row.
+// What the reader and the checks 9, 10 and 11 share: a net's wiring; marks of gates, which are numbers other than 0; numbers stored in a row.
 #![tactic(auto)]
 
 ghost use Rattle.std.specs.Prelude.{◌≡◌, true, false, ℕ, ◌+◌, ◌-◌, ◌≤◌, ◌<◌, length, get_or};
 ghost use Rattle.sequences.specs.Stored.{Stored};
 ghost use Rattle.sequences.specs.Tests.{Tells};
 ghost use Rattle.net_marks.specs.Marks.{Marked, Known};
+
+// A net's wiring: gate g has pins[g] pins, pin j of gate g stands at PINS·g + j.
+#[derive(Clone, Copy)]
+pub struct Wiring<'a> {
+    pub inputs: usize,
+    pub gates: usize,
+    pub pins: &'a [usize],
+    pub sources: &'a [usize],
+    pub counts: &'a [usize],
+}
 
 // Whether a node is an input or a marked gate. A mark is a number other than 0.
 pub fn known(inputs: usize, seen: &[usize], node: usize) -> bool

@@ -1,7 +1,6 @@
 use mathlib.Core.Path.{◌∙◌}
 use native.Mathlib.Omega.{arith}
 use Rattle.net_loops.specs.PlacingLaws.{place-zeros, place-all}
-use Rattle.std.proofs.Common.{rules}
 use Rattle.net_loops.proofs.check_loops.Goals as goal
 
 pub place_all-requires : goal.place_all-requires
