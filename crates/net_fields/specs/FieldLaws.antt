@@ -1,13 +1,14 @@
--- Laws of one byte and of one number: their tests, reading them at a place of the bytes, and what a verdict tells.
-use Rattle.std.specs.Prelude.{◌≡◌, refl, Bool, true, false, not, ◌&&◌, List, [], ℕ, ◌+◌, ◌%◌, ◌≤◌, ◌<◌, leb, ltb, eqb, length, get_or, drop}
+-- Laws of one byte and of one number: their tests, reading them at a place of the bytes, and what a result tells.
+use Rattle.std.specs.Prelude.{◌≡◌, refl, Bool, true, false, not, ◌&&◌, List, [], ℕ, ◌+◌, ◌%◌, ◌≤◌, ◌<◌, leb, ltb, eqb, length, get_or, drop, Result, Ok, Err}
 use Rattle.std.proofs.Common.{sym, ap, ap₂, ◌∙◌, arith, add-one, drop_of_length-le, drop-cons, le-leb, lt-ltb, le-ltb, eq-eqb, ne_eqb}
 use Rattle.std.proofs.lemmas.Bool.{lt-leb}
-use Rattle.net_bytes.specs.Reading.{Result, at_end, between, byte, number, check, got, refused}
+use Rattle.net_bytes.specs.Reading.{Result as Outcome, at_end, between, byte, number, check, got, refused}
 use Rattle.net_bytes.specs.Readers.{from_high, from_low, then-goes, then-stops}
 use Rattle.net_bytes.specs.Walk.{table_byte}
-use Rattle.net_fields.specs.declared.Verdict.{Verdict}
-use Rattle.net_fields.specs.declared.Verdict.TheVariants.{Read, Refused}
-use Rattle.net_fields.specs.Verdicts.{outcome, onward}
+use Rattle.refusals.specs.declared.Refusal.{Refusal}
+use Rattle.refusals.specs.Refusals.{number_of}
+use Rattle.net_fields.specs.declared.Read.{Read}
+use Rattle.net_fields.specs.Outcomes.{outcome, onward}
 
 pub in_range : (low high b : ℕ) → low ≤ b → b ≤ high → true ≡ between low high b
 in_range low high b l h = sym (ap₂ (λ (x y : Bool). x && y) (le-leb low b l) (le-leb b high h))
@@ -89,28 +90,28 @@ end_done n a s at h = ap (at_end n a) (drop_of_length-le s h)
 pub end_over : {A : Type 0} (n : ℕ) (a : A) (s : List ℕ) (at : ℕ) → at < length s → at_end n a (drop at s) ≡ refused n
 end_over n a s at h = ap (at_end n a) (drop-cons s at 0 h)
 
--- a verdict tells what the reader gave
-module _ {A : Type 0} {r : Result A} {v : Verdict} (a : A) (s : List ℕ) where
-  pub went : r ≡ outcome v a s → v ≡ Read → r ≡ got a s
-  went e h = e ∙ ap (λ (x : Verdict). outcome x a s) h
+-- a result tells what the reader gave
+module _ {A B : Type 0} {r : Outcome B} {x : Result (Read A) Refusal} (f : A → B) (s : List ℕ) where
+  pub went : {a : Read A} → r ≡ outcome f s x → x ≡ Ok a → r ≡ got (f a.value) (drop a.at s)
+  went e h = e ∙ ap (outcome f s) h
 
-  pub stopped : {n : ℕ} → r ≡ outcome v a s → v ≡ Refused n → r ≡ refused n
-  stopped e h = e ∙ ap (λ (x : Verdict). outcome x a s) h
+  pub stopped : {n : Refusal} → r ≡ outcome f s x → x ≡ Err n → r ≡ refused (number_of n)
+  stopped e h = e ∙ ap (outcome f s) h
 
-  pub stopping : {n : ℕ} → r ≡ refused n → v ≡ Refused n → r ≡ outcome v a s
-  stopping e h = e ∙ ap (λ (x : Verdict). outcome x a s) (sym h)
+  pub stopping : {n : Refusal} → r ≡ refused (number_of n) → x ≡ Err n → r ≡ outcome f s x
+  stopping e h = e ∙ ap (outcome f s) (sym h)
 
--- a verdict tells where the reader went on
-module _ {A : Type 0} {r : Result A} {v : Verdict} (x : Result A) where
-  pub onward-went : r ≡ onward v x → v ≡ Read → r ≡ x
-  onward-went e h = e ∙ ap (λ (y : Verdict). onward y x) h
+-- a result tells where the reader went on
+module _ {A B : Type 0} {r : Outcome B} {x : Result A Refusal} (f : A → Outcome B) where
+  pub onward-went : {a : A} → r ≡ onward f x → x ≡ Ok a → r ≡ f a
+  onward-went e h = e ∙ ap (onward f) h
 
-  pub onward-stopped : {n : ℕ} → r ≡ onward v x → v ≡ Refused n → r ≡ refused n
-  onward-stopped e h = e ∙ ap (λ (y : Verdict). onward y x) h
+  pub onward-stopped : {n : Refusal} → r ≡ onward f x → x ≡ Err n → r ≡ refused (number_of n)
+  onward-stopped e h = e ∙ ap (onward f) h
 
-  pub onward-stopping : {n : ℕ} → r ≡ refused n → v ≡ Refused n → r ≡ onward v x
-  onward-stopping e h = e ∙ ap (λ (y : Verdict). onward y x) (sym h)
+  pub onward-stopping : {n : Refusal} → r ≡ refused (number_of n) → x ≡ Err n → r ≡ onward f x
+  onward-stopping e h = e ∙ ap (onward f) (sym h)
 
--- no verdict is both
-pub not-both : {v : Verdict} {n : ℕ} → v ≡ Read → v ≡ Refused n → ⊥
-not-both {v} {n} p q = let z : ◌≡◌ {A = ℕ} 0 1 = cc in omega arith
+-- no result is both
+pub not-both : {A : Type 0} {x : Result A Refusal} {a : A} {n : Refusal} → x ≡ Ok a → x ≡ Err n → ⊥
+not-both p q = cc

@@ -1,4 +1,4 @@
-pub mod Verdicts
+pub mod Outcomes
 pub mod Fields
 pub mod FieldLaws
 pub mod FieldListLaws

@@ -1,7 +1,7 @@
 // The fields of a net record and of a cover record, the bytes that may stand in them and the numbers of one or two bytes: each tested when read.
 #![tactic(auto)]
 
-ghost use Rattle.std.specs.Prelude.{◌≡◌, Bool, true, false, ◌&&◌, List, ℕ, ◌+◌, ◌*◌, ◌^◌, ◌≤◌, ◌<◌, leb, ltb, drop};
+ghost use Rattle.std.specs.Prelude.{◌≡◌, Bool, true, false, ◌&&◌, List, ℕ, ◌+◌, ◌*◌, ◌^◌, ◌≤◌, ◌<◌, leb, ltb, drop, IfOk};
 ghost use Rattle.std.specs.Int.Count.{ones};
 ghost use Rattle.limits.specs.Limits.{depth_room, most_items, most_pins};
 ghost use Rattle.limits.specs.Courses.{Offered};
@@ -9,20 +9,14 @@ ghost use Rattle.net_model.specs.Tables.{bit};
 ghost use Rattle.net_bytes.specs.Reading.{between, check, number};
 ghost use Rattle.net_bytes.specs.Walk.{is_head, from_bytes, net_number, table_byte};
 ghost use Rattle.net_fields.specs.Fields.{allowed_of, refusal_of, early_of, field_byte, allowed_number, number_refusal, number_early, field_number};
-ghost use Rattle.net_fields.specs.Verdicts.{outcome};
+ghost use Rattle.net_fields.specs.Outcomes.{outcome};
+ghost use Rattle.refusals.specs.Refusals.{number_of};
 ghost use Rattle.net_fields.specs.ItemsRead.{ItemsRead, NumberRead, NumbersRead, TableBytes, Count};
 
-use inputs::wide;
 use limits::{
     COUNT_BYTE, GATES, INPUTS_BYTE, ITEMS, LUTS, OUTPUTS_BYTE, PERIOD_NUMBER, Rules, SHORT_GATES,
 };
-
-// How the walk ended: the record was read, or it was refused with this number.
-#[derive(Clone, Copy)]
-pub enum Verdict {
-    Read,
-    Refused(u8),
-}
+use refusals::Refusal;
 
 // What a byte of a net record may be.
 #[derive(Clone, Copy)]
@@ -66,43 +60,18 @@ pub enum Field {
     Cover(CoverField),
 }
 
-// One byte as read, and the place behind it.
-#[derive(Drop)]
-pub struct Item {
-    pub verdict: Verdict,
+// A value as read, and the place behind it.
+#[derive(Clone, Copy, Debug, PartialEq, Eq)]
+pub struct Read<T> {
+    pub value: T,
     pub at: usize,
-    pub value: u8,
-}
-
-// At most ITEMS bytes of one field, and the place behind them; the values that are not read are 0.
-#[derive(Drop)]
-pub struct Items {
-    pub verdict: Verdict,
-    pub at: usize,
-    pub values: [u8; ITEMS],
-}
-
-// One number as read, and the place behind it.
-#[derive(Drop)]
-pub struct Numeral {
-    pub verdict: Verdict,
-    pub at: usize,
-    pub value: usize,
-}
-
-// At most ITEMS numbers of one field, and the place behind them; the values that are not read are 0.
-#[derive(Drop)]
-pub struct Numerals {
-    pub verdict: Verdict,
-    pub at: usize,
-    pub values: [usize; ITEMS],
 }
 
 // The number of pins of a pin map, and of count bytes of a register map.
 pub fn ones_of(map: u8) -> u32
     ensures { result ≡ ones map }
 {
-    u8::count_ones(map)
+    map.count_ones()
 }
 
 // Whether a byte may stand in a field of a net. The limit is the pin map for a register map and the number of pins for a table; no other
@@ -112,28 +81,13 @@ fn net_allowed(field: NetField, byte: u8, limit: usize) -> bool
 {
     match field {
         NetField::Inputs => inputs_byte(byte),
-        NetField::Outputs => match byte {
-            1..=OUTPUTS_BYTE => true,
-            _ => false,
-        },
-        NetField::PinMap => match byte {
-            1..=63 => true,
-            _ => false,
-        },
+        NetField::Outputs => matches!(byte, 1..=OUTPUTS_BYTE),
+        NetField::PinMap => matches!(byte, 1..=63),
         NetField::RegisterMap => within(byte, limit),
-        NetField::Count => match byte {
-            1..=COUNT_BYTE => true,
-            _ => false,
-        },
+        NetField::Count => matches!(byte, 1..=COUNT_BYTE),
         NetField::Table => table_byte(limit, byte),
-        NetField::OutputMap => match byte {
-            0..=1 => true,
-            _ => false,
-        },
-        NetField::Past => match byte {
-            0..=7 => true,
-            _ => false,
-        },
+        NetField::OutputMap => byte <= 1,
+        NetField::Past => byte <= 7,
     }
 }
 
@@ -141,10 +95,7 @@ fn net_allowed(field: NetField, byte: u8, limit: usize) -> bool
 fn inputs_byte(byte: u8) -> bool
     ensures { result ≡ is_head byte }
 {
-    match byte % 128 {
-        1..=INPUTS_BYTE => true,
-        _ => false,
-    }
+    matches!(byte % 128, 1..=INPUTS_BYTE)
 }
 
 // Whether a byte may stand in a field of a cover. The limit is k for a size, 2 to the number of leaves for a map and the number of leaves
@@ -153,11 +104,8 @@ fn cover_allowed(field: CoverField, byte: u8, limit: usize) -> bool
     ensures { result ≡ allowed_of (Field.Cover field) limit byte }
 {
     match field {
-        CoverField::Size => match byte {
-            0 => false,
-            _ => wide(byte) <= limit,
-        },
-        CoverField::Map => leaf_map(byte, limit),
+        CoverField::Size => 1 <= byte && usize::from(byte) <= limit,
+        CoverField::Map => byte < 128 && usize::from(byte % 64) < limit,
         CoverField::Table => table_byte(limit, byte),
     }
 }
@@ -176,28 +124,8 @@ fn allowed(field: Field, byte: u8, limit: usize) -> bool
 fn within(map: u8, whole: usize) -> bool
     ensures { result ≡ allowed_of (Field.Net NetField.RegisterMap) whole map }
 {
-    let m = wide(map);
+    let m = usize::from(map);
     m & whole == m
-}
-
-// Whether a number is a gate that is at least so high.
-fn gate(value: usize, least: usize, nodes: usize) -> bool
-    ensures { result ≡ (leb least value && ltb value nodes) }
-{
-    if value < least {
-        return false;
-    }
-    value < nodes
-}
-
-// Whether a map byte has no bit 7 and its leaf bits are below the limit.
-fn leaf_map(byte: u8, limit: usize) -> bool
-    ensures { result ≡ allowed_of (Field.Cover CoverField.Map) limit byte }
-{
-    match byte {
-        0..=127 => wide(byte) % 64 < limit,
-        _ => false,
-    }
 }
 
 // Whether a table byte of so many pins or leaves has no spare bit set.
@@ -205,112 +133,79 @@ fn table_byte(pins: usize, byte: u8) -> bool
     ensures { result ≡ table_byte pins byte }
 {
     match pins {
-        0 => match byte {
-            0..=1 => true,
-            _ => false,
-        },
-        1 => match byte {
-            0..=3 => true,
-            _ => false,
-        },
-        2 => match byte {
-            0..=15 => true,
-            _ => false,
-        },
+        0 => byte <= 1,
+        1 => byte <= 3,
+        2 => byte <= 15,
         _ => true,
     }
 }
 
-// The number of the refusal where a byte may not stand in a field of a net.
-fn net_refusal(field: NetField) -> u8
-    ensures { result ≡ refusal_of (Field.Net field) }
+// What is told where a byte may not stand in a field of a net.
+fn net_refusal(field: NetField) -> Refusal
+    ensures { number_of result ≡ refusal_of (Field.Net field) }
 {
     match field {
-        NetField::Inputs => 5,
-        NetField::Outputs => 5,
-        NetField::PinMap => 6,
-        NetField::RegisterMap => 6,
-        NetField::Count => 6,
-        NetField::Table => 6,
-        NetField::OutputMap => 6,
-        NetField::Past => 6,
+        NetField::Inputs | NetField::Outputs => Refusal::Sizes,
+        _ => Refusal::Value,
     }
 }
 
-// The number of the refusal where a byte may not stand in a field.
-fn refusal(field: Field) -> u8
-    ensures { result ≡ refusal_of field }
+// What is told where a byte may not stand in a field.
+fn refusal(field: Field) -> Refusal
+    ensures { number_of result ≡ refusal_of field }
 {
     match field {
         Field::Net(f) => net_refusal(f),
-        Field::Cover(_) => 13,
+        Field::Cover(_) => Refusal::Layout,
     }
 }
 
-// The number of the refusal where the bytes end before a field.
-fn early(field: Field) -> u8
-    ensures { result ≡ early_of field }
+// What is told where the bytes end before a field.
+fn early(field: Field) -> Refusal
+    ensures { number_of result ≡ early_of field }
 {
     match field {
-        Field::Net(_) => 4,
-        Field::Cover(_) => 13,
+        Field::Net(_) => Refusal::EarlyEnd,
+        Field::Cover(_) => Refusal::Layout,
     }
 }
 
 // The byte at a place: refused where the bytes end, or where it may not stand in the field.
-pub fn read_byte(bytes: &[u8], at: usize, field: Field, limit: usize) -> Item
-    ensures { field_byte field limit (drop at bytes.now) ≡ outcome result.verdict result.value (drop result.at bytes.now) }
+pub fn read_byte(bytes: &[u8], at: usize, field: Field, limit: usize) -> Result<Read<u8>, Refusal>
+    ensures { field_byte field limit (drop at bytes.now) ≡ outcome (λ b. b) bytes.now result }
 {
     if bytes.len() <= at {
-        return Item {
-            verdict: Verdict::Refused(early(field)),
-            at: at,
-            value: 0,
-        };
+        return Err(early(field));
     }
     let value = bytes[at];
-    if allowed(field, value, limit) {
-        Item {
-            verdict: Verdict::Read,
-            at: at + 1,
-            value: value,
-        }
-    } else {
-        Item {
-            verdict: Verdict::Refused(refusal(field)),
-            at: at,
-            value: 0,
-        }
+    if !allowed(field, value, limit) {
+        return Err(refusal(field));
     }
+    Ok(Read { value, at: at + 1 })
 }
 
-// The next n bytes, each of one field; the first refusal ends it.
-pub fn read_items(bytes: &[u8], at: usize, n: usize, field: Field, limit: usize) -> Items
+// The next n bytes, each of one field; the first refusal ends it. The values behind them are 0.
+pub fn read_items(
+    bytes: &[u8],
+    at: usize,
+    n: usize,
+    field: Field,
+    limit: usize,
+) -> Result<Read<[u8; ITEMS]>, Refusal>
     requires { n ≤ most_items }
     ensures { ItemsRead bytes.now at n field limit result }
 {
     let mut values = [0u8; ITEMS];
     let mut next = at;
-    let mut i = 0;
-    while i < n {
-        let item = read_byte(bytes, next, field, limit);
-        let v = item.verdict;
-        if let Verdict::Refused(m) = v {
-            return Items {
-                verdict: Verdict::Refused(m),
-                at: next,
-                values: values,
-            };
-        }
+    for i in 0..n {
+        let item = read_byte(bytes, next, field, limit)?;
         values[i] = item.value;
         next = item.at;
-        i += 1;
     }
-    Items {
-        verdict: Verdict::Read,
+    Ok(Read {
+        value: values,
         at: next,
-        values: values,
-    }
+    })
 }
 
 // Whether a number may stand in a field. The limit is the number of nodes for a source, a root and a leaf; no other field looks at it.
@@ -318,67 +213,36 @@ fn number_allowed(field: NumberField, value: usize, limit: usize) -> bool
     ensures { result ≡ allowed_number field limit value }
 {
     match field {
-        NumberField::Gates => match value {
-            1..=GATES => true,
-            _ => false,
-        },
+        NumberField::Gates => matches!(value, 1..=GATES),
         NumberField::Source => value < limit,
-        NumberField::Period => match value {
-            1..=PERIOD_NUMBER => true,
-            _ => false,
-        },
-        NumberField::Luts => match value {
-            1..=LUTS => true,
-            _ => false,
-        },
-        NumberField::Root(least) => gate(value, least, limit),
+        NumberField::Period => matches!(value, 1..=PERIOD_NUMBER),
+        NumberField::Luts => matches!(value, 1..=LUTS),
+        NumberField::Root(least) => least <= value && value < limit,
         NumberField::Leaf => value < limit,
-        NumberField::Depth => match value {
-            0 => false,
-            _ => true,
-        },
-        NumberField::Lag => match value {
-            0 => false,
-            _ => true,
-        },
-        NumberField::ShortGates => match value {
-            1..=SHORT_GATES => true,
-            _ => false,
-        },
+        NumberField::Depth => value != 0,
+        NumberField::Lag => value != 0,
+        NumberField::ShortGates => matches!(value, 1..=SHORT_GATES),
     }
 }
 
-// The number of the refusal where a number may not stand in a field.
-fn number_refusal(field: NumberField) -> u8
-    ensures { result ≡ number_refusal field }
+// What is told where a number may not stand in a field.
+fn number_refusal(field: NumberField) -> Refusal
+    ensures { number_of result ≡ number_refusal field }
 {
     match field {
-        NumberField::Gates => 5,
-        NumberField::Source => 6,
-        NumberField::Period => 13,
-        NumberField::Luts => 13,
-        NumberField::Root(_) => 13,
-        NumberField::Leaf => 13,
-        NumberField::Depth => 13,
-        NumberField::Lag => 13,
-        NumberField::ShortGates => 5,
+        NumberField::Gates | NumberField::ShortGates => Refusal::Sizes,
+        NumberField::Source => Refusal::Value,
+        _ => Refusal::Layout,
     }
 }
 
-// The number of the refusal where the bytes end before a number or in it.
-fn number_early(field: NumberField) -> u8
-    ensures { result ≡ number_early field }
+// What is told where the bytes end before a number or in it.
+fn number_early(field: NumberField) -> Refusal
+    ensures { number_of result ≡ number_early field }
 {
     match field {
-        NumberField::Gates => 4,
-        NumberField::Source => 4,
-        NumberField::Period => 13,
-        NumberField::Luts => 13,
-        NumberField::Root(_) => 13,
-        NumberField::Leaf => 13,
-        NumberField::Depth => 13,
-        NumberField::Lag => 13,
-        NumberField::ShortGates => 4,
+        NumberField::Gates | NumberField::Source | NumberField::ShortGates => Refusal::EarlyEnd,
+        _ => Refusal::Layout,
     }
 }
 
@@ -409,83 +273,83 @@ pub fn luts_field(rules: Rules) -> NumberField
     NumberField::Luts
 }
 
-fn no_number(n: u8) -> Numeral
-    ensures { (result.verdict ≡ Verdict.Refused n) × (result.value ≡ 0) }
-{
-    Numeral {
-        verdict: Verdict::Refused(n),
-        at: 0,
-        value: 0,
-    }
-}
-
 // A number behind its last byte, tested.
-fn tested(field: NumberField, value: usize, limit: usize, behind: usize) -> Numeral
-    ensures same { (s : List ℕ) → check (allowed_number field limit value) (number_refusal field) value (drop behind s) ≡ outcome result.verdict result.value (drop result.at s) }
-    ensures small { result.value ≤ value }
+fn tested(
+    field: NumberField,
+    value: usize,
+    limit: usize,
+    behind: usize,
+) -> Result<Read<usize>, Refusal>
+    ensures same { (s : List ℕ) → check (allowed_number field limit value) (number_refusal field) value (drop behind s) ≡ outcome (λ n. n) s result }
+    ensures small { IfOk result (λ r. r.value ≡ value) }
 {
-    if number_allowed(field, value, limit) {
-        Numeral {
-            verdict: Verdict::Read,
-            at: behind,
-            value: value,
-        }
-    } else {
-        no_number(number_refusal(field))
+    if !number_allowed(field, value, limit) {
+        return Err(number_refusal(field));
     }
-}
-
-// A byte as a number.
-fn single(low: u8) -> usize
-    ensures { (result ≡ low) × (result < 256) }
-{
-    wide(low)
+    Ok(Read { value, at: behind })
 }
 
 // Two bytes as a number, low first.
 fn paired(low: u8, high: u8) -> usize
     ensures { (result ≡ low + 256 * high) × (result < depth_room) }
 {
-    wide(low) + 256 * wide(high)
+    usize::from(low) + 256 * usize::from(high)
 }
 
 // The number of one byte at a place.
-fn read_one(bytes: &[u8], at: usize, field: NumberField, limit: usize) -> Numeral
+fn read_one(
+    bytes: &[u8],
+    at: usize,
+    field: NumberField,
+    limit: usize,
+) -> Result<Read<usize>, Refusal>
     ensures { NumberRead false bytes.now at field limit result }
 {
     if bytes.len() <= at {
-        return no_number(number_early(field));
+        return Err(number_early(field));
     }
-    let value = single(bytes[at]);
+    let value = usize::from(bytes[at]);
     tested(field, value, limit, at + 1)
 }
 
 // The number of two bytes at a place.
-fn read_two(bytes: &[u8], at: usize, field: NumberField, limit: usize) -> Numeral
+fn read_two(
+    bytes: &[u8],
+    at: usize,
+    field: NumberField,
+    limit: usize,
+) -> Result<Read<usize>, Refusal>
     ensures { NumberRead true bytes.now at field limit result }
 {
     if bytes.len() <= at {
-        return no_number(number_early(field));
+        return Err(number_early(field));
     }
     let second = at + 1;
     if bytes.len() <= second {
-        return no_number(number_early(field));
+        return Err(number_early(field));
     }
     let value = paired(bytes[at], bytes[second]);
     tested(field, value, limit, second + 1)
 }
 
 // The number at a place, of one byte or of two: refused where the bytes end, or where it may not stand in the field.
-pub fn read_number(bytes: &[u8], at: usize, field: NumberField, limit: usize, two: bool) -> Numeral
+pub fn read_number(
+    bytes: &[u8],
+    at: usize,
+    field: NumberField,
+    limit: usize,
+    two: bool,
+) -> Result<Read<usize>, Refusal>
     ensures { NumberRead two bytes.now at field limit result }
 {
     if two {
-        return read_two(bytes, at, field, limit);
+        read_two(bytes, at, field, limit)
+    } else {
+        read_one(bytes, at, field, limit)
     }
-    read_one(bytes, at, field, limit)
 }
 
-// The next n numbers, each of one field; the first refusal ends it.
+// The next n numbers, each of one field; the first refusal ends it. The values behind them are 0.
 pub fn read_numbers(
     bytes: &[u8],
     at: usize,
@@ -493,32 +357,21 @@ pub fn read_numbers(
     field: NumberField,
     limit: usize,
     two: bool,
-) -> Numerals
+) -> Result<Read<[usize; ITEMS]>, Refusal>
     requires { n ≤ most_items }
     ensures { NumbersRead two bytes.now at n field limit result }
 {
     let mut values = [0usize; ITEMS];
     let mut next = at;
-    let mut i = 0;
-    while i < n {
-        let number = read_number(bytes, next, field, limit, two);
-        let v = number.verdict;
-        if let Verdict::Refused(m) = v {
-            return Numerals {
-                verdict: Verdict::Refused(m),
-                at: next,
-                values: values,
-            };
-        }
+    for i in 0..n {
+        let number = read_number(bytes, next, field, limit, two)?;
         values[i] = number.value;
         next = number.at;
-        i += 1;
     }
-    Numerals {
-        verdict: Verdict::Read,
+    Ok(Read {
+        value: values,
         at: next,
-        values: values,
-    }
+    })
 }
 
 // The ones of a map as a number of things.
@@ -546,7 +399,7 @@ pub fn has(map: u8, i: usize) -> bool
     requires { i < most_pins }
     ensures { result ≡ bit map i }
 {
-    (wide(map) >> i) % 2 == 1
+    (usize::from(map) >> i) % 2 == 1
 }
 
 // One byte more below a number.
@@ -554,17 +407,15 @@ fn joined(high: u64, low: u8) -> u64
     requires { high < 2 ^ 56 }
     ensures { result ≡ low + 256 * high }
 {
-    (low as u64) + 256 * high
+    u64::from(low) + 256 * high
 }
 
 // The number of eight bytes, low byte first.
 pub fn number(values: [u8; ITEMS]) -> u64
     ensures { result ≡ from_bytes values }
 {
-    let mut n: u64 = 0;
-    let mut i: usize = ITEMS;
-    while 0 < i {
-        i -= 1;
+    let mut n = 0;
+    for i in (0..ITEMS).rev() {
         n = joined(n, values[i]);
     }
     n

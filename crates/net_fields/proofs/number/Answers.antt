@@ -1,9 +1,8 @@
 use Prim.Native.Nat.{ℕ}
-use native.Mathlib.Omega.{arith}
 use lib.ListN.{get_or}
 use mir.Syntax.{w8}
 use mir.Val.{Fits}
-use Rattle.net_fields.specs.FieldListLaws.{BytesFrom, bytes-none, bytes-room, bytes_one, bytes-all}
+use Rattle.net_fields.specs.FieldListLaws.{bytes-none, bytes-room, bytes_one}
 use Rattle.std.proofs.Common.{rules}
 use Rattle.net_fields.proofs.number.Goals as goal
 

@@ -1,14 +1,7 @@
-use Prim.Native.Nat.{◌-◌}
-use native.Mathlib.Omega.{arith}
-use lib.ListN.{drop}
 use Rattle.limits.specs.Limits.{most_items}
-use Rattle.net_bytes.specs.Items.{ReadSoFar, items_none, items_one, items_stop, items_all, items_spare}
+use Rattle.net_bytes.specs.Items.{ReadSoFar}
 use Rattle.net_fields.specs.Fields.{field_byte}
-use Rattle.net_fields.specs.FieldLaws.{went, stopped}
 use Rattle.net_fields.proofs.read_items.Given as goal
 
 abbrev pub invariant-loop-i : goal.invariant-loop-i
 invariant-loop-i l = ReadSoFar most_items (field_byte l.field l.limit) l.bytes l.at l.n l.values l.next l.i
-
-abbrev pub decreases-loop-i : goal.decreases-loop-i
-decreases-loop-i l = l.n - l.i

@@ -1,54 +1,46 @@
-use Prim.Native.Nat.{◌-◌}
 use native.Mathlib.Omega.{arith}
-use lib.ListN.{drop}
 use Rattle.limits.specs.Limits.{most_items}
-use Rattle.net_bytes.specs.Items.{ReadSoFar, items_none, items_one, items_stop, items_all, items_spare}
+use Rattle.net_bytes.specs.Items.{items_none, items_one, items_stop, items_all, items_spare}
 use Rattle.net_fields.specs.Fields.{field_number}
-use Rattle.net_fields.specs.ItemsRead.{Small}
-use Rattle.net_fields.specs.FieldLaws.{went, stopped}
 use Rattle.net_fields.specs.FieldListLaws.{small-none, small-set}
-use Rattle.std.proofs.Common.{rules}
+use Rattle.std.proofs.lemmas.Result.{err_from_is_err_and}
 use Rattle.net_fields.proofs.read_numbers.Goals as goal
 
 pub loop-i-init : goal.loop-i-init
 loop-i-init c = let a = c.args in (items_none most_items (field_number a.two a.field a.limit) a.bytes.now a.at a.n, small-none a.two most_items)
 
-pub returns-in-Refused : goal.returns-in-Refused
-returns-in-Refused c =
+pub returns-in_err-number : goal.returns-in_err-number
+returns-in_err-number c =
     let a = c.args in
     let l = c.loop-i in
-    let h = c.loop-i-test.true in
-    let b = c.read_number-number in
-    record {
-      result = items_stop most_items (field_number a.two a.field a.limit) a.bytes.now a.at a.n l.values l.next l.i l.invariant.0 h
-          (stopped b.result.value (drop b.result.at a.bytes.now) b.ensures.result c.in-Refused.is);
-      spare = items_spare most_items (field_number a.two a.field a.limit) a.bytes.now a.at a.n l.values l.next l.i l.invariant.0;
-      long = l.invariant.0.long;
-      small = l.invariant.1;
-    }
+    let p = err_from_is_err_and c.from_residual.result c.from_residual.ensures.1 in
+    rw (p.1, p.2)
+    (record {
+      result = items_stop most_items (field_number a.two a.field a.limit) a.bytes.now a.at a.n l.values l.next l.i l.invariant.0 c.loop-i-test.true c.in_err-number.ensures.result;
+      values = tt;
+      small = tt;
+    })
 
 pub loop-i-preserved : goal.loop-i-preserved
 loop-i-preserved c =
-    let start = c in
     let a = c.args in
     let l = c.loop-i in
-    let h = c.loop-i-test.true in
-    let b = c.read_number-number in
+    let b = c.in_ok-number in
     let m = l.invariant.0.most in
     let long = l.invariant.0.long in (
-      items_one most_items (field_number a.two a.field a.limit) a.bytes.now a.at a.n l.values l.next l.i l.invariant.0 h c.requires b.result.value b.result.at
-          (went b.result.value (drop b.result.at a.bytes.now) b.ensures.result c.in_default.is),
-      small-set c.args.two l.values l.i b.result.value (omega (arith, c.requires)) l.invariant.1 b.ensures.small,
+      items_one most_items (field_number a.two a.field a.limit) a.bytes.now a.at a.n l.values l.next l.i l.invariant.0 c.loop-i-test.true c.requires b.number.value b.number.at b.ensures.result,
+      small-set a.two l.values l.i b.number.value (omega arith) l.invariant.1 b.ensures.small,
     )
 
 pub returns : goal.returns
 returns c =
     let a = c.args in
     let l = c.loop-i in
-    let h = c.loop-i-test.false in
     record {
-      result = items_all most_items (field_number a.two a.field a.limit) a.bytes.now a.at a.n l.values l.next l.i l.invariant.0 h;
-      spare = items_spare most_items (field_number a.two a.field a.limit) a.bytes.now a.at a.n l.values l.next l.i l.invariant.0;
-      long = l.invariant.0.long;
+      result = items_all most_items (field_number a.two a.field a.limit) a.bytes.now a.at a.n l.values l.next l.i l.invariant.0 c.loop-i-test.false;
+      values = record {
+        spare = items_spare most_items (field_number a.two a.field a.limit) a.bytes.now a.at a.n l.values l.next l.i l.invariant.0;
+        long = l.invariant.0.long;
+      };
       small = l.invariant.1;
     }

@@ -1,16 +1,8 @@
-use Prim.Native.Nat.{◌-◌}
-use native.Mathlib.Omega.{arith}
-use lib.ListN.{drop}
 use Rattle.limits.specs.Limits.{most_items}
-use Rattle.net_bytes.specs.Items.{ReadSoFar, items_none, items_one, items_stop, items_all, items_spare}
+use Rattle.net_bytes.specs.Items.{ReadSoFar}
 use Rattle.net_fields.specs.Fields.{field_number}
 use Rattle.net_fields.specs.ItemsRead.{Small}
-use Rattle.net_fields.specs.FieldLaws.{went, stopped}
-use Rattle.net_fields.specs.FieldListLaws.{small-none, small-set}
 use Rattle.net_fields.proofs.read_numbers.Given as goal
 
 abbrev pub invariant-loop-i : goal.invariant-loop-i
 invariant-loop-i l = ReadSoFar most_items (field_number l.two l.field l.limit) l.bytes l.at l.n l.values l.next l.i × Small l.two l.values
-
-abbrev pub decreases-loop-i : goal.decreases-loop-i
-decreases-loop-i l = l.n - l.i
