@@ -3,7 +3,7 @@
 
 mod constants;
 
-ghost use Rattle.std.specs.Prelude.{◌≡◌, ◌<◌, min, get_or};
+ghost use Rattle.std.specs.Prelude.{◌≡◌, ◌<◌, get_or};
 ghost use Rattle.lutclass.specs.Classes.{turn};
 ghost use Rattle.lutclass.specs.Turnings.{turning_at, class_of};
 ghost use Rattle.lutclass.specs.ClassTable.{shipped};
@@ -16,7 +16,7 @@ use constants::{CLASSES, WORDS};
 pub fn class_of(table: u8) -> u8
     ensures { result ≡ get_or shipped table 0 }
 {
-    CLASSES[table as usize]
+    CLASSES[usize::from(table)]
 }
 
 // The word that reaches leaf l in turning n: inverted where bit l + 1 of n is 1.
@@ -34,27 +34,17 @@ fn turned(table: u8, n: usize) -> u64
     ensures { result ≡ turn (turning_at n) table }
 {
     let words = [word_at(n, 0), word_at(n, 1), word_at(n, 2), 0, 0, 0];
-    let w = compose(table as u64, words, 3) % 256;
+    let w = compose(u64::from(table), words, 3) % 256;
     if n % 2 == 1 { 255 - w } else { w }
-}
-
-// The smaller of two numbers.
-fn smaller(a: u64, b: u64) -> u64
-    ensures { result ≡ min a b }
-{
-    if a < b { a } else { b }
 }
 
 // The smallest of a table and what the 96 turnings make of it.
 pub fn smallest(table: u8) -> u8
     ensures { result ≡ class_of table }
 {
-    let mut best = table as u64;
-    let mut n = 0;
-    while n < 96 {
-        let w = turned(table, n);
-        best = smaller(w, best);
-        n += 1;
+    let mut best = u64::from(table);
+    for n in 0..96 {
+        best = turned(table, n).min(best);
     }
     best as u8
 }

@@ -3,7 +3,6 @@ use native.Mathlib.Omega.{arith}
 use borrow.Author.Tests.{eq-eqb, ne_eqb}
 use Rattle.lutclass.specs.Feeding.{word_at}
 use Rattle.lutclass.proofs.FeedingLaws.{order_small}
-use Rattle.std.proofs.Common.{rules}
 use Rattle.lutclass.proofs.word_at.Goals as goal
 
 pub overflow_sub-result : goal.overflow_sub-result
