@@ -1,13 +1,8 @@
 -- Laws of the loop over a section: none read, one more, a refusal, all.
 use Rattle.std.specs.Prelude.{◌≡◌, refl, List, [], ◌∷◌, ◌++◌, ℕ, ◌+◌, ◌-◌, ◌≤◌, ◌<◌, drop}
-use Rattle.std.proofs.Common.{arith}
 use Rattle.net_bytes.specs.Reading.{got, refused}
 use Rattle.net_bytes.specs.Readers.{behind, turn-none, turn_one, turn-stops, turn-ends}
 use Rattle.net_bytes.specs.Walk.{net_byte, is_past}
-use Rattle.net_fields.specs.FieldLaws.{went, stopped}
-use Rattle.net_fields.specs.Verdicts.{outcome}
-use Rattle.net_fields.specs.declared.Verdict.{Verdict}
-use Rattle.net_fields.specs.declared.Verdict.TheVariants.{Read, Refused}
 use Rattle.net_section.specs.SectionRead.{pasts}
 
 -- i of n bytes are read
@@ -20,14 +15,14 @@ module _ (s : List ℕ) (at n : ℕ) where
   pasts-none = record { done = []; result = turn-none n (net_byte 6 is_past) (drop at s) }
 
   module _ {next i : ℕ} (so : PastsSoFar s at n next i) where
-    pub pasts-one : i < n → {v : Verdict} (b after : ℕ) → net_byte 6 is_past (drop next s) ≡ outcome v b (drop after s) → v ≡ Read → PastsSoFar s at n after (i + 1)
-    pasts-one h b after e r = record {
+    pub pasts-one : i < n → (b after : ℕ) → net_byte 6 is_past (drop next s) ≡ got b (drop after s) → PastsSoFar s at n after (i + 1)
+    pasts-one h b after e = record {
       done = so.done ++ (b ∷ []);
-      result = turn_one n i so.done (net_byte 6 is_past) (drop next s) so.result b (drop after s) (so.done ++ (b ∷ [])) h (went b (drop after s) e r) refl;
+      result = turn_one n i so.done (net_byte 6 is_past) (drop next s) so.result b (drop after s) (so.done ++ (b ∷ [])) h e refl;
     }
 
-    pub pasts-stop : i < n → {v : Verdict} {m : ℕ} (b after : ℕ) → net_byte 6 is_past (drop next s) ≡ outcome v b (drop after s) → v ≡ Refused m → pasts n (drop at s) ≡ refused m
-    pasts-stop h b after e r = turn-stops n i so.done (net_byte 6 is_past) (drop next s) so.result h (stopped b (drop after s) e r)
+    pub pasts-stop : i < n → {m : ℕ} → net_byte 6 is_past (drop next s) ≡ refused m → pasts n (drop at s) ≡ refused m
+    pasts-stop h e = turn-stops n i so.done (net_byte 6 is_past) (drop next s) so.result h e
 
     pub pasts-all : n ≤ i → pasts n (drop at s) ≡ got so.done (drop next s)
     pasts-all h = turn-ends n i so.done (net_byte 6 is_past) (drop next s) so.result h
