@@ -1,51 +1,34 @@
 // Check 10 over a net's wiring, with a rank and an input pin of each gate.
 #![tactic(auto)]
 
-ghost use Rattle.std.specs.Prelude.{◌≡◌, ℕ, ◌+◌, ◌-◌, ◌*◌, ◌≤◌, ◌<◌, length, get_or};
+ghost use Rattle.std.specs.Prelude.{◌≡◌, ℕ, ◌+◌, ◌-◌, ◌*◌, ◌≤◌, ◌<◌, length, get_or, MatchOption, if◌then◌else◌};
+ghost use Rattle.net_model.specs.Arrays.{stride};
 ghost use Rattle.net_model.specs.Wired.{Wires};
 ghost use Rattle.sequences.specs.Tests.{First, Tells};
 ghost use Rattle.net_reached.specs.Reaching.{Behind, Falls, Reaching, ReachGate, ReachSweep, Shut, ReachCheck};
 
 use limits::PINS;
-use net_marks::{all_marked, zero};
+use net_marks::{Wiring, all_marked, zero};
 
 // Whether a node is an input, or a marked gate with a rank below the level.
 fn near(inputs: usize, seen: &[usize], ranks: &[usize], node: usize, level: usize) -> bool
     requires { (node < inputs + length seen.now) × (length ranks.now ≡ length seen.now) }
     ensures { Tells result (Falls inputs seen.now ranks.now node level) }
 {
-    if node < inputs {
-        return true;
-    }
-    let g = node - inputs;
-    if seen[g] == 0 {
-        return false;
-    }
-    ranks[g] < level
+    node < inputs || (seen[node - inputs] != 0 && ranks[node - inputs] < level)
 }
 
-// The first of n pins from place `at` on whose source is near, or n.
-fn first_near(
-    inputs: usize,
-    seen: &[usize],
-    ranks: &[usize],
-    sources: &[usize],
-    at: usize,
-    n: usize,
-    level: usize,
-) -> usize
-    requires { (at + n ≤ length sources.now) × (length ranks.now ≡ length seen.now) × ((j : ℕ) → j < n → get_or sources.now (at + j) 0 < inputs + length seen.now) }
-    ensures { First (λ j. Falls inputs seen.now ranks.now (get_or sources.now (at + j) 0) level) n result }
+// The first pin of gate g whose source is near.
+fn first_near(w: Wiring, seen: &[usize], ranks: &[usize], g: usize, level: usize) -> Option<usize>
+    requires { Wires w.inputs w.gates w.pins.now w.sources.now w.counts.now × (g < w.gates) × (length seen.now ≡ w.gates) × (length ranks.now ≡ w.gates) }
+    ensures { MatchOption result ((j : ℕ) → j < get_or w.entry.pins.now g 0 → ¬ Falls w.entry.inputs seen.now ranks.now (get_or w.entry.sources.now (stride * g + j) 0) level) (λ i. (i < get_or w.entry.pins.now g 0) × First (λ j. Falls w.entry.inputs seen.now ranks.now (get_or w.entry.sources.now (stride * g + j) 0) level) (get_or w.entry.pins.now g 0) i) }
 {
-    let mut j = 0;
-    while j < n {
-        let node = sources[at + j];
-        if near(inputs, seen, ranks, node, level) {
-            return j;
+    for j in 0..w.pins[g] {
+        if near(w.inputs, seen, ranks, w.sources[PINS * g + j], level) {
+            return Some(j);
         }
-        j += 1;
     }
-    n
+    None
 }
 
 // The rank of a gate that reads this node: 0 behind an input, else 1 more than the node's.
@@ -60,101 +43,61 @@ fn rank_behind(inputs: usize, gates: usize, ranks: &[usize], node: usize) -> usi
     }
 }
 
-// Marks gate g if it reads a near node: 1 if it is newly marked.
-fn reach_gate(
-    inputs: usize,
-    gates: usize,
-    pins: &[usize],
-    sources: &[usize],
-    counts: &[usize],
-    seen: &mut [usize],
-    ranks: &mut [usize],
-    g: usize,
-    level: usize,
-) -> usize
-    requires { Wires inputs gates pins.now sources.now counts.now × (g < gates) × Reaching inputs gates pins.now sources.now counts.now seen.old ranks.old }
-    ensures { ReachGate inputs gates pins.now sources.now counts.now seen.old seen.new ranks.new g level result }
+// Marks gate g if it reads a near node: whether it is newly marked.
+fn reach_gate(w: Wiring, seen: &mut [usize], ranks: &mut [usize], g: usize, level: usize) -> bool
+    requires { Wires w.inputs w.gates w.pins.now w.sources.now w.counts.now × (g < w.gates) × Reaching w.inputs w.gates w.pins.now w.sources.now w.counts.now seen.old ranks.old }
+    ensures { ReachGate w.entry.inputs w.entry.gates w.entry.pins.now w.entry.sources.now w.entry.counts.now seen.old seen.new ranks.new g level (if result then 1 else 0) }
 {
     if seen[g] != 0 {
-        return 0;
+        return false;
     }
-    let n = pins[g];
-    let j = first_near(inputs, seen, ranks, sources, PINS * g, n, level);
-    if j < n {
-        ranks[g] = rank_behind(inputs, gates, ranks, sources[PINS * g + j]);
-        seen[g] = j + 1;
-        1
-    } else {
-        0
+    match first_near(w, seen, ranks, g, level) {
+        None => false,
+        Some(j) => {
+            ranks[g] = rank_behind(w.inputs, w.gates, ranks, w.sources[PINS * g + j]);
+            seen[g] = j + 1;
+            true
+        }
     }
 }
 
 // One sweep over all gates, which looks at ranks below a level: how many are newly marked.
-fn reach_sweep(
-    inputs: usize,
-    gates: usize,
-    pins: &[usize],
-    sources: &[usize],
-    counts: &[usize],
-    seen: &mut [usize],
-    ranks: &mut [usize],
-    level: usize,
-) -> usize
-    requires { Wires inputs gates pins.now sources.now counts.now × Reaching inputs gates pins.now sources.now counts.now seen.old ranks.old }
-    ensures { ReachSweep inputs gates pins.now sources.now counts.now seen.old seen.new ranks.new gates level result }
+fn reach_sweep(w: Wiring, seen: &mut [usize], ranks: &mut [usize], level: usize) -> usize
+    requires { Wires w.inputs w.gates w.pins.now w.sources.now w.counts.now × Reaching w.inputs w.gates w.pins.now w.sources.now w.counts.now seen.old ranks.old }
+    ensures { ReachSweep w.entry.inputs w.entry.gates w.entry.pins.now w.entry.sources.now w.entry.counts.now seen.old seen.new ranks.new w.entry.gates level result }
 {
     let mut new = 0;
-    let mut g = 0;
-    while g < gates {
-        let r = reach_gate(inputs, gates, pins, sources, counts, seen, ranks, g, level);
-        new += r;
-        g += 1;
+    for g in 0..w.gates {
+        if reach_gate(w, seen, ranks, g, level) {
+            new += 1;
+        }
     }
     new
 }
 
 // Level by level, until one marks nothing new: gates near an input are marked first.
-fn reach_levels(
-    inputs: usize,
-    gates: usize,
-    pins: &[usize],
-    sources: &[usize],
-    counts: &[usize],
-    seen: &mut [usize],
-    ranks: &mut [usize],
-)
-    requires { Wires inputs gates pins.now sources.now counts.now × Reaching inputs gates pins.now sources.now counts.now seen.old ranks.old }
-    ensures { Reaching inputs gates pins.now sources.now counts.now seen.new ranks.new }
+fn reach_levels(w: Wiring, seen: &mut [usize], ranks: &mut [usize])
+    requires { Wires w.inputs w.gates w.pins.now w.sources.now w.counts.now × Reaching w.inputs w.gates w.pins.now w.sources.now w.counts.now seen.old ranks.old }
+    ensures { Reaching w.entry.inputs w.entry.gates w.entry.pins.now w.entry.sources.now w.entry.counts.now seen.new ranks.new }
 {
     let mut level = 0;
     let mut new = 1;
     while 0 < new {
-        new = reach_sweep(inputs, gates, pins, sources, counts, seen, ranks, level);
-        level = next(level, gates);
+        new = reach_sweep(w, seen, ranks, level);
+        if level < w.gates {
+            level += 1;
+        }
     }
 }
 
-// The next level, up to the number of gates.
-fn next(level: usize, gates: usize) -> usize {
-    if level < gates { level + 1 } else { level }
-}
-
 // Sweeps over all ranks until nothing is newly marked.
-fn reach_all(
-    inputs: usize,
-    gates: usize,
-    pins: &[usize],
-    sources: &[usize],
-    counts: &[usize],
-    seen: &mut [usize],
-    ranks: &mut [usize],
-)
-    requires { Wires inputs gates pins.now sources.now counts.now × Reaching inputs gates pins.now sources.now counts.now seen.old ranks.old }
-    ensures { Reaching inputs gates pins.now sources.now counts.now seen.new ranks.new × ((g : ℕ) → g < gates → Shut inputs pins.now sources.now seen.new g) }
+fn reach_all(w: Wiring, seen: &mut [usize], ranks: &mut [usize])
+    requires { Wires w.inputs w.gates w.pins.now w.sources.now w.counts.now × Reaching w.inputs w.gates w.pins.now w.sources.now w.counts.now seen.old ranks.old }
+    ensures { Reaching w.entry.inputs w.entry.gates w.entry.pins.now w.entry.sources.now w.entry.counts.now seen.new ranks.new × ((g : ℕ) → g < w.entry.gates → Shut w.entry.inputs w.entry.pins.now w.entry.sources.now seen.new g) }
 {
-    let mut new = reach_sweep(inputs, gates, pins, sources, counts, seen, ranks, gates);
+    let mut new = reach_sweep(w, seen, ranks, w.gates);
     while 0 < new {
-        new = reach_sweep(inputs, gates, pins, sources, counts, seen, ranks, gates);
+        new = reach_sweep(w, seen, ranks, w.gates);
     }
 }
 
@@ -172,7 +115,14 @@ pub fn check_reached(
     ensures { ReachCheck inputs gates pins.now sources.now counts.now seen.new ranks.new result }
 {
     zero(seen);
-    reach_levels(inputs, gates, pins, sources, counts, seen, ranks);
-    reach_all(inputs, gates, pins, sources, counts, seen, ranks);
+    let w = Wiring {
+        inputs,
+        gates,
+        pins,
+        sources,
+        counts,
+    };
+    reach_levels(w, seen, ranks);
+    reach_all(w, seen, ranks);
     all_marked(seen, gates)
 }

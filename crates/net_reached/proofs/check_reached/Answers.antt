@@ -1,7 +1,4 @@
-use mathlib.Core.Path.{◌∙◌}
-use native.Mathlib.Omega.{arith}
-use Rattle.net_reached.specs.ReachingLaws.{reach-zeros, reach-all}
-use Rattle.std.proofs.Common.{rules}
+use Rattle.net_reached.specs.ReachingLaws.{reach-all}
 use Rattle.net_reached.proofs.check_reached.Goals as goal
 
 pub returns : goal.returns

@@ -1,10 +1,4 @@
-use mathlib.Core.Path.{◌≡◌, ◌∙◌, sym}
-use Prim.Native.Nat.{ℕ, ◌+◌, ◌≤◌, ◌<◌, min}
 use native.Mathlib.Omega.{arith}
-use lib.ListN.{length}
-use Rattle.net_marks.specs.Marks.{unmarked}
-use Rattle.net_reached.specs.Reaching.{Reaching, Shut}
-use Rattle.std.proofs.Common.{rules}
 use Rattle.net_reached.proofs.reach_all.Goals as goal
 
 pub loop-new-init : goal.loop-new-init
