@@ -1,7 +1,6 @@
 use mathlib.Core.Path.{◌∙◌}
 use native.Mathlib.Omega.{arith}
 use Rattle.net_leading.specs.HeadingLaws.{heading-zeros, heads-all}
-use Rattle.std.proofs.Common.{rules}
 use Rattle.net_leading.proofs.check_leading.Goals as goal
 
 pub push_outputs-requires : goal.push_outputs-requires

@@ -1,11 +1,4 @@
-use mathlib.Core.Path.{◌≡◌, ◌∙◌, sym}
-use Prim.Native.Nat.{ℕ, ◌+◌, ◌≤◌, ◌<◌, min}
-use native.Mathlib.Omega.{arith}
-use Rattle.net_marks.specs.Marks.{left, Marked, Low}
 use Rattle.net_marks.specs.MarkLaws.{low-falls}
-use Rattle.net_leading.specs.Heading.{Heading, Pushed, top_of}
-use lib.ListN.{get_or}
-use Rattle.std.proofs.Common.{rules}
 use Rattle.net_leading.proofs.head_all.Goals as goal
 
 pub loop-new-preserved : goal.loop-new-preserved

@@ -1,23 +1,14 @@
-use Prim.Native.Nat.{◌-◌, ◌≤◌}
-use native.Mathlib.Omega.{arith}
-use Rattle.net_leading.specs.Heading.{PushOuts}
-use Rattle.net_leading.specs.HeadingLaws.{outs-none, outs_push, outs-at, left-fit}
-use Rattle.std.proofs.Common.{rules}
+use Rattle.std.proofs.Common.{add-zero, arith}
+use Rattle.net_leading.specs.HeadingLaws.{outs_push, left-fit}
 use Rattle.net_leading.proofs.push_outputs.Goals as goal
+use Rattle.net_leading.proofs.push_outputs.Goals.{then-push, else-push}
 
 pub overflow_add-new : goal.overflow_add-new
-overflow_add-new c =
-    let loop = c.loop-i in
-    let start = c in
-    let a = outs_push loop.i c.requires.1 (omega arith) loop.invariant.1 c.push-new.ensures in
-    let n = a.fallen.new in
-    let b = left-fit c.requires.1.few c.requires.2 in
-    omega arith
+overflow_add-new c = omega (arith, c.loop-i.invariant.fallen.new, left-fit c.requires.1.few c.requires.2)
 
 pub loop-i-preserved : goal.loop-i-preserved
 loop-i-preserved c =
-    let loop = c.loop-i in (
-      omega arith,
-      outs_push loop.i c.requires.1 (omega arith)
-          loop.invariant.1 c.push-new.ensures,
-    )
+    elim c.if-push.branch [
+      | then-push w ↦ rw w.new-is (outs_push c.loop-i.i c.requires.1 c.loop-i-test.true c.loop-i.invariant (rw w.if-push.true at c.push.ensures))
+      | else-push w ↦ rw w.new-is (rw add-zero at (outs_push c.loop-i.i c.requires.1 c.loop-i-test.true c.loop-i.invariant (rw w.if-push.false at c.push.ensures)))
+    ]
