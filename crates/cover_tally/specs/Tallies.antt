@@ -10,7 +10,3 @@ pub record Tallied (ts : List Tap) (places : List ℕ) : Type 0 where
 -- ts were taken: whatever was tallied before, that and ts are tallied after
 pub record Took (ts : List Tap) (before after : List ℕ) : Type 0 where
   pub on : (xs : List Tap) → Tallied xs before → Tallied (xs ++ ts) after
-
--- a place's number is below
-abbrev pub number_room : ℕ
-number_room = 4294967296

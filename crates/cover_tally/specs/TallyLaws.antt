@@ -1,8 +1,11 @@
 -- Laws of tallies: order does not matter, taking goes on, a place is kept or raised, and the places are added.
-use Rattle.std.specs.Prelude.{◌≡◌, cond, List, [], ◌∷◌, ◌++◌, ◌⊎◌, ℕ, max, ◌+◌, ◌≤◌, ◌<◌, eqb, ℤ, pos, length, get_or, set, replicate}
+use Rattle.std.specs.Prelude.{◌≡◌, cond, List, [], ◌∷◌, ◌++◌, ◌⊎◌, ℕ, zero, suc, max, ◌+◌, ◌≤◌, ◌<◌, eqb, ℤ, pos, length, get_or, set, replicate}
 use Rattle.std.proofs.Math.Path.{refl}
-use Rattle.std.proofs.Common.{sym, ap, subst, ◌∙◌, append_assoc, append-nil, inl, inr, add-one, arith, get_or-set_same, get_or-set_other}
-use Rattle.std.proofs.Math.Decide.{ℕ_discrete}
+use Rattle.std.proofs.Common.{sym, ap, subst, ◌∙◌, append_assoc, append-nil, inl, inr, add-one, arith, get_or-set_same, get_or-set_other, sum, take}
+use Rattle.std.proofs.Math.Seq.{take-length}
+use Rattle.std.proofs.lemmas.List.{set-get_or}
+use Rattle.std.proofs.lemmas.List.Sums.{sum_by_more}
+use Rattle.std.proofs.Math.Decide.{ℕ_discrete, dec_lt}
 use Rattle.limits.specs.Limits.{most_nodes}
 use Rattle.integers.specs.Parts.{up}
 use Rattle.sequences.specs.Member.{◌∈◌, here, Within, in_append_left, in_append_right, in_append_cases}
@@ -118,6 +121,16 @@ module _ (places : List ℕ) (source number : ℕ) where
           ∙ sym (behind-own u xs (tap source (pos number)) e number (omega arith) (omega arith) (inr refl))
       go xs t u l (no n) = get_or-set_other places source u number 0 (λ e. n (sym e)) ∙ t.each u l ∙ sym (behind-other u xs (tap source (pos number)) n)
 
+  -- **the larger of the two is kept**
+  pub took_largest : source < length places → {n : ℕ} → n ≡ max (get_or places source 0) number → Took (tap source (pos number) ∷ []) places (set places source n)
+  took_largest h {n} e = go (dec_lt (get_or places source 0) number)
+    where
+      go : Dec (get_or places source 0 < number) → Took (tap source (pos number) ∷ []) places (set places source n)
+      go (yes l) = let q : number ≡ n = omega arith in rw (← q) (took_set h l)
+      go (no l) =
+          let q : get_or places source 0 ≡ n = omega (arith, l) in
+          rw (← q) (rw (set-get_or places source 0) (took_kept (λ k. omega (arith, l))))
+
 -- a number below 0 is taken as 0
 same_up : (u source : ℕ) (z : ℤ) (xs : List Tap) → longest u (xs ++ (tap source (pos (up z)) ∷ [])) ≡ longest u (xs ++ (tap source z ∷ []))
 unfolding longest
@@ -138,6 +151,19 @@ added_none places = unfold over_nodes in refl
 
 pub added_more : (places : List ℕ) (u : ℕ) → over_nodes (at places) (u + 1) ≡ get_or places u 0 + over_nodes (at places) u
 added_more places u = rw (add-one u) (unfold over_nodes in refl)
+
+added_first : (places : List ℕ) (u : ℕ) → u ≤ length places → sum (take u places) ≡ over_nodes (at places) u
+added_first places zero h = sym (added_none places)
+added_first places (suc u) h =
+    let a = rw (add-one u) at (added_more places u) in
+    let b = added_first places u (omega arith) in
+    let c = rw (add-one u) at (sum_by_more (λ (x : ℕ). x) places u 0 h) in
+    omega arith
+
+pub added_sum : (places : List ℕ) → length places ≡ most_nodes → sum places ≡ over_nodes (at places) most_nodes
+added_sum places e =
+    let a = added_first places (length places) (omega arith) in
+    sym (ap (λ (l : List ℕ). sum l) (take-length places)) ∙ a ∙ ap (over_nodes (at places)) e
 
 -- **the places added are the shared count**
 pub added_all : (places : List ℕ) (ts : List Tap) → Tallied ts places → over_nodes (at places) most_nodes ≡ shared_count most_nodes ts

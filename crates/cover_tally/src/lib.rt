@@ -1,10 +1,10 @@
 // A tally of registers shared at their source: for each node the largest number on what it feeds. It is made empty, takes one connection or output per call, and the total is read at the end.
 #![tactic(auto)]
 
-ghost use Rattle.std.specs.Prelude.{◌≡◌, List, [], ◌∷◌, ◌<◌, pos};
+ghost use Rattle.std.specs.Prelude.{◌≡◌, List, [], ◌∷◌, ◌<◌, ◌≤◌, pos, sum, length};
 ghost use Rattle.limits.specs.Limits.{most_nodes};
 ghost use Rattle.cover_theory.specs.SharedRegisters.{Tap, tap, shared_count};
-ghost use Rattle.cover_tally.specs.Tallies.{Tallied, Took, number_room};
+ghost use Rattle.cover_tally.specs.Tallies.{Tallied, Took};
 
 use limits::NODES;
 
@@ -13,11 +13,12 @@ pub struct Tally {
     pub places: [u32; Tally::NODES],
 }
 
-// A number as a machine word.
-fn wide(n: u32) -> usize
-    ensures { (result ≡ n) × (result < number_room) }
+// The sum of few numbers.
+fn added(numbers: &[u32]) -> usize
+    requires { length numbers.now ≤ most_nodes }
+    ensures { result ≡ sum numbers.now }
 {
-    n as usize
+    numbers.iter().map(|n| *n as usize).sum()
 }
 
 impl Tally {
@@ -37,9 +38,7 @@ impl Tally {
         ensures { Took (tap source (pos number) ∷ []) self.places result.places }
     {
         if source < Tally::NODES {
-            if self.places[source] < number {
-                self.places[source] = number;
-            }
+            self.places[source] = self.places[source].max(number);
         }
         self
     }
@@ -47,12 +46,6 @@ impl Tally {
     pub fn total(self) -> usize
         ensures { (ts : List Tap) → Tallied ts self.places → result ≡ shared_count most_nodes ts }
     {
-        let mut sum = 0;
-        let mut u = 0;
-        while u < Tally::NODES {
-            sum += wide(self.places[u]);
-            u += 1;
-        }
-        sum
+        added(&self.places)
     }
 }

@@ -9,9 +9,5 @@ pub fn clear_first(scratch: &mut [u8], n: usize)
     requires { n ≤ length scratch.old }
     ensures { scratch.new ≡ cleared n scratch.old }
 {
-    let mut i = 0;
-    while i < n {
-        scratch[i] = 0;
-        i += 1;
-    }
+    scratch[..n].fill(0);
 }

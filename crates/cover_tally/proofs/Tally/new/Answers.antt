@@ -1,5 +1,4 @@
 use Rattle.cover_tally.specs.TallyLaws.{tallied_none}
-use Rattle.std.proofs.Common.{rules}
 use Rattle.cover_tally.proofs.Tally.new.Goals as goal
 
 pub returns : goal.returns
