@@ -1,5 +1,5 @@
 -- Laws of reading a gate, one for each way out.
-use Rattle.std.specs.Prelude.{◌≡◌, Bool, List, ℕ, ◌≤◌, ◌<◌, get_or, take, drop}
+use Rattle.std.specs.Prelude.{◌≡◌, Bool, List, ℕ, ◌≤◌, ◌<◌, get_or, take, drop, Ok}
 use Rattle.std.proofs.Common.{sym, ap, ap₂, ◌∙◌, arith, le-leb}
 use Rattle.std.specs.Int.Count.{ones}
 use Rattle.std.proofs.lemmas.Bool.{lt-leb}
@@ -14,62 +14,42 @@ use Rattle.net_bytes.specs.Stages.{made_gate, from_pin_map, from_width, from_map
 use Rattle.net_fields.specs.declared.Field.TheVariants.{Net}
 use Rattle.net_fields.specs.declared.NetField.TheVariants.{PinMap, RegisterMap, Count, Table}
 use Rattle.net_fields.specs.declared.NumberField.TheVariants.{Source}
-use Rattle.net_fields.specs.declared.Verdict.{Verdict}
-use Rattle.net_fields.specs.declared.Verdict.TheVariants.{Read, Refused}
 use Rattle.net_fields.specs.Fields.{field_byte, field_number}
 use Rattle.net_fields.specs.FieldListLaws.{take-alike, from_bytes-take}
-use Rattle.net_fields.specs.Verdicts.{outcome}
-use Rattle.net_fields.specs.FieldLaws.{went, stopped, onward-stopping, not-both}
-use Rattle.net_rows.specs.declared.Maps.{Maps}
 use Rattle.net_rows.specs.RowLaws.{pins_from-alike}
-use Rattle.net_rows.specs.RowParts.{MapsRead, Width, first_of, fits, over}
+use Rattle.net_rows.specs.RowParts.{MapsRead}
 
 module _ (s : List ℕ) (at k : ℕ) where
-  -- the maps are refused, and the gate with them
-  stop-maps : {n : ℕ} (m : Maps) → ((wide : Bool) (nodes : ℕ) → gate_reader wide k nodes (drop at s) ≡ refused n) → m.verdict ≡ Refused n → m.pins ≡ 0 → MapsRead s at k m
-  stop-maps m e v z = record {
-    result = λ wide nodes. onward-stopping (from_maps wide nodes m.pins (ones m.pins) m.registers (drop m.at s)) (e wide nodes) v;
-    small = omega arith;
-  }
-
-  pub pin-map-stops : {n : ℕ} (m : Maps) → field_byte (Net PinMap) 0 (drop at s) ≡ refused n → m.verdict ≡ Refused n → m.pins ≡ 0 → MapsRead s at k m
-  pin-map-stops m e v z = stop-maps m (λ wide nodes. gate_stages wide k nodes (drop at s) ∙ then-stops (from_pin_map wide k nodes) e) v z
+  pub pin-map-stops : {n : ℕ} → field_byte (Net PinMap) 0 (drop at s) ≡ refused n → (wide : Bool) (nodes : ℕ) → gate_reader wide k nodes (drop at s) ≡ refused n
+  pin-map-stops e wide nodes = gate_stages wide k nodes (drop at s) ∙ then-stops (from_pin_map wide k nodes) e
 
   module _ (p after : ℕ) (here : field_byte (Net PinMap) 0 (drop at s) ≡ got p (drop after s)) where
     pin-map-goes : (wide : Bool) (nodes : ℕ) → gate_reader wide k nodes (drop at s) ≡ from_pin_map wide k nodes p (drop after s)
     pin-map-goes wide nodes = gate_stages wide k nodes (drop at s) ∙ then-goes (from_pin_map wide k nodes) here
 
-    width-stops : (m : Maps) → k < ones p → m.verdict ≡ Refused 7 → m.pins ≡ 0 → MapsRead s at k m
-    width-stops m h v z = stop-maps m
-        (λ wide nodes. pin-map-goes wide nodes
-        ∙ ap (λ (t : Bool). and_then (check t 7 (ones p) (drop after s)) (from_width wide nodes p)) (lt-leb (ones p) k h)) v z
+    -- more pins than k, whatever stands behind the pin map
+    pub width-stops : k < ones p → (wide : Bool) (nodes : ℕ) → gate_reader wide k nodes (drop at s) ≡ refused 7
+    width-stops h wide nodes =
+        pin-map-goes wide nodes
+        ∙ ap (λ (t : Bool). and_then (check t 7 (ones p) (drop after s)) (from_width wide nodes p)) (lt-leb (ones p) k h)
 
     width-goes : ones p ≤ k → (wide : Bool) (nodes : ℕ) → gate_reader wide k nodes (drop at s) ≡ from_width wide nodes p (ones p) (drop after s)
     width-goes h wide nodes = pin-map-goes wide nodes
         ∙ ap (λ (t : Bool). and_then (check t 7 (ones p) (drop after s)) (from_width wide nodes p)) (le-leb (ones p) k h)
 
-    -- the verdicts on the width and on the register map, in this order
-    module _ {v : Verdict} (w : Verdict) (width : Width k p v) (r end : ℕ) (f : field_byte (Net RegisterMap) p (drop after s) ≡ outcome w r (drop end s)) where
-      pub maps-stop : {n : ℕ} (m : Maps) → first_of v w ≡ Refused n → m.verdict ≡ Refused n → m.pins ≡ 0 → MapsRead s at k m
-      maps-stop {n} m q x z = go width
-        where
-          go : Width k p v → MapsRead s at k m
-          go (fits h e) =
-              stop-maps m (λ wide nodes. width-goes h wide nodes ∙ then-stops (from_maps wide nodes p (ones p)) (stopped r (drop end s) f (ap (λ (t : Verdict). first_of t w) (sym e) ∙ q))) x z
-          go (over h e) = width-stops m h (x ∙ sym q ∙ ap (λ (t : Verdict). first_of t w) e) z
+    pub maps-stop : ones p ≤ k → {n : ℕ} → field_byte (Net RegisterMap) p (drop after s) ≡ refused n
+        → (wide : Bool) (nodes : ℕ) → gate_reader wide k nodes (drop at s) ≡ refused n
+    maps-stop h f wide nodes = width-goes h wide nodes ∙ then-stops (from_maps wide nodes p (ones p)) f
 
-      pub maps-go : first_of v w ≡ Read → MapsRead s at k (record { verdict = Read; at = end; pins = p; registers = r })
-      maps-go q = go width
-        where
-          go : Width k p v → MapsRead s at k (record { verdict = Read; at = end; pins = p; registers = r })
-          go (fits h e) =
-              let range = between-true 1 63 p (byte-got 4 6 (between 1 63) (drop at s) p (drop after s) here) in
-              let high = range.1 in
-              record {
-                result = λ wide nodes. width-goes h wide nodes ∙ then-goes (from_maps wide nodes p (ones p)) (went r (drop end s) f (ap (λ (t : Verdict). first_of t w) (sym e) ∙ q));
-                small = omega arith;
-              }
-          go (over h e) = absurd (not-both q (ap (λ (t : Verdict). first_of t w) e))
+    pub maps-go : ones p ≤ k → (r end : ℕ) → field_byte (Net RegisterMap) p (drop after s) ≡ got r (drop end s)
+        → MapsRead s at k (Ok (record { value = record { pins = p; registers = r }; at = end }))
+    maps-go h r end f =
+        let range = between-true 1 63 p (byte-got 4 6 (between 1 63) (drop at s) p (drop after s) here) in
+        let high = range.1 in
+        record {
+          result = λ wide nodes. width-goes h wide nodes ∙ then-goes (from_maps wide nodes p (ones p)) f;
+          small = omega arith;
+        }
 
 -- the lists behind the maps, where m pins, c counts and b table bytes are read
 module _ (wide : Bool) (nodes p r m c b : ℕ) (em : m ≡ ones p) (ec : c ≡ ones r) (eb : b ≡ table_bytes m) (t : List ℕ) where

@@ -1,14 +1,14 @@
 -- Definitions: what the functions that read a row promise.
-use Rattle.std.specs.Prelude.{◌≡◌, Bool, List, ◌++◌, ℕ, ◌-◌, ◌≤◌, ◌<◌, length, drop}
+use Rattle.std.specs.Prelude.{◌≡◌, Bool, List, ◌++◌, ℕ, ◌-◌, ◌≤◌, ◌<◌, length, drop, Result, IfOk}
 use Rattle.std.specs.Int.Count.{ones}
 use Rattle.limits.specs.Limits.{most_items, most_pins}
-use Rattle.net_model.specs.Net.{Gate}
+use Rattle.refusals.specs.declared.Refusal.{Refusal}
+use Rattle.net_model.specs.Net.{Gate, Pin}
 use Rattle.net_model.specs.Arrays.{pins_in}
 use Rattle.net_bytes.specs.Walk.{gate_reader, output_reader, pins_from}
 use Rattle.net_bytes.specs.Stages.{from_maps, made_gate}
-use Rattle.net_fields.specs.declared.Verdict.{Verdict}
-use Rattle.net_fields.specs.declared.Verdict.TheVariants.{Read, Refused}
-use Rattle.net_fields.specs.Verdicts.{outcome, onward}
+use Rattle.net_fields.specs.declared.Read.{Read}
+use Rattle.net_fields.specs.Outcomes.{outcome, onward}
 use Rattle.net_rows.specs.declared.Maps.{Maps}
 use Rattle.net_rows.specs.declared.Lists.{Lists}
 use Rattle.net_rows.specs.declared.SpreadSoFar.{SpreadSoFar}
@@ -22,35 +22,29 @@ pub record Spreading (p r : ℕ) (counts : List ℕ) (i : ℕ) (so : SpreadSoFar
   pub used : so.used ≤ i
   pub long : length so.counts ≡ most_items
 
--- whether a pin map has more pins than k
-pub data Width (k p : ℕ) (v : Verdict) : Type 0 where
-  fits : ones p ≤ k → v ≡ Read → Width k p v
-  over : k < ones p → v ≡ Refused 7 → Width k p v
-
--- the first refusal of two verdicts
-abbrev pub first_of : Verdict → Verdict → Verdict
-first_of Read b = b
-first_of (Refused n) b = Refused n
-
 -- the maps are read: the gate is what the readers behind them make of it
-pub record MapsRead (s : List ℕ) (at k : ℕ) (m : Maps) : Type 0 where
+pub record MapsRead (s : List ℕ) (at k : ℕ) (m : Result (Read Maps) Refusal) : Type 0 where
   pub result : (wide : Bool) (nodes : ℕ) → gate_reader wide k nodes (drop at s)
-      ≡ onward m.verdict (from_maps wide nodes m.pins (ones m.pins) m.registers (drop m.at s))
-  pub small : m.pins < 64
+      ≡ onward (λ x. from_maps wide nodes x.value.pins (ones x.value.pins) x.value.registers (drop x.at s)) m
+  pub small : IfOk m (λ x. x.value.pins < 64)
 
 -- the lists behind the maps are read, zeros behind each
-abbrev pub ListsRead : Bool → List ℕ → ℕ → ℕ → ℕ → ℕ → Lists → Type 0
-ListsRead wide s at p r nodes l = from_maps wide nodes p (ones p) r (drop at s) ≡ outcome l.verdict (made_gate p r l.sources l.counts l.table) (drop l.at s)
+abbrev pub ListsRead : Bool → List ℕ → ℕ → ℕ → ℕ → ℕ → Result (Read Lists) Refusal → Type 0
+ListsRead wide s at p r nodes l = from_maps wide nodes p (ones p) r (drop at s) ≡ outcome (λ x. made_gate p r x.sources x.counts x.table) s l
 
 -- the gate of a row
 abbrev pub row_gate : GateRow → Gate
 row_gate g = record { pins = pins_in g.sources g.counts 0 g.pins; table = g.table }
 
 -- a gate is read as a row
-pub record GateRead (wide : Bool) (s : List ℕ) (at k nodes : ℕ) (g : GateRow) : Type 0 where
-  pub result : gate_reader wide k nodes (drop at s) ≡ outcome g.verdict (row_gate g) (drop g.at s)
-  pub most : g.pins ≤ most_pins
+pub record GateRead (wide : Bool) (s : List ℕ) (at k nodes : ℕ) (g : Result (Read GateRow) Refusal) : Type 0 where
+  pub result : gate_reader wide k nodes (drop at s) ≡ outcome row_gate s g
+  pub most : IfOk g (λ x. x.value.pins ≤ most_pins)
+
+-- the output of a row
+abbrev pub row_pin : OutputRow → Pin
+row_pin o = record { src = o.source; count = o.count }
 
 -- an output is read
-abbrev pub OutputRead : Bool → List ℕ → ℕ → ℕ → OutputRow → Type 0
-OutputRead wide s at nodes o = output_reader wide nodes (drop at s) ≡ outcome o.verdict (record { src = o.source; count = o.count }) (drop o.at s)
+abbrev pub OutputRead : Bool → List ℕ → ℕ → ℕ → Result (Read OutputRow) Refusal → Type 0
+OutputRead wide s at nodes o = output_reader wide nodes (drop at s) ≡ outcome row_pin s o

@@ -1,57 +1,56 @@
-use mathlib.Core.Path.{refl, ap, ◌∙◌}
-use native.Mathlib.Omega.{arith}
-use lib.Count.{ones, ones-le}
-use lib.ListN.{drop, take}
+use Rattle.std.proofs.Common.{refl, ap, ◌∙◌, arith, take, drop}
+use Rattle.std.proofs.lemmas.Result.{err_from_is_err_and}
+use lib.Count.{ones-le}
 use Rattle.limits.specs.Limits.{most_pins}
 use Rattle.net_model.specs.Net.{Gate}
 use Rattle.net_bytes.specs.Reading.{got}
-use Rattle.net_bytes.specs.Walk.{table_bytes}
-use Rattle.net_fields.specs.FieldLaws.{went, stopped, stopping}
-use Rattle.net_rows.specs.GateLaws.{sources-stop, counts-stop, table-stops, lists-go, made-whole}
-use Rattle.std.proofs.Common.{rules}
+use Rattle.net_rows.specs.GateLaws.{counts-stop, table-stops, lists-go, made-whole}
 use Rattle.net_rows.proofs.read_lists.Goals as goal
 
 pub table_bytes-b-requires : goal.table_bytes-b-requires
-table_bytes-b-requires c =
-    let start = c in
-    omega (arith, c.count_of-m.ensures.is, ones-le most_pins c.args.pins c.requires)
+table_bytes-b-requires c = omega (arith, c.count_of-m.ensures.is, ones-le most_pins c.args.maps.pins c.requires)
 
-pub returns-in-Refused-x : goal.returns-in-Refused-x
-returns-in-Refused-x c =
+pub returns-in_err-counts : goal.returns-in_err-counts
+returns-in_err-counts c =
     let a = c.args in
     let s = a.bytes.now in
     let m = c.count_of-m in
-    let x = c.read_numbers-sources in
+    let x = c.in_ok-sources in
     let k = c.count_of-r in
-    let y = c.read_items-counts in
+    let p = err_from_is_err_and c.from_residual-in_err-counts.result c.from_residual-in_err-counts.ensures.1 in
+    rw (p.1, p.2)
+    (counts-stop a.rules.wide a.nodes a.maps.pins a.maps.registers m.result k.result _ m.ensures.is k.ensures.is refl (drop a.at s)
+    (take m.result x.field-0.value) (drop x.field-0.at s) x.ensures.result c.in_err-counts.ensures.result)
+
+pub returns-in_err-table : goal.returns-in_err-table
+returns-in_err-table c =
+    let a = c.args in
+    let s = a.bytes.now in
+    let m = c.count_of-m in
+    let x = c.in_ok-sources in
+    let k = c.count_of-r in
+    let y = c.in_ok-counts in
     let b = c.table_bytes-b in
-    let z = c.read_items-table in
-    let n = c.no_lists-in-Refused-x in
-    stopping _ _ (table-stops a.rules.wide a.nodes a.pins a.registers m.result k.result b.result m.ensures.is k.ensures.is b.ensures.is (drop a.at s)
-    (take m.result x.result.values) (drop x.result.at s)
-    (went (take m.result x.result.values) (drop x.result.at s) x.ensures.result
-    c.in_default.is)
-    (take k.result y.result.values) (drop y.result.at s)
-    (went (take k.result y.result.values) (drop y.result.at s) y.ensures.result c.in_default-w.is)
-    (stopped (take b.result z.result.values) (drop z.result.at s) z.ensures.result c.in-Refused-x.is)) n.ensures
+    let p = err_from_is_err_and c.from_residual-in_err-table.result c.from_residual-in_err-table.ensures.1 in
+    rw (p.1, p.2)
+    (table-stops a.rules.wide a.nodes a.maps.pins a.maps.registers m.result k.result b.result m.ensures.is k.ensures.is b.ensures.is (drop a.at s)
+    (take m.result x.field-0.value) (drop x.field-0.at s) x.ensures.result
+    (take k.result y.field-0.value) (drop y.field-0.at s) y.ensures.result c.in_err-table.ensures.result)
 
 pub returns : goal.returns
 returns c =
     let a = c.args in
     let s = a.bytes.now in
     let m = c.count_of-m in
-    let x = c.read_numbers-sources in
+    let x = c.in_ok-sources in
     let k = c.count_of-r in
-    let y = c.read_items-counts in
+    let y = c.in_ok-counts in
     let b = c.table_bytes-b in
-    let z = c.read_items-table in
-    lists-go a.rules.wide a.nodes a.pins a.registers m.result k.result b.result m.ensures.is k.ensures.is b.ensures.is (drop a.at s)
-    (take m.result x.result.values) (drop x.result.at s)
-    (went (take m.result x.result.values) (drop x.result.at s) x.ensures.result
-    c.in_default.is)
-    (take k.result y.result.values) (drop y.result.at s)
-    (went (take k.result y.result.values) (drop y.result.at s) y.ensures.result c.in_default-w.is)
-    (take b.result z.result.values) (drop z.result.at s)
-    (went (take b.result z.result.values) (drop z.result.at s) z.ensures.result c.in_default-x.is)
-    ∙ ap (λ (g : Gate). got g (drop z.result.at s)) (made-whole a.pins a.registers m.result k.result b.result x.result.values y.result.values z.result.values
-    x.ensures.spare y.ensures.spare z.ensures.spare)
+    let z = c.in_ok-table in
+    lists-go a.rules.wide a.nodes a.maps.pins a.maps.registers m.result k.result b.result m.ensures.is k.ensures.is b.ensures.is (drop a.at s)
+    (take m.result x.field-0.value) (drop x.field-0.at s) x.ensures.result
+    (take k.result y.field-0.value) (drop y.field-0.at s) y.ensures.result
+    (take b.result z.field-0.value) (drop z.field-0.at s) z.ensures.result
+    ∙ ap (λ (g : Gate). got g (drop z.field-0.at s))
+    (made-whole a.maps.pins a.maps.registers m.result k.result b.result x.field-0.value y.field-0.value z.field-0.value
+    x.ensures.values.spare y.ensures.values.spare z.ensures.values.spare)

@@ -1,38 +1,30 @@
-use mathlib.Core.Path.{sym, ◌∙◌}
-use Rattle.net_fields.specs.FieldLaws.{went, stopped}
-use Rattle.net_rows.specs.GateLaws.{pin-map-stops, maps-stop, maps-go}
-use lib.ListN.{drop}
-use Rattle.std.proofs.Common.{rules}
+use Rattle.std.proofs.Common.{arith}
+use Rattle.std.proofs.lemmas.Result.{err_from_is_err_and}
+use Rattle.net_rows.specs.GateLaws.{pin-map-stops, width-stops, maps-stop, maps-go}
 use Rattle.net_rows.proofs.read_maps.Goals as goal
 
-pub returns-in-Refused : goal.returns-in-Refused
-returns-in-Refused c =
+pub returns-in_err-pins : goal.returns-in_err-pins
+returns-in_err-pins c =
     let a = c.args in
-    let s = a.bytes.now in
-    let b = c.read_byte-pins in
-    let n = c.no_maps in
-    pin-map-stops s a.at a.k n.result (stopped b.result.value (drop b.result.at s) b.ensures c.in-Refused.is) n.ensures.0 n.ensures.1
+    let p = err_from_is_err_and c.from_residual.result c.from_residual.ensures.1 in
+    rw (p.1, p.2) (record { result = pin-map-stops a.bytes.now a.at a.k c.in_err-pins.ensures; small = tt })
 
-pub returns-in-Refused-w : goal.returns-in-Refused-w
-returns-in-Refused-w c =
+pub returns-then-k-ones_of : goal.returns-then-k-ones_of
+returns-then-k-ones_of c =
     let a = c.args in
-    let s = a.bytes.now in
-    let b = c.read_byte-pins in
-    let d = c.read_byte-registers in
-    let n = c.no_maps-in-Refused-w in
-    maps-stop s a.at a.k b.result.value b.result.at
-    (went b.result.value (drop b.result.at s) b.ensures c.in_default.is) d.result.verdict
-    c.width-pin_width.ensures
-    d.result.value d.result.at (rw c.wide.ensures at d.ensures) n.result
-    (sym c.first_of-w.ensures ∙ c.in-Refused-w.is) n.ensures.0 n.ensures.1
+    let b = c.in_ok-pins in
+    record { result = width-stops a.bytes.now a.at a.k b.pins.value b.pins.at b.ensures (omega arith); small = tt }
+
+pub returns-in_err-registers : goal.returns-in_err-registers
+returns-in_err-registers c =
+    let a = c.args in
+    let b = c.in_ok-pins in
+    let p = err_from_is_err_and c.from_residual-in_err-registers.result c.from_residual-in_err-registers.ensures.1 in
+    rw (p.1, p.2) (record { result = maps-stop a.bytes.now a.at a.k b.pins.value b.pins.at b.ensures (omega arith) (rw c.from-whole.ensures at c.in_err-registers.ensures); small = tt })
 
 pub returns : goal.returns
 returns c =
     let a = c.args in
-    let s = a.bytes.now in
-    let b = c.read_byte-pins in
-    let d = c.read_byte-registers in
-    maps-go s a.at a.k b.result.value b.result.at
-    (went b.result.value (drop b.result.at s) b.ensures c.in_default.is) d.result.verdict
-    c.width-pin_width.ensures
-    d.result.value d.result.at (rw c.wide.ensures at d.ensures) (sym c.first_of-w.ensures ∙ c.in_default-w.is)
+    let b = c.in_ok-pins in
+    let d = c.in_ok-registers in
+    maps-go a.bytes.now a.at a.k b.pins.value b.pins.at b.ensures (omega arith) d.registers.value d.registers.at (rw c.from-whole.ensures at d.ensures)

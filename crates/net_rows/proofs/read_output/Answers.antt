@@ -1,55 +1,40 @@
-use borrow.Author.Tests.{leb-true}
-use native.Mathlib.Omega.{arith}
-use lib.Dec.{leb}
-use lib.ListN.{drop, take, get_or}
-use Rattle.net_bytes.specs.Readers.{byte-got}
-use Rattle.net_fields.specs.FieldLaws.{went, stopped, stopping}
+use Rattle.std.proofs.Common.{get_or, take, drop}
+use Rattle.std.proofs.lemmas.Result.{err_from_is_err_and}
 use Rattle.net_fields.specs.FieldListLaws.{first_taken}
 use Rattle.net_rows.specs.OutputLaws.{out-map-stops, out-source-stops, delays-stop, out-goes}
-use Rattle.std.proofs.Common.{rules}
 use Rattle.net_rows.proofs.read_output.Goals as goal
 
-pub returns-in-Refused : goal.returns-in-Refused
-returns-in-Refused c =
+pub returns-in_err-map : goal.returns-in_err-map
+returns-in_err-map c =
     let a = c.args in
-    let s = a.bytes.now in
-    let m = c.read_byte-map in
-    stopping _ _ (out-map-stops a.rules.wide a.nodes (drop a.at s)
-    (stopped m.result.value (drop m.result.at s) m.ensures c.in-Refused.is)) c.no_output.ensures
+    let p = err_from_is_err_and c.from_residual.result c.from_residual.ensures.1 in
+    rw (p.1, p.2) (out-map-stops a.rules.wide a.nodes (drop a.at a.bytes.now) c.in_err-map.ensures)
 
-pub returns-in-Refused-w : goal.returns-in-Refused-w
-returns-in-Refused-w c =
+pub returns-in_err-source : goal.returns-in_err-source
+returns-in_err-source c =
     let a = c.args in
     let s = a.bytes.now in
-    let m = c.read_byte-map in
-    let n = c.read_number-source in
-    stopping _ _ (out-source-stops a.rules.wide a.nodes (drop a.at s) m.result.value (drop m.result.at s)
-    (went m.result.value (drop m.result.at s) m.ensures c.in_default.is)
-    (stopped n.result.value (drop n.result.at s) n.ensures.result c.in-Refused-w.is)) c.no_output-in-Refused-w.ensures
+    let m = c.in_ok-map in
+    let p = err_from_is_err_and c.from_residual-in_err-source.result c.from_residual-in_err-source.ensures.1 in
+    rw (p.1, p.2) (out-source-stops a.rules.wide a.nodes (drop a.at s) m.map.value (drop m.map.at s) m.ensures c.in_err-source.ensures.result)
 
-pub returns-in-Refused-x : goal.returns-in-Refused-x
-returns-in-Refused-x c =
+pub returns-in_err-counts : goal.returns-in_err-counts
+returns-in_err-counts c =
     let a = c.args in
     let s = a.bytes.now in
-    let m = c.read_byte-map in
-    let n = c.read_number-source in
-    let x = c.read_items-counts in
-    let items = rw c.wide-m.ensures at x.ensures in
-    stopping _ _ (delays-stop a.rules.wide a.nodes (drop a.at s) m.result.value (drop m.result.at s)
-    (went m.result.value (drop m.result.at s) m.ensures c.in_default.is)
-    n.result.value (drop n.result.at s) (went n.result.value (drop n.result.at s) n.ensures.result c.in_default-w.is)
-    (stopped (take m.result.value x.result.values) (drop x.result.at s) items.result c.in-Refused-x.is)) c.no_output-in-Refused-x.ensures
+    let m = c.in_ok-map in
+    let n = c.in_ok-source in
+    let p = err_from_is_err_and c.from_residual-in_err-counts.result c.from_residual-in_err-counts.ensures.1 in
+    let items = rw c.from-m.ensures at c.in_err-counts.ensures in
+    rw (p.1, p.2) (delays-stop a.rules.wide a.nodes (drop a.at s) m.map.value (drop m.map.at s) m.ensures n.source.value (drop n.source.at s) n.ensures.result items.result)
 
 pub returns : goal.returns
 returns c =
     let a = c.args in
     let s = a.bytes.now in
-    let m = c.read_byte-map in
-    let n = c.read_number-source in
-    let x = c.read_items-counts in
-    let items = rw c.wide-m.ensures at x.ensures in
-    out-goes a.rules.wide a.nodes (drop a.at s) m.result.value (drop m.result.at s)
-    (went m.result.value (drop m.result.at s) m.ensures c.in_default.is)
-    n.result.value (drop n.result.at s) (went n.result.value (drop n.result.at s) n.ensures.result c.in_default-w.is)
-    (get_or x.result.values 0 0) (take m.result.value x.result.values) (drop x.result.at s) (first_taken m.result.value x.result.values items.spare)
-    (went (take m.result.value x.result.values) (drop x.result.at s) items.result c.in_default-x.is)
+    let m = c.in_ok-map in
+    let n = c.in_ok-source in
+    let x = c.in_ok-counts.counts in
+    let items = rw c.from-m.ensures at c.in_ok-counts.ensures in
+    out-goes a.rules.wide a.nodes (drop a.at s) m.map.value (drop m.map.at s) m.ensures n.source.value (drop n.source.at s) n.ensures.result
+    (get_or x.value 0 0) (take m.map.value x.value) (drop x.at s) (first_taken m.map.value x.value items.values.spare) items.result
