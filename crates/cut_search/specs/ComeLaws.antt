@@ -1,16 +1,17 @@
 -- The search comes to a copy, or leaves it: laws of `come` and `leave`.
-use Rattle.std.specs.Prelude.{◌≡◌, ◌⊎◌, List, ◌∷◌, ◌++◌, ℕ, zero, suc, ◌+◌, ◌-◌, ◌*◌, ◌/◌, ◌^◌, ◌≤◌, ◌<◌, length, get_or, set}
+use Rattle.std.specs.Prelude.{◌≡◌, true, false, None, Some, ◌⊎◌, List, ◌∷◌, ◌++◌, ℕ, suc, ◌+◌, ◌*◌, ◌/◌, ◌^◌, ◌≤◌, ◌<◌, length, get_or, set}
 use Rattle.std.proofs.Math.Path.{refl}
 use Rattle.std.proofs.Common.{sym, ap, subst, ◌∙◌, inl, inr, arith, length-set, get_or-set_same, get_or-set_other}
+use Rattle.std.proofs.lemmas.Bool.{false≢true}
 use Rattle.limits.specs.Limits.{most_pins}
 use Rattle.sequences.specs.Member.{◌∈◌}
 use Rattle.cut_flow.specs.State.{Stored}
 use Rattle.cut_flow.specs.Search.{MarkedIn, PassedOut, positive_or_zero, reached-apart}
-use Rattle.cut_flow.specs.Stack.{Frame, frame, Comes, itself, successor, Stacked, Hanging}
+use Rattle.cut_flow.specs.Stack.{Frame, frame, Comes, itself, successor, Stacked}
 use Rattle.cut_flow.specs.StackLaws.{comes-passed, last-passed, settled}
 use Rattle.cut_flow.specs.StackEnter.{entered_counted, entered_carried, entered_bare, hit}
 use Rattle.cut_flow.specs.StackBounds.{owed}
-use Rattle.cut_circuit.specs.Circuit.{Circuit, graph_of, total, ending, ending_at, pins_of}
+use Rattle.cut_circuit.specs.Circuit.{Circuit, graph_of, ending, ending_at, pins_of}
 use Rattle.cut_circuit.specs.CircuitLaws.{lawful, terminal-is, node-below, wide-positive}
 use Rattle.cut_search.specs.SearchTable.{view_of, with_in, with_flow}
 use Rattle.cut_search.specs.SearchTableLaws.{with_in_lem, with_flow_lem, noted_in, noted-flow, live-flagged, left-marked_in, out_below}
@@ -19,7 +20,7 @@ use Rattle.cut_search.specs.Stacks.{frames_of, turns_of, last-is, node_of, Stack
 use Rattle.cut_search.specs.StackParts.{Pushed}
 use Rattle.cut_search.specs.StacksLaws.{length-frames_at, owing-is, owed_more}
 use Rattle.cut_search.specs.CopyLaws.{inner-total, inner-few, comes-inner, stack_few, load-few, seek_next, seek_none}
-use Rattle.cut_search.specs.Steps.{Store, Keeps, ComeAsked, ComeTold, LeaveAsked, LeaveTold}
+use Rattle.cut_search.specs.Steps.{Keeps, ComeAsked, ComeTold, LeaveAsked, LeaveTold}
 
 -- a counter raised
 pub count-stored : (cnt : List ℕ) (g : ℕ) → g < length cnt → Stored (λ (u : ℕ). get_or cnt u 0) (λ (u : ℕ). get_or (set cnt g (get_or cnt g 0 + 1)) u 0) g (suc (get_or cnt g 0))
@@ -154,6 +155,12 @@ module _ {C : Circuit} {f : ℕ} {t stk cnt : List ℕ} {e : ℕ} (a : ComeAsked
   told-bare {t'} {n} p q h k =
       subst (λ (g : List ℕ). ComeTold C f t stk cnt g stk cnt e) (sym p) (come-bare (omega (arith, q, h)) (subst (λ (g : List ℕ). (view_of g).flow e ≤ 0) p k))
 
+some_same : {x y : ℕ} → Some x ≡ Some y → x ≡ y
+some_same e = cc
+
+none_apart : {y : ℕ} → None ≡ Some y → ⊥
+none_apart e = cc
+
 -- ---- out of y
 module _ {C : Circuit} {f : ℕ} {t stk cnt : List ℕ} {y : ℕ} (a : LeaveAsked C f t stk cnt y) where
   pub leave_inside : y < length t
@@ -163,12 +170,12 @@ module _ {C : Circuit} {f : ℕ} {t stk cnt : List ℕ} {y : ℕ} (a : LeaveAske
   leave_wide = wide-positive a.fixed.layout
 
   -- an open terminal takes a unit from outside
-  pub leave_open : (view_of t).flow y ≡ 0 → 0 < ending_at C.inputs C.width C.border y → LeaveTold C f t stk cnt (with_flow t y 7) stk cnt y 1
+  pub leave_open : (view_of t).flow y ≡ 0 → 0 < ending_at C.inputs C.width C.border y → LeaveTold C f t stk cnt (with_flow t y 7) stk cnt y true
   leave_open z e = record {
     keeps = λ l n. noted-flow n y 7 leave_inside (omega arith) (live-flagged n.touched y (inr (inl a.hanging.hanging.marked))) (inl (omega arith));
-    same = λ q. absurd (omega (arith, q));
-    less = λ q. absurd (omega (arith, q));
-    more = λ q. absurd (omega (arith, q));
+    same = λ q. absurd (false≢true (sym q));
+    less = λ q. absurd (false≢true (sym q));
+    more = λ q. absurd (false≢true (sym q));
     won = λ p R h W load. record {
       X = y ∷ (h.hanging.core.list ++ W);
       few = load-few a.fixed h.hanging.core W load y;
@@ -188,64 +195,72 @@ module _ {C : Circuit} {f : ℕ} {t stk cnt : List ℕ} {y : ℕ} (a : LeaveAske
           omega (arith, l, a.store.deep, length-frames_at stk (get_or stk 0 0), ap length a.hanging.frames)
 
   -- y has passed its mark on
-  passed : PassedOut (graph_of C) (view_of t) y → LeaveTold C f t stk cnt t stk cnt y 0
+  passed : PassedOut (graph_of C) (view_of t) y → LeaveTold C f t stk cnt t stk cnt y false
   passed p = record {
     keeps = λ l n. n;
     same = λ q. refl;
     less = λ q. omega arith;
     more = λ q R h. subst (Stacked (graph_of C) (turns_of C) (node_of C) f (view_of t).flow (λ z. z ∈ R) (view_of t) (λ u. get_or cnt u 0)) (sym h.frames) (settled h.hanging p);
-    won = λ q. absurd (omega (arith, q));
+    won = λ q. absurd (false≢true q);
   }
 
   abbrev flow_of : ℕ → ℕ
   flow_of = (view_of t).flow
 
   -- where the search comes to from y
-  entry-comes : {r : ℕ} → EntryTold C.inputs C.width C.border C.sources C.counts C.heads C.nexts t y r → (flow_of y ≡ 0 → ending_at C.inputs C.width C.border y ≡ 0)
-      → r < length t → Comes (graph_of C) flow_of y r
-  entry-comes {r} o inner h = go (positive_or_zero (flow_of y))
+  entry-comes : {r : ℕ} → EntryTold C.inputs C.width C.border C.sources C.counts C.heads C.nexts t y (Some r) → (flow_of y ≡ 0 → ending_at C.inputs C.width C.border y ≡ 0)
+      → Comes (graph_of C) flow_of y r
+  entry-comes {r} o inner = go (positive_or_zero (flow_of y))
     where
       apart : (graph_of C).forced y ≡ 0
       apart = reached-apart a.hanging.hanging.core.ready.state a.hanging.hanging.reached
 
       go : (0 < flow_of y) ⊎ (flow_of y ≡ 0) → Comes (graph_of C) flow_of y r
       go (inr z) =
-          let q = o.empty z in
+          let q = some_same (o.empty z) in
           itself q (ap flow_of q ∙ z) (ap (graph_of C).terminal q ∙ (terminal-is C y ∙ omega (arith, inner z, leave_inside, a.store.room))) (ap (graph_of C).forced q ∙ apart)
       go (inl p) =
-          let n = seek_next a.fixed t y a.store.room leave_inside a.hanging.hanging.core.ready.state (o.carried p) h in
+          let n = seek_next a.fixed t y a.store.room leave_inside a.hanging.hanging.core.ready.state (o.carried p) in
           successor n (a.hanging.hanging.core.ready.state.apart r (omega (arith, n.fed.pin)))
 
-  module _ {r : ℕ} (o : EntryTold C.inputs C.width C.border C.sources C.counts C.heads C.nexts t y r) (inner : flow_of y ≡ 0 → ending_at C.inputs C.width C.border y ≡ 0) where
-    -- nowhere
-    pub leave_last : length t ≤ r → LeaveTold C f t stk cnt t stk cnt y 0
-    leave_last h = passed (go (positive_or_zero (flow_of y)))
-      where
-        go : (0 < flow_of y) ⊎ (flow_of y ≡ 0) → PassedOut (graph_of C) (view_of t) y
-        go (inr z) = absurd (omega (arith, h, o.empty z, leave_inside))
-        go (inl p) = last-passed p (seek_none a.fixed t y a.store.room leave_inside (o.carried p) h)
+  -- nowhere
+  pub leave_last : EntryTold C.inputs C.width C.border C.sources C.counts C.heads C.nexts t y None → LeaveTold C f t stk cnt t stk cnt y false
+  leave_last o = passed (go (positive_or_zero (flow_of y)))
+    where
+      go : (0 < flow_of y) ⊎ (flow_of y ≡ 0) → PassedOut (graph_of C) (view_of t) y
+      go (inr z) = absurd (none_apart (o.empty z))
+      go (inl p) = last-passed p (seek_none a.fixed t y a.store.room leave_inside (o.carried p))
 
+  -- where the search comes to is in the table
+  pub leave_entry : {r : ℕ} → EntryTold C.inputs C.width C.border C.sources C.counts C.heads C.nexts t y (Some r) → r < length t
+  leave_entry {r} o = go (positive_or_zero (flow_of y))
+    where
+      go : (0 < flow_of y) ⊎ (flow_of y ≡ 0) → r < length t
+      go (inr z) = omega (arith, some_same (o.empty z), leave_inside)
+      go (inl p) = (o.carried p).0
+
+  module _ {r : ℕ} (o : EntryTold C.inputs C.width C.border C.sources C.counts C.heads C.nexts t y (Some r)) (inner : flow_of y ≡ 0 → ending_at C.inputs C.width C.border y ≡ 0) where
     -- to a copy marked in
-    pub leave_met : r < length t → 0 < (view_of t).inn r → LeaveTold C f t stk cnt t stk cnt y 0
-    leave_met h i = passed (comes-passed a.hanging.hanging.core.ready.state (entry-comes o inner h) i)
+    pub leave_met : 0 < (view_of t).inn r → LeaveTold C f t stk cnt t stk cnt y false
+    leave_met i = passed (comes-passed a.hanging.hanging.core.ready.state (entry-comes o inner) i)
 
     -- to a copy not marked in
-    pub leave_asked : r < length t → (view_of t).inn r ≤ 0 → ComeAsked C f t stk cnt r
-    leave_asked h i = record {
+    pub leave_asked : (view_of t).inn r ≤ 0 → ComeAsked C f t stk cnt r
+    leave_asked i = record {
       fixed = a.fixed;
       store = a.store;
       R = a.R;
       y = y;
       hanging = a.hanging;
-      comes = entry-comes o inner h;
+      comes = entry-comes o inner;
       fresh = omega (arith, i);
     }
 
-    pub leave_come : {t' stk' cnt' : List ℕ} → r < length t → ComeTold C f t stk cnt t' stk' cnt' r → LeaveTold C f t stk cnt t' stk' cnt' y 0
-    leave_come h k = record {
+    pub leave_come : {t' stk' cnt' : List ℕ} → ComeTold C f t stk cnt t' stk' cnt' r → LeaveTold C f t stk cnt t' stk' cnt' y false
+    leave_come k = record {
       keeps = k.keeps;
       same = λ q. k.same;
       less = λ q. k.less;
-      more = λ q R g. k.more R y g (entry-comes o inner h);
-      won = λ q. absurd (omega (arith, q));
+      more = λ q R g. k.more R y g (entry-comes o inner);
+      won = λ q. absurd (false≢true q);
     }

@@ -1,5 +1,5 @@
 -- Copies that have come are gates' copies inside the border: what the functions may ask of them, and the bounds of the search.
-use Rattle.std.specs.Prelude.{◌≡◌, List, ◌∷◌, ◌++◌, map, ℕ, suc, ◌+◌, ◌-◌, ◌*◌, ◌/◌, ◌%◌, ◌≤◌, ◌<◌, length, get_or}
+use Rattle.std.specs.Prelude.{◌≡◌, None, Some, List, ◌∷◌, ◌++◌, map, ℕ, suc, ◌+◌, ◌-◌, ◌*◌, ◌/◌, ◌%◌, ◌≤◌, ◌<◌, length, get_or}
 use Rattle.std.proofs.Common.{sym, ap, subst, ◌∙◌, inl, inr, div-add-mod', arith}
 use Rattle.std.proofs.lemmas.List.{length-map}
 use Rattle.limits.specs.Limits.{most_pins}
@@ -146,8 +146,8 @@ module _ {C : Circuit} (F : Fixed C) where
                 ∙ div-add-mod' y C.width)));
           }
 
-      pub seek_next : {r : ℕ} → SeekTold C.inputs C.width C.border C.sources C.counts C.heads C.nexts t y r → r < length t → Next (graph_of C) (view_of t).flow y r
-      seek_next o h = behind-next (o.place h).1
+      pub seek_next : {r : ℕ} → SeekTold C.inputs C.width C.border C.sources C.counts C.heads C.nexts t y (Some r) → Next (graph_of C) (view_of t).flow y r
+      seek_next o = behind-next o.1.1
 
     module _ {x : ℕ} (n : Next (graph_of C) (view_of t).flow y x) where
       next-pin : (ending C x ≡ 0) × (n.by < get_or C.pins (x / C.width - C.inputs) 0)
@@ -171,5 +171,5 @@ module _ {C : Circuit} (F : Fixed C) where
       next_chain = subst (λ (u : ℕ). Chain C.nexts (get_or C.heads u 0) (place C x n.by)) next-parts.0
           (F.chains.all (x / C.width - C.inputs) n.by (gate-below F.layout x next-total next-pin.0) next-pin.1)
 
-    pub seek_none : {r : ℕ} → SeekTold C.inputs C.width C.border C.sources C.counts C.heads C.nexts t y r → length t ≤ r → (x : ℕ) → ¬ Next (graph_of C) (view_of t).flow y x
-    seek_none o h x n = o.none h (place C x n.by) x (next_chain n) (next-behind n)
+    pub seek_none : SeekTold C.inputs C.width C.border C.sources C.counts C.heads C.nexts t y None → (x : ℕ) → ¬ Next (graph_of C) (view_of t).flow y x
+    seek_none o x n = o (place C x n.by) x (next_chain n) (next-behind n)

@@ -1,13 +1,13 @@
 -- The same laws of a step for what the program reads: the depth d, the top frame n, its pins m, its first pin v and its way w.
-use Rattle.std.specs.Prelude.{◌≡◌, List, ℕ, ◌+◌, ◌-◌, ◌/◌, ◌%◌, ◌^◌, ◌≤◌, ◌<◌, length, get_or, set}
+use Rattle.std.specs.Prelude.{◌≡◌, Bool, false, Option, None, Some, List, ℕ, ◌+◌, ◌-◌, ◌/◌, ◌%◌, ◌^◌, ◌≤◌, ◌<◌, length, get_or, set}
 use Rattle.std.proofs.Common.{sym, ap, subst, ◌∙◌, arith}
 use Rattle.limits.specs.Limits.{most_pins}
 use Rattle.cut_circuit.specs.Circuit.{Circuit, pins_of}
 use Rattle.cut_circuit.specs.Packed.{GateAsked}
 use Rattle.cut_search.specs.SearchTable.{view_of}
-use Rattle.cut_search.specs.SearchParts.{ListRoom, MarkedOutTold, WayPlace, WayTold}
+use Rattle.cut_search.specs.SearchParts.{ListRoom, MarkedOutTold, WayPlace, WayTo, WayBarred, WayTold}
 use Rattle.cut_search.specs.Stacks.{turn_at, first_of}
-use Rattle.cut_search.specs.StepLaws.{top-inside, top-pins, top-firsts, top-few, top-first, top-way, top-fits, step-popped, step-barred, step-fresh, step_room, step_leave, step_left}
+use Rattle.cut_search.specs.StepLaws.{top-inside, top-pins, top-firsts, top-few, top-first, top-way, top-fits, step-popped, step-barred, step_room, step_leave, step_left}
 use Rattle.cut_search.specs.Steps.{LeaveAsked, LeaveTold, StepAsked, StepTold}
 
 module _ {C : Circuit} {f : ℕ} {t l stk cnt : List ℕ} (a : StepAsked C f t l stk cnt) {d n : ℕ} (p : d ≡ get_or stk 0 0) (q : n ≡ get_or stk d 0) where
@@ -36,9 +36,9 @@ module _ {C : Circuit} {f : ℕ} {t l stk cnt : List ℕ} (a : StepAsked C f t l
     pub read_first : {v : ℕ} → v ≡ first_of C (n / 16) → v < m
     read_first k = omega (arith, k ∙ ap (λ (j : ℕ). first_of C (j / 16)) same, pins-same, top-first a)
 
-    pub read-popped : {stk' : List ℕ} → m + 1 < n % 16 → stk' ≡ set stk 0 (d - 1) → StepTold C f t stk cnt t l stk' cnt 0
+    pub read-popped : {stk' : List ℕ} → m + 1 < n % 16 → stk' ≡ set stk 0 (d - 1) → StepTold C f t stk cnt t l stk' cnt false
     read-popped {stk'} h e =
-        subst (λ (s : List ℕ). StepTold C f t stk cnt t l s cnt 0) (sym (e ∙ ap (λ (k : ℕ). set stk 0 (k - 1)) p)) (step-popped a (omega (arith, h, pins-same, turn-same)))
+        subst (λ (s : List ℕ). StepTold C f t stk cnt t l s cnt false) (sym (e ∙ ap (λ (k : ℕ). set stk 0 (k - 1)) p)) (step-popped a (omega (arith, h, pins-same, turn-same)))
 
     pub read_fits : n % 16 ≤ m + 1 → n + 1 < 2 ^ 32
     read_fits h = omega (arith, same, top-fits a (omega (arith, h, pins-same, turn-same, top-few a)))
@@ -62,23 +62,22 @@ module _ {C : Circuit} {f : ℕ} {t l stk cnt : List ℕ} (a : StepAsked C f t l
       raised-same : set stk d (n + 1) ≡ set stk (get_or stk 0 0) (get_or stk (get_or stk 0 0) 0 + 1)
       raised-same = ap (λ (j : ℕ). set stk j (n + 1)) p ∙ ap (λ (j : ℕ). set stk (get_or stk 0 0) (j + 1)) same
 
-      module _ {y : ℕ} (o : WayTold C t (n / 16) w y) where
-        told : WayTold C t (get_or stk (get_or stk 0 0) 0 / 16) (turn_at (pins_of C (get_or stk (get_or stk 0 0) 0 / 16)) (first_of C (get_or stk (get_or stk 0 0) 0 / 16)) (get_or stk (get_or stk 0 0) 0 % 16)) y
-        told = subst (λ (j : ℕ). WayTold C t (get_or stk (get_or stk 0 0) 0 / 16) j y) way_same (subst (λ (j : ℕ). WayTold C t (j / 16) w y) same o)
+      told : (r : Option ℕ) → WayTold C t (n / 16) w r → WayTold C t (get_or stk (get_or stk 0 0) 0 / 16) (turn_at (pins_of C (get_or stk (get_or stk 0 0) 0 / 16)) (first_of C (get_or stk (get_or stk 0 0) 0 / 16)) (get_or stk (get_or stk 0 0) 0 % 16)) r
+      told r o = subst (λ (j : ℕ). WayTold C t (get_or stk (get_or stk 0 0) 0 / 16) j r) way_same (subst (λ (j : ℕ). WayTold C t (j / 16) w r) same o)
 
-        pub read-barred : {stk' : List ℕ} → length t ≤ y → stk' ≡ set stk d (n + 1) → StepTold C f t stk cnt t l stk' cnt 0
-        read-barred b e = subst (λ (s : List ℕ). StepTold C f t stk cnt t l s cnt 0) (sym (e ∙ raised-same)) (step-barred a early told b)
+      pub read-barred : {stk' : List ℕ} → WayBarred C t (n / 16) w → stk' ≡ set stk d (n + 1) → StepTold C f t stk cnt t l stk' cnt false
+      read-barred o e = subst (λ (s : List ℕ). StepTold C f t stk cnt t l s cnt false) (sym (e ∙ raised-same)) (step-barred a early (told None o))
 
-        module _ (b : y < length t) where
-          pub read-fresh : (view_of t).out y ≡ 0
-          read-fresh = step-fresh a early told b
+      module _ {y : ℕ} (o : WayTo C t (n / 16) w y) where
+        pub read-fresh : (view_of t).out y ≡ 0
+        read-fresh = o.fresh
 
-          pub read-room : ListRoom t l y
-          read-room = step_room a early told b
+        pub read-room : ListRoom t l y
+        read-room = step_room a early (told (Some y) o)
 
-          module _ {t₁ l₁ stk₁ : List ℕ} (m₁ : MarkedOutTold t t₁ l₁ y) (e : length t₁ ≡ length t) (s : stk₁ ≡ set stk d (n + 1)) where
-            pub read_leave : LeaveAsked C f t₁ stk₁ cnt y
-            read_leave = subst (λ (j : List ℕ). LeaveAsked C f t₁ j cnt y) (sym (s ∙ raised-same)) (step_leave a early told b m₁ e)
+        module _ {t₁ l₁ stk₁ : List ℕ} (m₁ : MarkedOutTold t t₁ l₁ y) (e : length t₁ ≡ length t) (s : stk₁ ≡ set stk d (n + 1)) where
+          pub read_leave : LeaveAsked C f t₁ stk₁ cnt y
+          read_leave = subst (λ (j : List ℕ). LeaveAsked C f t₁ j cnt y) (sym (s ∙ raised-same)) (step_leave a early (told (Some y) o) m₁ e)
 
-            pub read_left : {t' stk' cnt' : List ℕ} {r : ℕ} → LeaveTold C f t₁ stk₁ cnt t' stk' cnt' y r → StepTold C f t stk cnt t' l₁ stk' cnt' r
-            read_left {t'} {stk'} {cnt'} {r} g = step_left a early told b m₁ e (subst (λ (j : List ℕ). LeaveTold C f t₁ j cnt t' stk' cnt' y r) (s ∙ raised-same) g)
+          pub read_left : {t' stk' cnt' : List ℕ} {r : Bool} → LeaveTold C f t₁ stk₁ cnt t' stk' cnt' y r → StepTold C f t stk cnt t' l₁ stk' cnt' r
+          read_left {t'} {stk'} {cnt'} {r} g = step_left a early (told (Some y) o) m₁ e (subst (λ (j : List ℕ). LeaveTold C f t₁ j cnt t' stk' cnt' y r) (s ∙ raised-same) g)

@@ -1,12 +1,13 @@
 -- One member of the forced set, and all of them: laws of `try_member` and `search`.
-use Rattle.std.specs.Prelude.{◌≡◌, refl, ◌⊎◌, List, [], ◌∷◌, ℕ, zero, suc, ◌+◌, ◌-◌, ◌*◌, ◌/◌, ◌^◌, ◌≤◌, ◌<◌, length, get_or, set}
+use Rattle.std.specs.Prelude.{◌≡◌, refl, Bool, true, false, ◌⊎◌, List, [], ◌∷◌, ℕ, zero, suc, ◌+◌, ◌*◌, ◌/◌, ◌^◌, ◌≤◌, ◌<◌, length, get_or, set}
 use Rattle.std.proofs.Common.{sym, ap, subst, ◌∙◌, inl, inr, arith, not-suc-le-zero, length-set, get_or-set_same}
+use Rattle.std.proofs.lemmas.Bool.{false≢true}
 use Rattle.std.proofs.Math.Decide.{ℕ_discrete}
 use Rattle.sequences.specs.Member.{◌∈◌, here, there, not_in_nil}
 use Rattle.cut_flow.specs.State.{State}
 use Rattle.cut_flow.specs.Stack.{Frame, frame, Stacked}
 use Rattle.cut_flow.specs.StackEnter.{root-counted, root_skipped, stacked-none, stacked-capped}
-use Rattle.cut_circuit.specs.Circuit.{Circuit, graph_of, total, ending}
+use Rattle.cut_circuit.specs.Circuit.{Circuit, graph_of, ending}
 use Rattle.cut_circuit.specs.CircuitLaws.{wide-positive, node-below, forced-is}
 use Rattle.cut_search.specs.SearchTable.{view_of}
 use Rattle.cut_search.specs.Stacks.{frames_of, turns_of, node_of, StackedIn}
@@ -44,14 +45,14 @@ module _ {C : Circuit} {f : ℕ} {t l stk cnt : List ℕ} {x : ℕ} (a : MemberA
   only R z (there h) = inl h
 
   -- its node is full
-  pub member_skipped : f < get_or cnt (x / C.width) 0 → MemberTold C f t stk cnt t l stk cnt x 0
+  pub member_skipped : f < get_or cnt (x / C.width) 0 → MemberTold C f t stk cnt t l stk cnt x false
   member_skipped h = record {
     noted = a.asked.noted;
     same = λ q. refl;
     empty = λ q. a.empty;
     more = λ q R n s. subst (Stacked (graph_of C) (turns_of C) (node_of C) f (view_of t).flow (λ z. z ∈ x ∷ R) (view_of t) (λ u. get_or cnt u 0)) (sym (frames-none stk a.empty))
         (root_skipped (bottom s) forced (λ z k. there k) (here refl) (only R) h);
-    won = λ q. absurd (omega (arith, q));
+    won = λ q. absurd (false≢true q);
   }
 
   -- counted
@@ -93,17 +94,17 @@ module _ {C : Circuit} {f : ℕ} {t l stk cnt : List ℕ} {x : ℕ} (a : MemberA
         stacked = counted_in a.asked.R a.new a.asked.stacked;
       }
 
-      module _ {t' l' stk' cnt' : List ℕ} {r : ℕ} (o : RunTold C f t stk₁ raised t' l' stk' cnt' r) where
-        pub member_lost : r ≤ 0 → MemberTold C f t stk cnt t' l' stk' cnt' x r
+      module _ {t' l' stk' cnt' : List ℕ} {r : Bool} (o : RunTold C f t stk₁ raised t' l' stk' cnt' r) where
+        pub member_lost : r ≡ false → MemberTold C f t stk cnt t' l' stk' cnt' x r
         member_lost z = record {
           noted = o.noted;
           same = o.same;
           empty = o.empty;
           more = λ p R n s. o.more p (x ∷ R) (counted_in R n s);
-          won = λ p. absurd (omega (arith, p, z));
+          won = λ p. absurd (false≢true (sym z ∙ p));
         }
 
-        module _ (p : 0 < r) where
+        module _ (p : r ≡ true) where
           won : Won C f (view_of t) t' stk' a.asked.store.carriers
           won = o.won p a.asked.store.carriers a.asked.store.load
 
@@ -121,9 +122,9 @@ module _ {C : Circuit} {f : ℕ} {t l stk cnt : List ℕ} {x : ℕ} (a : MemberA
           pub member-won : {t'' stk'' cnt'' : List ℕ} → UnwindTold C t' stk' t'' → MemberTold C f t stk cnt t'' l' stk'' cnt'' x r
           member-won u = record {
             noted = u.keeps l' o.noted;
-            same = λ z. absurd (omega (arith, z, p));
-            empty = λ z. absurd (omega (arith, z, p));
-            more = λ z. absurd (omega (arith, z, p));
+            same = λ z. absurd (false≢true (sym z ∙ p));
+            empty = λ z. absurd (false≢true (sym z ∙ p));
+            more = λ z. absurd (false≢true (sym z ∙ p));
             won = λ z W load. let m = o.won p W load in record { X = m.X; few = m.few; gains = u.gains (view_of t) m.X m.unwinding; load = u.load (view_of t) m.X m.unwinding };
           }
 
@@ -138,17 +139,17 @@ module _ {C : Circuit} {f : ℕ} {t l stk cnt : List ℕ} {x : ℕ} (a : MemberA
     pub run-asked : RunAsked C f t l stk₁ cnt₁
     run-asked = subst (RunAsked C f t l stk₁) (sym same) (member-run few stk₁ q.frames k)
 
-    module _ {t' l' stk' cnt' : List ℕ} {r : ℕ} (o : RunTold C f t stk₁ cnt₁ t' l' stk' cnt' r) where
+    module _ {t' l' stk' cnt' : List ℕ} {r : Bool} (o : RunTold C f t stk₁ cnt₁ t' l' stk' cnt' r) where
       told : RunTold C f t stk₁ (set cnt (x / C.width) (get_or cnt (x / C.width) 0 + 1)) t' l' stk' cnt' r
       told = subst (λ (m : List ℕ). RunTold C f t stk₁ m t' l' stk' cnt' r) same o
 
-      pub run_lost : r ≤ 0 → MemberTold C f t stk cnt t' l' stk' cnt' x r
+      pub run_lost : r ≡ false → MemberTold C f t stk cnt t' l' stk' cnt' x r
       run_lost z = member_lost few stk₁ q.frames k told z
 
-      pub unwind_asked : 0 < r → length t' ≡ length t → length stk' ≡ length stk₁ → UnwindAsked C t' stk'
+      pub unwind_asked : r ≡ true → length t' ≡ length t → length stk' ≡ length stk₁ → UnwindAsked C t' stk'
       unwind_asked z = member_unwind few stk₁ q.frames k told z
 
-      pub run-won : 0 < r → {t'' stk'' cnt'' : List ℕ} → UnwindTold C t' stk' t'' → MemberTold C f t stk cnt t'' l' stk'' cnt'' x r
+      pub run-won : r ≡ true → {t'' stk'' cnt'' : List ℕ} → UnwindTold C t' stk' t'' → MemberTold C f t stk cnt t'' l' stk'' cnt'' x r
       run-won z u = member-won few stk₁ q.frames k told z u
 
 -- ---- all members
@@ -205,9 +206,9 @@ module _ {C : Circuit} {f : ℕ} {members t₀ l₀ stk₀ cnt₀ : List ℕ} (a
     pub searched_member : {x : ℕ} → x ≡ get_or members i 0 → i < length members → MemberAsked C f t l stk cnt x
     searched_member e h = subst (MemberAsked C f t l stk cnt) (sym e) (member-at h)
 
-    pub searched_more : {t' l' stk' cnt' : List ℕ} {x r : ℕ} → x ≡ get_or members i 0 → i < length members → MemberTold C f t stk cnt t' l' stk' cnt' x r → r ≤ 0
+    pub searched_more : {t' l' stk' cnt' : List ℕ} {x : ℕ} {r : Bool} → x ≡ get_or members i 0 → i < length members → MemberTold C f t stk cnt t' l' stk' cnt' x r → r ≡ false
         → length t' ≡ length t → length l' ≡ length l → length stk' ≡ length stk → length cnt' ≡ length cnt → Searched C f members t₀ t' l' stk' cnt' (i + 1)
-    searched_more {t'} {l'} {stk'} {cnt'} {x} {r} is h u z e g k m = record {
+    searched_more {t'} {l'} {stk'} {cnt'} {x} {r} is h u q e g k m = record {
       asked = record {
         fixed = w.asked.fixed;
         store = record {
@@ -230,28 +231,25 @@ module _ {C : Circuit} {f : ℕ} {members t₀ l₀ stk₀ cnt₀ : List ℕ} (a
       empty = o.empty q;
     }
       where
-        q : r ≡ 0
-        q = omega (arith, z)
-
         o : MemberTold C f t stk cnt t' l' stk' cnt' (get_or members i 0) r
         o = subst (λ (y : ℕ). MemberTold C f t stk cnt t' l' stk' cnt' y r) is u
 
-    pub searched_won : {t' l' stk' cnt' : List ℕ} {x r n : ℕ} → MemberTold C f t stk cnt t' l' stk' cnt' x r → 0 < r → 0 < n → SearchTold C f t₀ t' l' n
-    searched_won {t'} o u h = record {
+    pub searched_won : {t' l' stk' cnt' : List ℕ} {x : ℕ} {r : Bool} → MemberTold C f t stk cnt t' l' stk' cnt' x r → r ≡ true → SearchTold C f t₀ t' l' true
+    searched_won {t'} o u = record {
       noted = o.noted;
-      same = λ q. absurd (omega (arith, q, h));
-      capped = λ q. absurd (omega (arith, q, h));
+      same = λ q. absurd (false≢true (sym q));
+      capped = λ q. absurd (false≢true (sym q));
       won = λ p W load.
           let m = o.won u W (load_same t₀ t W w.same load) in
           record { X = m.X; few = m.few; gains = λ E s. m.gains E (subst (λ (g : ℕ → ℕ). State (graph_of C) g E) (sym w.same) s); load = m.load };
     }
 
-    pub searched_all : length members ≤ i → SearchTold C f t₀ t l 0
+    pub searched_all : length members ≤ i → SearchTold C f t₀ t l false
     searched_all h = record {
       noted = w.asked.noted;
       same = λ q. w.same;
       capped = λ q. stacked-capped (subst (Stacked (graph_of C) (turns_of C) (node_of C) f (view_of t).flow (λ z. z ∈ w.asked.R) (view_of t) (λ u. get_or cnt u 0)) (frames-none stk w.empty) w.asked.stacked) all;
-      won = λ q. absurd (omega (arith, q));
+      won = λ q. absurd (false≢true q);
     }
       where
         all : (z : ℕ) → 0 < (graph_of C).forced z → z ∈ w.asked.R

@@ -1,7 +1,7 @@
 -- Definitions: the stack of a search in an array of numbers. Place 0 has its depth, each place from 1 on a frame: the copy, times 16, and its next turn. The turns of
 -- a copy with n pins: the pin to be searched first, all pins, and itself.
 use Rattle.std.specs.Prelude.{◌≡◌, refl, List, [], ◌∷◌, ℕ, zero, suc, ◌+◌, ◌-◌, ◌*◌, ◌/◌, ◌%◌, ◌≤◌, ◌<◌, get_or}
-use Rattle.std.proofs.Common.{ap, arith}
+use Rattle.std.proofs.Common.{arith}
 use Rattle.sequences.specs.Member.{◌∈◌}
 use Rattle.cut_flow.specs.Search.{View}
 use Rattle.cut_flow.specs.Stack.{Frame, frame, Turns, Stacked, Hanging, Unwinding}

@@ -1,6 +1,7 @@
 -- One step of the search, and all of them: laws of `step` and `run`.
-use Rattle.std.specs.Prelude.{◌≡◌, refl, ◌⊎◌, List, ◌∷◌, map, ℕ, zero, suc, ◌+◌, ◌-◌, ◌*◌, ◌/◌, ◌%◌, ◌^◌, ◌≤◌, ◌<◌, length, get_or, set}
+use Rattle.std.specs.Prelude.{◌≡◌, refl, Bool, true, false, ◌⊎◌, List, ◌∷◌, map, ℕ, zero, suc, ◌+◌, ◌-◌, ◌*◌, ◌/◌, ◌%◌, ◌^◌, ◌≤◌, ◌<◌, length, get_or, set}
 use Rattle.std.proofs.Common.{sym, ap, subst, ◌∙◌, inl, inr, arith, length-set}
+use Rattle.std.proofs.lemmas.Bool.{false≢true}
 use Rattle.std.proofs.Math.Decide.{ℕ_discrete}
 use Rattle.std.proofs.lemmas.List.{length-map}
 use Rattle.limits.specs.Limits.{most_pins}
@@ -11,13 +12,13 @@ use Rattle.cut_flow.specs.State.{State}
 use Rattle.cut_flow.specs.Search.{View, MarkedOut, PinPassed}
 use Rattle.cut_flow.specs.Stack.{Frame, frame, Way, by-pin, by-self, WayPassed, Come, Stacked, Hanging, Unwinding}
 use Rattle.cut_flow.specs.StackLaws.{stacked-turned, stacked-popped, hang}
-use Rattle.cut_flow.specs.StackBounds.{owed, touched-few}
-use Rattle.cut_circuit.specs.Circuit.{Circuit, graph_of, total, ending, unless, forced_in, feeder, pins_of}
+use Rattle.cut_flow.specs.StackBounds.{touched-few}
+use Rattle.cut_circuit.specs.Circuit.{Circuit, graph_of, ending, unless, forced_in, feeder, pins_of}
 use Rattle.cut_circuit.specs.CircuitLaws.{lawful, source_is, forced-is, pin-below, unless-zero, unless-positive}
 use Rattle.cut_circuit.specs.Packed.{GateAsked}
 use Rattle.cut_search.specs.SearchTable.{view_of, Live, listed, listed_in, left_in}
 use Rattle.cut_search.specs.SearchTableLaws.{left-marked-out}
-use Rattle.cut_search.specs.SearchParts.{ListRoom, MarkedOutTold, WayPlace, WayTold}
+use Rattle.cut_search.specs.SearchParts.{ListRoom, MarkedOutTold, WayPlace, WayTo, WayBarred}
 use Rattle.cut_search.specs.Stacks.{frames_at, frames_of, turn_at, turns_of, turn_is, last-is, first_of, node_of, StackedIn, HangingIn, owing}
 use Rattle.cut_search.specs.StacksLaws.{length-frames_at, frames-top, frames-popped, frames-raised, owing-is, owed_more}
 use Rattle.cut_search.specs.CopyLaws.{nodes_of, length-nodes_of, inner-total, inner-pins, inner-few, inner_first, pins-asked, first-asked, way-place, come-ends, come-node, stack_few}
@@ -122,14 +123,14 @@ module _ {C : Circuit} {f : ℕ} {t l stk cnt : List ℕ} (a : StepAsked C f t l
       omega (arith, h, b, a.asked.fixed.small)
 
   -- ---- the last turn is over
-  pub step-popped : pins_of C x + 1 < i → StepTold C f t stk cnt t l (set stk 0 (depth - 1)) cnt 0
+  pub step-popped : pins_of C x + 1 < i → StepTold C f t stk cnt t l (set stk 0 (depth - 1)) cnt false
   step-popped h = record {
     noted = a.asked.noted;
     same = λ q. refl;
     less = λ q. omega (arith, owing-is t (set stk 0 (depth - 1)) popped, owing-is t stk (frames-top stk a.begun), owed_more x i rest);
     more = λ q R s. subst (Stacked (graph_of C) (turns_of C) (node_of C) f (view_of t).flow (λ z. z ∈ R) (view_of t) (λ u. get_or cnt u 0)) (sym popped)
         (stacked-popped (lawful F.layout) (on-top s) (omega (arith, h, last-is C x)));
-    won = λ q. absurd (omega (arith, q));
+    won = λ q. absurd (false≢true q);
   }
     where
       popped : frames_of (set stk 0 (depth - 1)) ≡ rest
@@ -153,41 +154,41 @@ module _ {C : Circuit} {f : ℕ} {t l stk cnt : List ℕ} (a : StepAsked C f t l
     fewer t' h = omega (arith, h, owing-is t' raised raised-frames, owing-is t stk (frames-top stk a.begun), owed_more x i rest, owed_more x (i + 1) rest, early, top-few)
 
     -- the way is barred
-    pub step-barred : {y : ℕ} → WayTold C t x w y → length t ≤ y → StepTold C f t stk cnt t l raised cnt 0
-    step-barred {y} o h = record {
+    pub step-barred : WayBarred C t x w → StepTold C f t stk cnt t l raised cnt false
+    step-barred o = record {
       noted = a.asked.noted;
       same = λ q. refl;
       less = λ q. fewer t (omega arith);
       more = λ q R s. subst (Stacked (graph_of C) (turns_of C) (node_of C) f (view_of t).flow (λ z. z ∈ R) (view_of t) (λ u. get_or cnt u 0)) (sym raised-frames)
           (stacked-turned (on-top s) (subst (WayPassed (graph_of C) (view_of t) x) (sym (turn_is C x i)) passed));
-      won = λ q. absurd (omega (arith, q));
+      won = λ q. absurd (false≢true q);
     }
       where
         barred : (j : ℕ) → w ≡ suc j → PinPassed (graph_of C) (view_of t) x j
         barred j q =
             let e : w - 1 ≡ j = omega (arith, q) in
             subst (λ (z : ℕ). (0 < (graph_of C).forced z) ⊎ (0 < (view_of t).out z)) (ap (feeder C x) e ∙ sym (source_is C x j))
-            (go (o.barred (omega (arith, q)) h))
+            (go (o.barred (omega (arith, q))))
           where
             go : (0 < forced_in C (feeder C x (w - 1))) ⊎ (0 < (view_of t).out (feeder C x (w - 1))) → (0 < (graph_of C).forced (feeder C x (w - 1))) ⊎ (0 < (view_of t).out (feeder C x (w - 1)))
             go (inl p) = inl (subst (λ (n : ℕ). 0 < n) (sym (forced-is C (feeder C x (w - 1)))) p)
             go (inr p) = inr p
 
         passed : WayPassed (graph_of C) (view_of t) x w
-        passed = record { pin = barred; self = λ q. o.bare q h }
+        passed = record { pin = barred; self = λ q. o.bare q }
 
     -- the way leads to y
-    module _ {y : ℕ} (o : WayTold C t x w y) (h : y < length t) where
+    module _ {y : ℕ} (o : WayTo C t x w y) where
       pub step-fresh : (view_of t).out y ≡ 0
-      step-fresh = o.fresh h
+      step-fresh = o.fresh
 
       way : Way (graph_of C) (view_of t).flow x ((turns_of C).turn x i) y
       way = subst (λ (n : ℕ). Way (graph_of C) (view_of t).flow x n y) (sym (turn_is C x i)) (go w refl)
         where
           go : (n : ℕ) → w ≡ n → Way (graph_of C) (view_of t).flow x w y
-          go zero q = let r = o.self q h in by-self q (sym r.0) r.1
+          go zero q = let r = o.self q in by-self q (sym r.0) r.1
           go (suc j) q =
-              let r = o.pin (omega (arith, q)) h in
+              let r = o.pin (omega (arith, q)) in
               let e : w - 1 ≡ j = omega (arith, q) in
               let k = turn-few (pins_of C x) (first_of C x) i top-first in
               by-pin j q (omega (arith, inner-pins F x top-ends, k, q)) (source_is C x j ∙ (ap (feeder C x) (sym e) ∙ sym r.0)) (forced-is C y ∙ r.1)
@@ -277,11 +278,11 @@ module _ {C : Circuit} {f : ℕ} {t l stk cnt : List ℕ} (a : StepAsked C f t l
           hanging = hanging-after a.asked.R a.asked.stacked;
         }
 
-        pub step_left : {t' stk' cnt' : List ℕ} {r : ℕ} → LeaveTold C f t₁ raised cnt t' stk' cnt' y r → StepTold C f t stk cnt t' l₁ stk' cnt' r
+        pub step_left : {t' stk' cnt' : List ℕ} {r : Bool} → LeaveTold C f t₁ raised cnt t' stk' cnt' y r → StepTold C f t stk cnt t' l₁ stk' cnt' r
         step_left {t'} {stk'} {cnt'} {r} k = record {
           noted = k.keeps l₁ m.noted;
           same = λ q. k.same q ∙ m.marked.flow;
-          less = λ q. let n = left-marked-out t t₁ m.marked e h step-fresh in omega (arith, k.less q, fewer t₁ (omega (arith, n)));
+          less = λ q. let n = left-marked-out t t₁ m.marked e o.inside step-fresh in omega (arith, k.less q, fewer t₁ (omega (arith, n)));
           more = λ q R s. k.more q R (hanging-after R s);
           won = λ p W load. won-from m.marked.flow (k.won p a.asked.R (hanging-after a.asked.R a.asked.stacked) W (load_same t t₁ W m.marked.flow load));
         }
@@ -292,7 +293,7 @@ module _ {C : Circuit} {f : ℕ} {t₀ stk₀ cnt₀ : List ℕ} where
   running_start a = record { asked = a; same = refl; more = λ R s. s }
 
   module _ {t l stk cnt : List ℕ} (w : Running C f t₀ stk₀ cnt₀ t l stk cnt) where
-    pub running_step : {t' l' stk' cnt' : List ℕ} {r : ℕ} → StepTold C f t stk cnt t' l' stk' cnt' r → r ≡ 0 → length t' ≡ length t → length l' ≡ length l → length stk' ≡ length stk → length cnt' ≡ length cnt
+    pub running_step : {t' l' stk' cnt' : List ℕ} {r : Bool} → StepTold C f t stk cnt t' l' stk' cnt' r → r ≡ false → length t' ≡ length t → length l' ≡ length l → length stk' ≡ length stk → length cnt' ≡ length cnt
         → Running C f t₀ stk₀ cnt₀ t' l' stk' cnt'
     running_step {t'} {l'} {stk'} {cnt'} o z p q r s = record {
       asked = record {
@@ -316,20 +317,20 @@ module _ {C : Circuit} {f : ℕ} {t₀ stk₀ cnt₀ : List ℕ} where
       more = λ R k. o.more z R (w.more R k);
     }
 
-    pub running_won : {t' l' stk' cnt' : List ℕ} {r : ℕ} → StepTold C f t stk cnt t' l' stk' cnt' r → 0 < r → RunTold C f t₀ stk₀ cnt₀ t' l' stk' cnt' r
+    pub running_won : {t' l' stk' cnt' : List ℕ} {r : Bool} → StepTold C f t stk cnt t' l' stk' cnt' r → r ≡ true → RunTold C f t₀ stk₀ cnt₀ t' l' stk' cnt' true
     running_won o h = record {
       noted = o.noted;
-      same = λ q. absurd (omega (arith, q, h));
-      empty = λ q. absurd (omega (arith, q, h));
-      more = λ q. absurd (omega (arith, q, h));
-      won = λ p W load. won-from w.same (o.won p W (load_same t₀ t W w.same load));
+      same = λ q. absurd (false≢true (sym q));
+      empty = λ q. absurd (false≢true (sym q));
+      more = λ q. absurd (false≢true (sym q));
+      won = λ p W load. won-from w.same (o.won h W (load_same t₀ t W w.same load));
     }
 
-    pub running_end : get_or stk 0 0 ≤ 0 → RunTold C f t₀ stk₀ cnt₀ t l stk cnt 0
+    pub running_end : get_or stk 0 0 ≤ 0 → RunTold C f t₀ stk₀ cnt₀ t l stk cnt false
     running_end h = record {
       noted = w.asked.noted;
       same = λ q. w.same;
       empty = λ q. omega (arith, h);
       more = λ q. w.more;
-      won = λ q. absurd (omega (arith, q));
+      won = λ q. absurd (false≢true q);
     }

@@ -1,6 +1,6 @@
 -- Definitions: what the functions of the search ask and tell. What is not in the arrays is asked to be there, and told for whatever it was: R, the forced copies
 -- whose turn has come, and W, which holds what carries.
-use Rattle.std.specs.Prelude.{◌≡◌, ◌⊎◌, List, [], ◌∷◌, ◌++◌, ℕ, zero, suc, ◌+◌, ◌*◌, ◌^◌, ◌≤◌, ◌<◌, length, get_or, take, drop}
+use Rattle.std.specs.Prelude.{◌≡◌, ◌⊎◌, Bool, true, false, List, [], ◌∷◌, ◌++◌, ℕ, zero, suc, ◌+◌, ◌*◌, ◌^◌, ◌≤◌, ◌<◌, length, get_or, take, drop}
 use Rattle.limits.specs.Limits.{most_pins}
 use Rattle.sequences.specs.Member.{◌∈◌}
 use Rattle.cut_flow.specs.Search.{View, Gains, Ready}
@@ -65,12 +65,12 @@ pub record LeaveAsked (C : Circuit) (f : ℕ) (t stk cnt : List ℕ) (y : ℕ) :
   pub R : List ℕ
   pub hanging : HangingIn C f R t stk cnt y
 
-pub record LeaveTold (C : Circuit) (f : ℕ) (t stk cnt t' stk' cnt' : List ℕ) (y r : ℕ) : Type 0 where
+pub record LeaveTold (C : Circuit) (f : ℕ) (t stk cnt t' stk' cnt' : List ℕ) (y : ℕ) (found : Bool) : Type 0 where
   pub keeps : Keeps t t'
-  pub same : r ≡ 0 → (view_of t').flow ≡ (view_of t).flow
-  pub less : r ≡ 0 → owing t' stk' ≤ owing t stk
-  pub more : r ≡ 0 → (R : List ℕ) → HangingIn C f R t stk cnt y → StackedIn C f R t' stk' cnt'
-  pub won : 0 < r → (R : List ℕ) → HangingIn C f R t stk cnt y → (W : List ℕ) → Load t W → Won C f (view_of t) t' stk' W
+  pub same : found ≡ false → (view_of t').flow ≡ (view_of t).flow
+  pub less : found ≡ false → owing t' stk' ≤ owing t stk
+  pub more : found ≡ false → (R : List ℕ) → HangingIn C f R t stk cnt y → StackedIn C f R t' stk' cnt'
+  pub won : found ≡ true → (R : List ℕ) → HangingIn C f R t stk cnt y → (W : List ℕ) → Load t W → Won C f (view_of t) t' stk' W
 
 -- ---- one step, and all of them
 pub record RunAsked (C : Circuit) (f : ℕ) (t l stk cnt : List ℕ) : Type 0 where
@@ -86,19 +86,19 @@ pub record StepAsked (C : Circuit) (f : ℕ) (t l stk cnt : List ℕ) : Type 0 w
   pub asked : RunAsked C f t l stk cnt
   pub begun : 0 < get_or stk 0 0
 
-pub record StepTold (C : Circuit) (f : ℕ) (t stk cnt t' l' stk' cnt' : List ℕ) (r : ℕ) : Type 0 where
+pub record StepTold (C : Circuit) (f : ℕ) (t stk cnt t' l' stk' cnt' : List ℕ) (found : Bool) : Type 0 where
   pub noted : Noted t' l'
-  pub same : r ≡ 0 → (view_of t').flow ≡ (view_of t).flow
-  pub less : r ≡ 0 → owing t' stk' < owing t stk
-  pub more : r ≡ 0 → (R : List ℕ) → StackedIn C f R t stk cnt → StackedIn C f R t' stk' cnt'
-  pub won : 0 < r → (W : List ℕ) → Load t W → Won C f (view_of t) t' stk' W
+  pub same : found ≡ false → (view_of t').flow ≡ (view_of t).flow
+  pub less : found ≡ false → owing t' stk' < owing t stk
+  pub more : found ≡ false → (R : List ℕ) → StackedIn C f R t stk cnt → StackedIn C f R t' stk' cnt'
+  pub won : found ≡ true → (W : List ℕ) → Load t W → Won C f (view_of t) t' stk' W
 
-pub record RunTold (C : Circuit) (f : ℕ) (t stk cnt t' l' stk' cnt' : List ℕ) (r : ℕ) : Type 0 where
+pub record RunTold (C : Circuit) (f : ℕ) (t stk cnt t' l' stk' cnt' : List ℕ) (found : Bool) : Type 0 where
   pub noted : Noted t' l'
-  pub same : r ≡ 0 → (view_of t').flow ≡ (view_of t).flow
-  pub empty : r ≡ 0 → get_or stk' 0 0 ≡ 0
-  pub more : r ≡ 0 → (R : List ℕ) → StackedIn C f R t stk cnt → StackedIn C f R t' stk' cnt'
-  pub won : 0 < r → (W : List ℕ) → Load t W → Won C f (view_of t) t' stk' W
+  pub same : found ≡ false → (view_of t').flow ≡ (view_of t).flow
+  pub empty : found ≡ false → get_or stk' 0 0 ≡ 0
+  pub more : found ≡ false → (R : List ℕ) → StackedIn C f R t stk cnt → StackedIn C f R t' stk' cnt'
+  pub won : found ≡ true → (W : List ℕ) → Load t W → Won C f (view_of t) t' stk' W
 
 -- up to some step, without success
 pub record Running (C : Circuit) (f : ℕ) (t₀ stk₀ cnt₀ t l stk cnt : List ℕ) : Type 0 where
@@ -140,12 +140,12 @@ pub record MemberAsked (C : Circuit) (f : ℕ) (t l stk cnt : List ℕ) (x : ℕ
   pub forced : 0 < forced_in C x
   pub new : ¬ (x ∈ asked.R)
 
-pub record MemberTold (C : Circuit) (f : ℕ) (t stk cnt t' l' stk' cnt' : List ℕ) (x r : ℕ) : Type 0 where
+pub record MemberTold (C : Circuit) (f : ℕ) (t stk cnt t' l' stk' cnt' : List ℕ) (x : ℕ) (found : Bool) : Type 0 where
   pub noted : Noted t' l'
-  pub same : r ≡ 0 → (view_of t').flow ≡ (view_of t).flow
-  pub empty : r ≡ 0 → get_or stk' 0 0 ≡ 0
-  pub more : r ≡ 0 → (R : List ℕ) → ¬ (x ∈ R) → StackedIn C f R t stk cnt → StackedIn C f (x ∷ R) t' stk' cnt'
-  pub won : 0 < r → (W : List ℕ) → Load t W → More C f (view_of t) t' W
+  pub same : found ≡ false → (view_of t').flow ≡ (view_of t).flow
+  pub empty : found ≡ false → get_or stk' 0 0 ≡ 0
+  pub more : found ≡ false → (R : List ℕ) → ¬ (x ∈ R) → StackedIn C f R t stk cnt → StackedIn C f (x ∷ R) t' stk' cnt'
+  pub won : found ≡ true → (W : List ℕ) → Load t W → More C f (view_of t) t' W
 
 -- The list of the forced copies, each once.
 pub record Members (C : Circuit) (members : List ℕ) : Type 0 where
@@ -171,12 +171,12 @@ pub record RootsAsked (C : Circuit) (f : ℕ) (members t l stk cnt : List ℕ) :
   pub empty : get_or stk 0 0 ≡ 0
   pub zero : (u : ℕ) → get_or cnt u 0 ≡ 0
 
--- Its result r: no further unit, and each member is open or its node has a crowd; or one more.
-pub record SearchTold (C : Circuit) (f : ℕ) (t t' l' : List ℕ) (r : ℕ) : Type 0 where
+-- No further unit was found, and each member is open or its node has a crowd; or one more.
+pub record SearchTold (C : Circuit) (f : ℕ) (t t' l' : List ℕ) (found : Bool) : Type 0 where
   pub noted : Noted t' l'
-  pub same : r ≡ 0 → (view_of t').flow ≡ (view_of t).flow
-  pub capped : r ≡ 0 → Capped (graph_of C) (view_of t') (node_of C) f
-  pub won : 0 < r → (W : List ℕ) → Load t W → More C f (view_of t) t' W
+  pub same : found ≡ false → (view_of t').flow ≡ (view_of t).flow
+  pub capped : found ≡ false → Capped (graph_of C) (view_of t') (node_of C) f
+  pub won : found ≡ true → (W : List ℕ) → Load t W → More C f (view_of t) t' W
 
 -- the members from a place on, then those before it
 unfoldable pub around : ℕ → List ℕ → List ℕ

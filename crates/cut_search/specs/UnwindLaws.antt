@@ -1,9 +1,8 @@
 -- The stack taken down after a success: laws of `unwind`.
-use Rattle.std.specs.Prelude.{◌≡◌, refl, List, [], ◌∷◌, ℕ, suc, ◌-◌, ◌/◌, ◌%◌, ◌≤◌, ◌<◌, length, get_or, set}
+use Rattle.std.specs.Prelude.{◌≡◌, refl, List, [], ◌∷◌, ℕ, ◌-◌, ◌/◌, ◌%◌, ◌≤◌, ◌<◌, length, get_or, set}
 use Rattle.std.proofs.Common.{sym, ap, subst, ◌∙◌, inr, arith, length-set, get_or-set_same}
-use Rattle.sequences.specs.Member.{here}
 use Rattle.cut_flow.specs.Search.{View, FlowSet}
-use Rattle.cut_flow.specs.Stack.{Frame, frame, Unwinding}
+use Rattle.cut_flow.specs.Stack.{Frame, Unwinding}
 use Rattle.cut_flow.specs.Unwind.{unwound, unwinding_in, unwound-all}
 use Rattle.cut_circuit.specs.Circuit.{Circuit, graph_of, ending, pins_of}
 use Rattle.cut_circuit.specs.CircuitLaws.{pin-below}

@@ -1,17 +1,17 @@
 // One augmenting search over a table of one byte a copy, with a stack of its own: at most f + 1 copies of each node are opened, where f units flow.
 #![tactic(auto)]
 
-ghost use Rattle.std.specs.Prelude.{◌≡◌, true, false, suc, ◌+◌, ◌-◌, ◌*◌, ◌/◌, ◌^◌, ◌≤◌, ◌<◌, length, get_or, drop};
+ghost use Rattle.std.specs.Prelude.{◌≡◌, true, false, suc, ◌+◌, ◌-◌, ◌*◌, ◌/◌, ◌^◌, ◌≤◌, ◌<◌, length, get_or, drop, is_some, IfSome};
 ghost use Rattle.cut_circuit.specs.Circuit.{ending_at};
 ghost use Rattle.cut_circuit.specs.Packed.{packed_of, sources_at, counts_at, nexts_at, heads_at};
 ghost use Rattle.cut_search.specs.SearchTable.{view_of, Touched, Noted, with_in, with_out, with_flow};
-ghost use Rattle.cut_search.specs.SearchParts.{TouchTold, ListRoom, MarkedOutTold, CandidateAsked, CandidateTold, SeekAsked, SeekTold, EntryTold, WayPlace, WayTold, Zeroed};
+ghost use Rattle.cut_search.specs.SearchParts.{TouchTold, ListRoom, MarkedOutTold, CandidateAsked, CandidateTold, SeekAsked, SeekTold, EntryTold, WayPlace, WayTold};
 ghost use Rattle.cut_search.specs.Stacks.{turn_at, frames_of};
 ghost use Rattle.cut_search.specs.StackParts.{PushAsked, Pushed};
 ghost use Rattle.cut_search.specs.Steps.{ComeAsked, ComeTold, LeaveAsked, LeaveTold, StepAsked, StepTold, RunAsked, RunTold, UnwindAsked, UnwindTold, MemberAsked, MemberTold, SearchAsked, RootsAsked, Turning, SearchTold};
 
 use cut_circuit::{Extent, first_of, is_forced, number_at, pins_of, put_number, source};
-use inputs::{narrow, wide};
+use inputs::narrow;
 use limits::PINS;
 
 // ---- the byte of a copy
@@ -20,21 +20,24 @@ pub fn flow_at(table: &[u8], c: usize) -> usize
     requires { c < length table.now }
     ensures { result ≡ (view_of table.now).flow c }
 {
-    wide(table[c]) % 8
+    usize::from(table[c]) % 8
 }
 
-pub fn in_at(table: &[u8], c: usize) -> usize
+// Whether c is marked in, and whether it is marked out.
+pub fn in_at(table: &[u8], c: usize) -> bool
     requires { c < length table.now }
-    ensures { result ≡ (view_of table.now).inn c }
+    ensures yes { result ≡ true → (view_of table.now).inn c ≡ 1 }
+    ensures no { result ≡ false → (view_of table.now).inn c ≡ 0 }
 {
-    wide(table[c]) / 8 % 2
+    table[c] / 8 % 2 > 0
 }
 
-pub fn out_at(table: &[u8], c: usize) -> usize
+pub fn out_at(table: &[u8], c: usize) -> bool
     requires { c < length table.now }
-    ensures { result ≡ (view_of table.now).out c }
+    ensures yes { result ≡ true → (view_of table.now).out c ≡ 1 }
+    ensures no { result ≡ false → (view_of table.now).out c ≡ 0 }
 {
-    wide(table[c]) / 8 / 2 % 2
+    table[c] / 8 / 2 % 2 > 0
 }
 
 // Lists a copy, unless it is listed.
@@ -92,21 +95,16 @@ fn mark_out(table: &mut [u8], list: &mut [u32], c: usize)
 
 // ---- the graph
 
-// Positive at a copy of an input, and at a copy beyond the border.
-fn terminal(s: Extent, x: usize) -> usize
+// Whether x is a copy of an input, or beyond the border.
+fn terminal(s: Extent, x: usize) -> bool
     requires { 0 < s.width }
-    ensures { (result ≡ 0 → ending_at s.inputs s.width s.border x ≡ 0) × (0 < result → 0 < ending_at s.inputs s.width s.border x) }
+    ensures yes { result ≡ true → 0 < ending_at s.inputs s.width s.border x }
+    ensures no { result ≡ false → ending_at s.inputs s.width s.border x ≡ 0 }
 {
-    if x / s.width < s.inputs {
-        return 1;
-    }
-    if s.border < x % s.width {
-        return 1;
-    }
-    0
+    x / s.width < s.inputs || s.border < x % s.width
 }
 
-// The copy whose unit came in by the pin at place p from y, or the table's length.
+// The copy whose unit came in by the pin at place p from y.
 fn candidate(
     s: Extent,
     sources: &[usize],
@@ -114,29 +112,25 @@ fn candidate(
     table: &[u8],
     p: usize,
     y: usize,
-) -> usize
+) -> Option<usize>
     requires { CandidateAsked s.inputs s.width s.border sources.now counts.now table.now p }
     ensures { CandidateTold s.inputs s.width s.border sources.now counts.now table.now y p result }
 {
-    let d = y % s.width;
     if sources[p] != y / s.width {
-        return table.len();
+        return None;
     }
-    if d < counts[p] {
-        return table.len();
-    }
-    let e = d - counts[p];
+    let e = (y % s.width).checked_sub(counts[p])?;
     if s.border < e {
-        return table.len();
+        return None;
     }
     let x = (s.inputs + p / PINS) * s.width + e;
     if flow_at(table, x) != p % PINS + 1 {
-        return table.len();
+        return None;
     }
-    x
+    Some(x)
 }
 
-// The successor of y, or the table's length.
+// The successor of y.
 fn successor(
     s: Extent,
     sources: &[usize],
@@ -145,7 +139,7 @@ fn successor(
     nexts: &[usize],
     table: &[u8],
     y: usize,
-) -> usize
+) -> Option<usize>
     requires { SeekAsked s.inputs s.gates s.width s.border sources.now counts.now heads.now nexts.now table.now y }
     ensures { SeekTold s.inputs s.width s.border sources.now counts.now heads.now nexts.now table.now y result }
 {
@@ -153,13 +147,12 @@ fn successor(
     let mut at = heads[u];
     while 0 < at {
         let p = at - 1;
-        let x = candidate(s, sources, counts, table, p, y);
-        if x < table.len() {
-            return x;
+        if let Some(x) = candidate(s, sources, counts, table, p, y) {
+            return Some(x);
         }
         at = nexts[p];
     }
-    table.len()
+    None
 }
 
 // Whether y is a terminal without a unit.
@@ -169,23 +162,17 @@ fn is_open(s: Extent, table: &[u8], y: usize) -> bool
     ensures yes { result ≡ true → ((view_of table.now).flow y ≡ 0) × (0 < ending_at s.inputs s.width s.border y) }
     ensures no { result ≡ false → (view_of table.now).flow y ≡ 0 → ending_at s.inputs s.width s.border y ≡ 0 }
 {
-    if flow_at(table, y) > 0 {
-        return false;
-    }
-    if terminal(s, y) == 0 {
-        return false;
-    }
-    true
+    flow_at(table, y) == 0 && terminal(s, y)
 }
 
-// Where a search out of y comes in: at y, or at its successor where it carries a unit; the table's length where it has none.
-fn entry(s: Extent, net: &[usize], table: &[u8], y: usize) -> usize
+// Where a search out of y comes in: at y, or at its successor where it carries a unit.
+fn entry(s: Extent, net: &[usize], table: &[u8], y: usize) -> Option<usize>
     requires seek_asked { SeekAsked s.inputs s.gates s.width s.border (drop (sources_at s.gates) net.now) (drop (counts_at s.gates) net.now) (drop (heads_at s.gates) net.now) (drop (nexts_at s.gates) net.now) table.now y }
     requires y_in_bounds { y < length table.now }
     ensures { EntryTold s.inputs s.width s.border (drop (sources_at s.gates) net.now) (drop (counts_at s.gates) net.now) (drop (heads_at s.gates) net.now) (drop (nexts_at s.gates) net.now) table.now y result }
 {
     if flow_at(table, y) == 0 {
-        return y;
+        return Some(y);
     }
     let a = 2 * s.gates;
     let b = (2 + PINS) * s.gates;
@@ -194,28 +181,22 @@ fn entry(s: Extent, net: &[usize], table: &[u8], y: usize) -> usize
     successor(s, &net[a..], &net[b..], &net[d..], &net[c..], table, y)
 }
 
-// Where way w out of x leads: to the source of pin w - 1, or for 0 to x itself; the table's length where that source is forced, x carries no unit, or the place is marked out.
-fn way(s: Extent, net: &[usize], slots: &[u32], table: &[u8], x: usize, w: usize) -> usize
+// Where way w out of x leads: to the source of pin w - 1, or for 0 to x itself; nowhere if that source is forced, x carries no unit, or the copy is marked out.
+fn way(s: Extent, net: &[usize], slots: &[u32], table: &[u8], x: usize, w: usize) -> Option<usize>
     requires { WayPlace (packed_of s net.now slots.now) table.now x w }
     ensures { WayTold (packed_of s net.now slots.now) table.now x w result }
 {
     if w == 0 {
-        if flow_at(table, x) == 0 {
-            return table.len();
+        if flow_at(table, x) == 0 || out_at(table, x) {
+            return None;
         }
-        if out_at(table, x) > 0 {
-            return table.len();
-        }
-        return x;
+        return Some(x);
     }
     let y = source(s, net, x, w - 1);
-    if is_forced(s, slots, y) {
-        return table.len();
+    if is_forced(s, slots, y) || out_at(table, y) {
+        return None;
     }
-    if out_at(table, y) > 0 {
-        return table.len();
-    }
-    y
+    Some(y)
 }
 
 // The way that is tried i-th: pin f, then all n pins, then x itself.
@@ -271,7 +252,7 @@ fn come(
     }
 }
 
-// Goes out of y, which is marked out: 1 where it is an open terminal, which takes a unit.
+// Goes out of y, which is marked out: whether it is an open terminal, which takes a unit.
 fn leave(
     s: Extent,
     net: &[usize],
@@ -281,26 +262,25 @@ fn leave(
     counts: &mut [u32],
     f: usize,
     y: usize,
-) -> usize
+) -> bool
     requires { LeaveAsked (packed_of s net.now slots.now) f table.old stack.old counts.old y }
     ensures { LeaveTold (packed_of s net.now slots.now) f table.old stack.old counts.old table.new stack.new counts.new y result }
 {
     if is_open(s, table, y) {
         set_flow(table, y, 7);
-        return 1;
+        return true;
     }
-    let e = entry(s, net, table, y);
-    if table.len() <= e {
-        return 0;
-    }
-    if in_at(table, e) > 0 {
-        return 0;
+    let Some(e) = entry(s, net, table, y) else {
+        return false;
+    };
+    if in_at(table, e) {
+        return false;
     }
     come(s, net, slots, table, stack, counts, f, e);
-    0
+    false
 }
 
-// Takes the next turn of the top frame, or takes it off: 1 where a unit was found.
+// Takes the next turn of the top frame, or takes it off: whether a unit was found.
 fn step(
     s: Extent,
     net: &[usize],
@@ -310,7 +290,7 @@ fn step(
     stack: &mut [u32],
     counts: &mut [u32],
     f: usize,
-) -> usize
+) -> bool
     requires { StepAsked (packed_of s net.now slots.now) f table.old list.old stack.old counts.old }
     ensures { StepTold (packed_of s net.now slots.now) f table.old stack.old counts.old table.new list.new stack.new counts.new result }
 {
@@ -320,20 +300,18 @@ fn step(
     let n = pins_of(s, net, x);
     if n + 1 < top % 16 {
         put_number(stack, 0, d - 1);
-        return 0;
+        return false;
     }
     let w = turn(n, first_of(s, net, x), top % 16);
-    let y = way(s, net, slots, table, x, w);
-    if table.len() <= y {
-        put_number(stack, d, top + 1);
-        return 0;
-    }
-    mark_out(table, list, y);
     put_number(stack, d, top + 1);
+    let Some(y) = way(s, net, slots, table, x, w) else {
+        return false;
+    };
+    mark_out(table, list, y);
     leave(s, net, slots, table, stack, counts, f, y)
 }
 
-// Takes steps until the stack is empty, 0, or a unit was found.
+// Takes steps until the stack is empty or a unit was found: whether one was.
 fn run(
     s: Extent,
     net: &[usize],
@@ -343,17 +321,16 @@ fn run(
     stack: &mut [u32],
     counts: &mut [u32],
     f: usize,
-) -> usize
+) -> bool
     requires { RunAsked (packed_of s net.now slots.now) f table.old list.old stack.old counts.old }
     ensures { RunTold (packed_of s net.now slots.now) f table.old stack.old counts.old table.new list.new stack.new counts.new result }
 {
     while number_at(stack, 0) > 0 {
-        let r = step(s, net, slots, table, list, stack, counts, f);
-        if r > 0 {
-            return r;
+        if step(s, net, slots, table, list, stack, counts, f) {
+            return true;
         }
     }
-    0
+    false
 }
 
 // Takes the stack down to its lowest frame; each copy taken off gets its unit by the way that it took last.
@@ -374,7 +351,7 @@ fn unwind(s: Extent, net: &[usize], slots: &[u32], table: &mut [u8], stack: &mut
 
 // ---- from the forced set
 
-// Searches for a unit from the forced copy x.
+// Searches for a unit from the forced copy x: whether there is one.
 fn try_member(
     s: Extent,
     net: &[usize],
@@ -385,32 +362,22 @@ fn try_member(
     counts: &mut [u32],
     f: usize,
     x: usize,
-) -> usize
+) -> bool
     requires { MemberAsked (packed_of s net.now slots.now) f table.old list.old stack.old counts.old x }
     ensures { MemberTold (packed_of s net.now slots.now) f table.old stack.old counts.old table.new list.new stack.new counts.new x result }
 {
     let u = x / s.width;
     let c = number_at(counts, u);
     if f < c {
-        return 0;
+        return false;
     }
     put_number(counts, u, c + 1);
     push(stack, x, 0);
-    let r = run(s, net, slots, table, list, stack, counts, f);
-    if r > 0 {
+    let found = run(s, net, slots, table, list, stack, counts, f);
+    if found {
         unwind(s, net, slots, table, stack);
     }
-    r
-}
-
-fn clear_counts(counts: &mut [u32])
-    ensures { Zeroed counts.new (length counts.new) }
-{
-    let mut u = 0;
-    while u < counts.len() {
-        counts[u] = 0;
-        u += 1;
-    }
+    found
 }
 
 // The place that is tried j-th of n, from a place on and then around.
@@ -425,7 +392,7 @@ fn place_at(n: usize, from: usize, j: usize) -> usize
     j - rest
 }
 
-// The same for all members of the forced set, those from a place on first, from an empty stack and counters at 0: 0, or 1 more than the place of the member that a unit was found from.
+// The same for all members of the forced set, those from a place on first, from an empty stack and counters at 0: the place of the member that a unit was found from.
 fn try_members(
     s: Extent,
     net: &[usize],
@@ -437,26 +404,23 @@ fn try_members(
     f: usize,
     members: &[u32],
     from: usize,
-) -> usize
+) -> Option<usize>
     requires roots_asked { RootsAsked (packed_of s net.now slots.now) f members.now table.old list.old stack.old counts.old }
     requires from_in_bounds { from ≤ length members.now }
-    ensures search_told { SearchTold (packed_of s net.now slots.now) f table.old table.new list.new result }
-    ensures upper_bound { result ≤ length members.now }
+    ensures search_told { SearchTold (packed_of s net.now slots.now) f table.old table.new list.new (is_some result) }
+    ensures place { IfSome result (λ i. i < length members.now) }
 {
-    let mut j = 0;
-    while j < members.len() {
+    for j in 0..members.len() {
         let i = place_at(members.len(), from, j);
         let x = number_at(members, i);
-        let r = try_member(s, net, slots, table, list, stack, counts, f, x);
-        if r > 0 {
-            return i + 1;
+        if try_member(s, net, slots, table, list, stack, counts, f, x) {
+            return Some(i);
         }
-        j += 1;
     }
-    0
+    None
 }
 
-// Searches for one more unit than the f that flow, from no marks: 0 if there is none, else 1 more than the place of the member that it was found from.
+// Searches for one more unit than the f that flow, from no marks: the place of the member that it was found from.
 pub fn search(
     s: Extent,
     net: &[usize],
@@ -468,13 +432,13 @@ pub fn search(
     f: usize,
     members: &[u32],
     from: usize,
-) -> usize
+) -> Option<usize>
     requires search_asked { SearchAsked (packed_of s net.now slots.now) f members.now table.old list.old stack.old counts.old }
     requires from_in_bounds { from ≤ length members.now }
-    ensures search_told { SearchTold (packed_of s net.now slots.now) f table.old table.new list.new result }
-    ensures upper_bound { result ≤ length members.now }
+    ensures search_told { SearchTold (packed_of s net.now slots.now) f table.old table.new list.new (is_some result) }
+    ensures place { IfSome result (λ i. i < length members.now) }
 {
-    clear_counts(counts);
+    counts.fill(0);
     put_number(stack, 0, 0);
     try_members(s, net, slots, table, list, stack, counts, f, members, from)
 }

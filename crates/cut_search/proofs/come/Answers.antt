@@ -3,7 +3,6 @@ use native.Mathlib.Omega.{arith}
 use Rattle.cut_circuit.specs.PackedLaws.{gate-plain}
 use Rattle.cut_search.specs.CopyLaws.{pins-asked}
 use Rattle.cut_search.specs.ComeLaws.{come-ends, come-inside, come-node, come-frame-fits, come-pins, counted-room, told-counted, told-carried, told-carried-room, told-bare}
-use Rattle.std.proofs.Common.{rules}
 use Rattle.cut_search.proofs.come.Goals as goal
 
 pub set_in-requires : goal.set_in-requires

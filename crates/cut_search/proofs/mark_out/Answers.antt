@@ -1,11 +1,9 @@
-use mathlib.Core.Path.{◌≡◌, sym, subst}
+use mathlib.Core.Path.{sym, subst}
 use mathlib.Core.List.{List}
 use Prim.Native.Nat.{ℕ}
 use native.Mathlib.Omega.{arith}
-use Rattle.cut_flow.specs.Search.{View}
 use Rattle.cut_search.specs.SearchParts.{MarkedOutTold}
 use Rattle.cut_search.specs.SearchPartsLaws.{marked-out-told}
-use Rattle.std.proofs.Common.{rules}
 use Rattle.cut_search.proofs.mark_out.Goals as goal
 
 pub returns : goal.returns

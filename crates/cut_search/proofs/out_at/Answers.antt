@@ -1,8 +1,9 @@
-use mathlib.Core.Path.{sym, ap, ◌∙◌}
-use Prim.Native.Nat.{ℕ, ◌/◌, ◌%◌}
+use borrow.Author.Tests.{ltb-true, ltb-false}
+use Rattle.std.proofs.Common.{arith}
 use Rattle.cut_search.specs.SearchTableLaws.{out-is}
-use Rattle.std.proofs.Common.{rules}
 use Rattle.cut_search.proofs.out_at.Goals as goal
 
 pub returns : goal.returns
-returns c = ap (λ (b : ℕ). b / 8 / 2 % 2) c.wide.ensures ∙ sym (out-is c.args.table.now c.args.c)
+returns c =
+    let s = out-is c.args.table.now c.args.c in
+    record { yes = λ e. omega (arith, s, ltb-true _ _ e); no = λ e. omega (arith, s, ltb-false _ _ e) }

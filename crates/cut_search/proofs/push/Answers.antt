@@ -1,5 +1,4 @@
 use Rattle.cut_search.specs.StacksLaws.{push_told}
-use Rattle.std.proofs.Common.{rules}
 use Rattle.cut_search.proofs.push.Goals as goal
 
 pub returns : goal.returns

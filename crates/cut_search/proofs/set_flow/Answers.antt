@@ -1,7 +1,5 @@
 use mathlib.Core.Path.{refl}
-use native.Mathlib.Omega.{arith}
 use Rattle.cut_search.specs.SearchTable.{with_flow}
-use Rattle.std.proofs.Common.{rules}
 use Rattle.cut_search.proofs.set_flow.Goals as goal
 
 pub returns : goal.returns

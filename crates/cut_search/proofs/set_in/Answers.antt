@@ -1,7 +1,6 @@
 use mathlib.Core.Path.{refl}
 use Rattle.cut_search.specs.SearchTableLaws.{room_in}
 use Rattle.cut_search.specs.SearchTable.{with_in}
-use Rattle.std.proofs.Common.{rules}
 use Rattle.cut_search.proofs.set_in.Goals as goal
 
 pub overflow_add-table : goal.overflow_add-table

@@ -1,7 +1,6 @@
 use mathlib.Core.Path.{refl}
 use Rattle.cut_search.specs.SearchTableLaws.{room_out}
 use Rattle.cut_search.specs.SearchTable.{with_out}
-use Rattle.std.proofs.Common.{rules}
 use Rattle.cut_search.proofs.set_out.Goals as goal
 
 pub overflow_add-table : goal.overflow_add-table

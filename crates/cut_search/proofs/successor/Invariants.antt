@@ -1,8 +1,6 @@
-use Prim.Native.Nat.{◌*◌, ◌-◌, ◌≤◌, ◌<◌}
-use native.Mathlib.Omega.{arith}
+use Prim.Native.Nat.{◌*◌, ◌≤◌}
 use Rattle.limits.specs.Limits.{most_pins}
 use Rattle.cut_search.specs.SearchParts.{Sought}
-use Rattle.cut_search.specs.SearchPartsLaws.{seek_room, sought_step, sought_end}
 use Rattle.cut_search.proofs.successor.Given as goal
 
 abbrev pub invariant-loop-at : goal.invariant-loop-at

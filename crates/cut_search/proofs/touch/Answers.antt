@@ -1,6 +1,4 @@
-use native.Mathlib.Omega.{arith}
-use Rattle.cut_search.specs.SearchPartsLaws.{touch_fresh, touch_told, touch_old}
-use Rattle.std.proofs.Common.{rules}
+use Rattle.cut_search.specs.SearchPartsLaws.{touch_fresh, touch_told}
 use Rattle.cut_search.proofs.touch.Goals as goal
 
 pub returns-then-table-c-lt32 : goal.returns-then-table-c-lt32

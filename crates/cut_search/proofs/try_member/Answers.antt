@@ -1,6 +1,5 @@
 use native.Mathlib.Omega.{arith}
 use Rattle.cut_search.specs.SearchLaws.{member-node, member-frame-fits, member_skipped, member-room, run-asked, run_lost, unwind_asked, run-won}
-use Rattle.std.proofs.Common.{rules}
 use Rattle.cut_search.proofs.try_member.Goals as goal
 
 pub number_at-c-requires : goal.number_at-c-requires
@@ -15,14 +14,14 @@ put_number-requires c = record { i_bound = member-node c.requires; n_bound = ome
 pub push-requires : goal.push-requires
 push-requires c = record { room = member-room c.requires (omega (arith, c.number_at-c.ensures, c.if-f-c.false)); short = c.requires.asked.store.short; turn = omega arith; fits = member-frame-fits c.requires }
 
-pub run-r-requires : goal.run-r-requires
-run-r-requires c = run-asked c.requires c.number_at-c.ensures (omega (arith, c.if-f-c.false)) c.push.ensures c.push.auto.stack c.put_number.ensures
+pub run-found-requires : goal.run-found-requires
+run-found-requires c = run-asked c.requires c.number_at-c.ensures (omega (arith, c.if-f-c.false)) c.push.ensures c.push.auto.stack c.put_number.ensures
 
 pub unwind-requires : goal.unwind-requires
-unwind-requires c = unwind_asked c.requires c.number_at-c.ensures (omega (arith, c.if-f-c.false)) c.push.ensures c.push.auto.stack c.put_number.ensures c.run-r.ensures c.if-r-gt0.true c.run-r.auto.table c.run-r.auto.stack
+unwind-requires c = unwind_asked c.requires c.number_at-c.ensures (omega (arith, c.if-f-c.false)) c.push.ensures c.push.auto.stack c.put_number.ensures c.run-found.ensures c.if-found.true c.run-found.auto.table c.run-found.auto.stack
 
-pub returns-then-r-gt0 : goal.returns-then-r-gt0
-returns-then-r-gt0 c = run-won c.requires c.number_at-c.ensures (omega (arith, c.if-f-c.false)) c.push.ensures c.push.auto.stack c.put_number.ensures c.run-r.ensures c.if-r-gt0.true c.unwind.ensures
+pub returns-then-found : goal.returns-then-found
+returns-then-found c = run-won c.requires c.number_at-c.ensures (omega (arith, c.if-f-c.false)) c.push.ensures c.push.auto.stack c.put_number.ensures c.run-found.ensures c.if-found.true c.unwind.ensures
 
-pub returns-else-r-gt0 : goal.returns-else-r-gt0
-returns-else-r-gt0 c = run_lost c.requires c.number_at-c.ensures (omega (arith, c.if-f-c.false)) c.push.ensures c.push.auto.stack c.put_number.ensures c.run-r.ensures c.if-r-gt0.false
+pub returns-else-found : goal.returns-else-found
+returns-else-found c = run_lost c.requires c.number_at-c.ensures (omega (arith, c.if-f-c.false)) c.push.ensures c.push.auto.stack c.put_number.ensures c.run-found.ensures c.if-found.false

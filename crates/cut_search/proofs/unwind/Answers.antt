@@ -1,40 +1,31 @@
-use mathlib.Core.Path.{◌≡◌, refl, ap, ◌∙◌}
-use Prim.Native.Nat.{◌-◌}
+use mathlib.Core.Path.{◌∙◌}
 use native.Mathlib.Omega.{arith}
-use lib.ListN.{length, get_or}
-use lib.Seq.{get_or-set_same}
-use Rattle.cut_circuit.specs.Packed.{packed_of}
 use Rattle.cut_circuit.specs.PackedLaws.{gate-plain}
-use Rattle.cut_search.specs.UnwindLaws.{unwind_start, unwind_end, down-inside, down-pins, down-firsts, down-begun, down-first, down-small, down_step}
-use Rattle.cut_search.specs.Steps.{Descending}
-use Rattle.std.proofs.Common.{rules}
+use Rattle.cut_search.specs.UnwindLaws.{unwind_end, down-inside, down-pins, down-firsts, down-begun, down-first, down-small, down_step}
 use Rattle.cut_search.proofs.unwind.Goals as goal
 
 pub pins_of-n-requires : goal.pins_of-n-requires
-pins_of-n-requires c = gate-plain (down-pins c.loop-s.invariant.0.asked (omega (arith, c.number_at.ensures, c.loop-s-test.true)) c.number_at-d.ensures c.number_at-top.ensures)
+pins_of-n-requires c = gate-plain (down-pins c.loop-s.invariant.asked (omega (arith, c.number_at.ensures, c.loop-s-test.true)) c.number_at-d.ensures c.number_at-top.ensures)
 
 pub first_of-requires : goal.first_of-requires
-first_of-requires c = gate-plain (down-firsts c.loop-s.invariant.0.asked (omega (arith, c.number_at.ensures, c.loop-s-test.true)) c.number_at-d.ensures c.number_at-top.ensures)
+first_of-requires c = gate-plain (down-firsts c.loop-s.invariant.asked (omega (arith, c.number_at.ensures, c.loop-s-test.true)) c.number_at-d.ensures c.number_at-top.ensures)
 
 pub overflow_sub-top : goal.overflow_sub-top
-overflow_sub-top c = omega (arith, down-begun c.loop-s.invariant.0.asked (omega (arith, c.number_at.ensures, c.loop-s-test.true)) c.number_at-d.ensures c.number_at-top.ensures)
+overflow_sub-top c = omega (arith, down-begun c.loop-s.invariant.asked (omega (arith, c.number_at.ensures, c.loop-s-test.true)) c.number_at-d.ensures c.number_at-top.ensures)
 
 pub turn-w-requires : goal.turn-w-requires
-turn-w-requires c = down-first c.loop-s.invariant.0.asked (omega (arith, c.number_at.ensures, c.loop-s-test.true)) c.number_at-d.ensures c.number_at-top.ensures c.pins_of-n.ensures c.first_of.ensures
+turn-w-requires c = down-first c.loop-s.invariant.asked (omega (arith, c.number_at.ensures, c.loop-s-test.true)) c.number_at-d.ensures c.number_at-top.ensures c.pins_of-n.ensures c.first_of.ensures
 
 pub narrow-requires : goal.narrow-requires
-narrow-requires c = omega (arith, down-small c.loop-s.invariant.0.asked (omega (arith, c.number_at.ensures, c.loop-s-test.true)) c.number_at-d.ensures c.number_at-top.ensures c.pins_of-n.ensures c.first_of.ensures c.turn-w.ensures)
+narrow-requires c = omega (arith, down-small c.loop-s.invariant.asked (omega (arith, c.number_at.ensures, c.loop-s-test.true)) c.number_at-d.ensures c.number_at-top.ensures c.pins_of-n.ensures c.first_of.ensures c.turn-w.ensures)
 
 pub set_flow-requires : goal.set_flow-requires
-set_flow-requires c = record { c_bound = down-inside c.loop-s.invariant.0.asked (omega (arith, c.number_at.ensures, c.loop-s-test.true)) c.number_at-d.ensures c.number_at-top.ensures; n_bound = omega (arith, c.narrow.ensures, down-small c.loop-s.invariant.0.asked (omega (arith, c.number_at.ensures, c.loop-s-test.true)) c.number_at-d.ensures c.number_at-top.ensures c.pins_of-n.ensures c.first_of.ensures c.turn-w.ensures) }
+set_flow-requires c = record { c_bound = down-inside c.loop-s.invariant.asked (omega (arith, c.number_at.ensures, c.loop-s-test.true)) c.number_at-d.ensures c.number_at-top.ensures; n_bound = omega (arith, c.narrow.ensures, down-small c.loop-s.invariant.asked (omega (arith, c.number_at.ensures, c.loop-s-test.true)) c.number_at-d.ensures c.number_at-top.ensures c.pins_of-n.ensures c.first_of.ensures c.turn-w.ensures) }
 
 pub loop-s-preserved : goal.loop-s-preserved
-loop-s-preserved c = (
-  down_step c.loop-s.invariant.0.asked (omega (arith, c.number_at.ensures, c.loop-s-test.true)) c.number_at-d.ensures c.number_at-top.ensures c.pins_of-n.ensures c.first_of.ensures (c.narrow.ensures ∙ c.turn-w.ensures)
-      c.loop-s.invariant.0 c.set_flow.ensures c.set_flow.auto.table c.put_number.ensures,
-  c.set_flow.auto.table ∙ c.loop-s.invariant.1,
-  c.put_number.auto.list ∙ c.loop-s.invariant.2,
-)
+loop-s-preserved c =
+    down_step c.loop-s.invariant.asked (omega (arith, c.number_at.ensures, c.loop-s-test.true)) c.number_at-d.ensures c.number_at-top.ensures c.pins_of-n.ensures c.first_of.ensures (c.narrow.ensures ∙ c.turn-w.ensures)
+    c.loop-s.invariant c.set_flow.ensures c.set_flow.auto.table c.put_number.ensures
 
 pub returns : goal.returns
-returns c = unwind_end c.loop-s.invariant.0 (omega (arith, c.number_at.ensures, c.loop-s-test.false))
+returns c = unwind_end c.loop-s.invariant (omega (arith, c.number_at.ensures, c.loop-s-test.false))
