@@ -10,12 +10,12 @@ use lutclass::smallest;
 use text_digits::{put_byte, put_decimal};
 
 // A number on a line.
-fn put_line(n: usize, at: usize, out: &mut [u8]) -> usize
+fn put_line(n: u8, at: usize, out: &mut [u8]) -> usize
     requires { at + 21 ≤ length out.old }
     ensures { Put 21 at (number_line n) out.old out.new result }
 {
-    let a = put_decimal(n, at, out);
-    put_byte(10, a, out)
+    let a = put_decimal(usize::from(n), at, out);
+    put_byte(b'\n', a, out)
 }
 
 // 256 lines of at most 21 bytes.
@@ -27,11 +27,8 @@ fn write_lines(out: &mut [u8]) -> usize
     ensures { Wrote class_text out.old out.new result }
 {
     let mut at = 0;
-    let mut f: usize = 0;
-    while f < 256 {
-        let n = smallest(f as u8);
-        at = put_line(n as usize, at, out);
-        f += 1;
+    for f in 0..=255 {
+        at = put_line(smallest(f), at, out);
     }
     at
 }

@@ -1,6 +1,7 @@
 -- Numbers as text: the last digit stands behind the others.
-use Rattle.std.specs.Prelude.{◌≡◌, refl, Bool, true, false, cond, List, [], ◌∷◌, ◌++◌, ℕ, zero, suc, ◌+◌, ◌-◌, ◌/◌, ◌%◌, ◌^◌, ◌≤◌, ◌<◌, ltb, ℤ, pos, negsuc, nat_abs, ◌-ℤ◌, length, ◌≤ℤ◌, ◌<ℤ◌}
+use Rattle.std.specs.Prelude.{◌≡◌, refl, Bool, true, false, cond, List, [], ◌∷◌, ◌++◌, ℕ, zero, suc, ◌+◌, ◌-◌, ◌*◌, ◌/◌, ◌%◌, ◌^◌, ◌≤◌, ◌<◌, ltb, ℤ, pos, negsuc, nat_abs, ◌-ℤ◌, length, ◌≤ℤ◌, ◌<ℤ◌}
 use Rattle.std.proofs.Common.{sym, ap, ◌∙◌, append_assoc, pow-suc, arith, lt-ltb, le-ltb}
+use Rattle.std.proofs.Math.Nat.{div-div-eq-div-mul}
 use Rattle.integers.specs.Parts.{ints, sub_parts}
 use Rattle.cover_records.specs.Listing.{digits_low, reversed, digit, digit_text, decimal, signed, hex_low, table_text}
 use Rattle.signed.specs.Range.{Small, room}
@@ -111,6 +112,31 @@ pub hex_more : (n w : ℕ) → (n ≡ 0 → ⊥) → hex_text n w ≡ hex_text (
 unfolding hex_text hex_low
 hex_more zero w h = absurd (h refl)
 hex_more (suc n) w h = let e : suc n - 1 ≡ n = omega arith in rw e (text-last (w % 16) (hex_low n (w / 16)))
+
+-- the highest digit stands in front
+pub hex_front : (j w : ℕ) → hex_text (suc j) w ≡ digit (w / 16 ^ j % 16) ∷ hex_text j w
+hex_front zero w =
+    let e : w ≡ w / 1 = omega arith in
+    hex_more 1 w one_zero ∙ ap (λ (l : List ℕ). l ++ (digit (w % 16) ∷ [])) (hex_none (w / 16)) ∙ ap (λ (x : ℕ). digit (x % 16) ∷ []) e
+    ∙ ap (λ (l : List ℕ). digit (w / 1 % 16) ∷ l) (sym (hex_none w))
+  where
+    one_zero : ◌≡◌ {A = ℕ} 1 0 → ⊥
+    one_zero e = omega arith
+hex_front (suc j) w =
+    let p : 16 * 16 ^ j ≡ 16 ^ suc j = let q = pow-suc 16 j in omega arith in
+    let d : w / 16 / 16 ^ j ≡ w / 16 ^ suc j = div-div-eq-div-mul w 16 (16 ^ j) ∙ ap (λ (x : ℕ). w / x) p in
+    behind (suc j) ∙ ap (λ (l : List ℕ). l ++ (digit (w % 16) ∷ [])) (hex_front j (w / 16)) ∙ ap (λ (x : ℕ). digit (x % 16) ∷ (hex_text j (w / 16) ++ (digit (w % 16) ∷ []))) d
+    ∙ ap (λ (l : List ℕ). digit (w / 16 ^ suc j % 16) ∷ l) (sym (behind j))
+  where
+    none : (i : ℕ) → suc i ≡ 0 → ⊥
+    none i e = omega arith
+
+    behind : (i : ℕ) → hex_text (suc i) w ≡ hex_text i (w / 16) ++ (digit (w % 16) ∷ [])
+    behind i = let e : suc i - 1 ≡ i = omega arith in rw e at (hex_more (suc i) w (none i))
+
+pub hex-length : (j w : ℕ) → length (hex_text j w) ≡ j
+hex-length zero w = ap length (hex_none w)
+hex-length (suc j) w = ap length (hex_front j w) ∙ ap suc (hex-length j w)
 
 pub table-text : (n w : ℕ) → table_text n w ≡ hex_text ((2 ^ n + 3) / 4) w
 unfolding table_text hex_text

@@ -22,12 +22,9 @@ pub fn put_word(word: &[u8], at: usize, out: &mut [u8]) -> usize
     requires { at + length word.now ≤ length out.old }
     ensures { Put (length word.now) at word.now out.old out.new result }
 {
-    let mut i = 0;
-    while i < word.len() {
-        out[at + i] = word[i];
-        i += 1;
-    }
-    at + i
+    let end = at + word.len();
+    out[at..end].copy_from_slice(word);
+    end
 }
 
 // '0' to '9', then 'a' to 'f'.
@@ -36,9 +33,9 @@ fn digit_byte(d: usize) -> u8
     ensures { result ≡ digit d }
 {
     if d < 10 {
-        (48 + d) as u8
+        b'0' + d as u8
     } else {
-        (87 + d) as u8
+        b'a' + (d - 10) as u8
     }
 }
 
@@ -56,39 +53,30 @@ pub fn put_decimal(n: usize, at: usize, out: &mut [u8]) -> usize
     put_byte(d, a, out)
 }
 
-// A number without its sign.
-fn unsigned(z: i64) -> usize
-    requires { Small z }
-    ensures { result ≡ nat_abs z }
-{
-    if z < 0 { (0 - z) as usize } else { z as usize }
-}
-
 // A number in decimal, led by '-' where it is negative.
 fn put_signed(z: i64, at: usize, out: &mut [u8]) -> usize
     requires small { Small z }
     requires at_in_bounds { at + 21 ≤ length out.old }
     ensures { Put 21 at (signed z) out.old out.new result }
 {
-    let n = unsigned(z);
+    let n = z.unsigned_abs() as usize;
     if z < 0 {
-        let a = put_byte(45, at, out);
+        let a = put_byte(b'-', at, out);
         return put_decimal(n, a, out);
     }
     put_decimal(n, at, out)
 }
 
-// k hexadecimal digits of a number: the lowest behind the others.
-fn put_hex(k: usize, w: u64, at: usize, out: &mut [u8]) -> usize
+// k hexadecimal digits of a number, the lowest last.
+fn put_hex(k: usize, mut w: u64, at: usize, out: &mut [u8]) -> usize
     requires { at + k ≤ length out.old }
     ensures { Put k at (hex_text k w) out.old out.new result }
 {
-    if k == 0 {
-        return at;
+    for i in (0..k).rev() {
+        out[at + i] = digit_byte((w % 16) as usize);
+        w /= 16;
     }
-    let d = digit_byte((w % 16) as usize);
-    let a = put_hex(k - 1, w / 16, at, out);
-    put_byte(d, a, out)
+    at + k
 }
 
 // The table of a LUT with n leaves.
@@ -125,7 +113,7 @@ fn write_said(word: &[u8], n: usize, out: &mut [u8]) -> usize
     ensures { Wrote ((word.now ++ decimal n) ++ newline) out.old out.new result }
 {
     let a = put_field(word, n, 0, out);
-    put_byte(10, a, out)
+    put_byte(b'\n', a, out)
 }
 
 // The text of a refusal, in front of the area; the bytes behind it are kept.

@@ -1,4 +1,4 @@
-use Prim.Native.Nat.{ℕ, ◌<◌, ◌/◌, ◌%◌}
+use Prim.Native.Nat.{ℕ, ◌/◌, ◌%◌}
 use mathlib.Core.Path.{sym, ap, ◌∙◌}
 use mathlib.Core.List.{[], ◌∷◌, ◌++◌}
 use native.Mathlib.Omega.{arith}
@@ -6,7 +6,6 @@ use lib.ListN.{length, length-append}
 use Rattle.cover_records.specs.Listing.{decimal, digit}
 use Rattle.text_digits.specs.PutLaws.{put_then, put-held, put-few, put-more, put_same}
 use Rattle.text_digits.specs.DigitLaws.{decimal-one, decimal-more, decimal-few}
-use Rattle.std.proofs.Common.{rules}
 use Rattle.text_digits.proofs.+put_decimal.Goals as goal
 
 pub returns-then-n-lt10 : goal.returns-then-n-lt10

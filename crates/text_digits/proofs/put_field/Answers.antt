@@ -1,5 +1,4 @@
 use Rattle.text_digits.specs.PutLaws.{put_then}
-use Rattle.std.proofs.Common.{rules}
 use Rattle.text_digits.proofs.put_field.Goals as goal
 
 pub returns : goal.returns

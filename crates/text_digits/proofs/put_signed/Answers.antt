@@ -12,7 +12,6 @@ use Rattle.signed.specs.Range.{Small}
 use Rattle.signed.specs.RangeLaws.{back, small-fits, lt_z_true, lt_z_false}
 use Rattle.text_digits.specs.PutLaws.{put_then, put-more, put_same}
 use Rattle.text_digits.specs.DigitLaws.{signed_low, signed_high}
-use Rattle.std.proofs.Common.{rules}
 use Rattle.text_digits.proofs.put_signed.Goals as goal
 
 -- `text_digits::put_signed` meets its contract, by the sign.
@@ -28,14 +27,12 @@ module _ (z : ℤ) (s : Small z) (n : ℕ) (e : n ≡ nat_abs (to_z w64 (of_z w6
 
 pub returns-then-z-lt0 : goal.returns-then-z-lt0
 returns-then-z-lt0 c =
-    let unsigned = c.unsigned-n in
-    let start = c in
-    put_same (low c.args.z c.requires.small unsigned.result unsigned.ensures c.if-z-lt0.true)
+    let n = c.unsigned_abs-n in
+    put_same (low c.args.z c.requires.small n.result n.ensures.value c.if-z-lt0.true)
     (put_then c.put_byte-a.ensures c.put_decimal.ensures)
 
 pub returns : goal.returns
 returns c =
-    let unsigned = c.unsigned-n in
-    let start = c in
-    put-more 21 (omega arith) (put_same (high c.args.z c.requires.small unsigned.result unsigned.ensures c.if-z-lt0.false)
+    let n = c.unsigned_abs-n in
+    put-more 21 (omega arith) (put_same (high c.args.z c.requires.small n.result n.ensures.value c.if-z-lt0.false)
     c.put_decimal-2.ensures)

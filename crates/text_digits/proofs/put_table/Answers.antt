@@ -6,7 +6,6 @@ use Rattle.limits.specs.Limits.{most_pins}
 use Rattle.text_digits.specs.Put.{hex_text}
 use Rattle.text_digits.specs.PutLaws.{put-more, put_same}
 use Rattle.text_digits.specs.DigitLaws.{table-text}
-use Rattle.std.proofs.Common.{rules}
 use Rattle.text_digits.proofs.put_table.Goals as goal
 
 pub put_hex-requires : goal.put_hex-requires

@@ -1,6 +1,5 @@
 use mathlib.Core.Path.{sym}
 use Rattle.text_digits.specs.PutLaws.{wrote_as, excess-text}
-use Rattle.std.proofs.Common.{rules}
 use Rattle.text_digits.proofs.write_excess.Goals as goal
 
 pub returns : goal.returns

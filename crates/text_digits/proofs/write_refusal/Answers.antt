@@ -1,6 +1,5 @@
 use mathlib.Core.Path.{sym}
 use Rattle.text_digits.specs.PutLaws.{wrote_as, refusal-text}
-use Rattle.std.proofs.Common.{rules}
 use Rattle.text_digits.proofs.write_refusal.Goals as goal
 
 pub returns : goal.returns

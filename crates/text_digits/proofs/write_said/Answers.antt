@@ -1,5 +1,4 @@
 use Rattle.text_digits.specs.PutLaws.{put_then, put-wrote}
-use Rattle.std.proofs.Common.{rules}
 use Rattle.text_digits.proofs.write_said.Goals as goal
 
 pub returns : goal.returns
