@@ -1,5 +1,5 @@
 -- Laws of reading the head, the numbers of the body and the whole record, one for each way out.
-use Rattle.std.specs.Prelude.{◌≡◌, refl, cond, ℕ, ◌+◌, ◌/◌, ◌%◌, ◌^◌, ◌≤◌, ◌<◌, leb, length, drop}
+use Rattle.std.specs.Prelude.{◌≡◌, refl, cond, ℕ, ◌+◌, ◌/◌, ◌%◌, ◌^◌, ◌≤◌, ◌<◌, leb, length, drop, Result, Ok, Err}
 use Rattle.std.proofs.Common.{sym, ◌∙◌, arith, le-leb, eq-eqb, ne_eqb, drop_of_length-le}
 use Rattle.std.proofs.Math.Path.{ap}
 use mathlib.Core.List.{List, [], ◌++◌, append-nil}
@@ -7,56 +7,41 @@ use Rattle.std.proofs.Math.Decide.{dec_le}
 use Rattle.std.proofs.lemmas.Bool.{lt-leb}
 use Rattle.limits.specs.Limits.{most_outputs}
 use Rattle.limits.specs.declared.Rules.{Rules}
+use Rattle.refusals.specs.declared.Refusal.{Refusal}
+use Rattle.refusals.specs.Refusals.{number_of}
 use Rattle.net_model.specs.Net.{Net, Gate, Pin, size}
 use Rattle.net_model.specs.Tables.{bit}
 use Rattle.net_model.specs.Arrays.{net_in}
 use Rattle.net_model.specs.PackedNet.{sources_at, counts_at}
 use Rattle.net_model.specs.PackedNetLaws.{gates-same}
-use Rattle.net_bytes.specs.Reading.{Result, and_then, times, at_end, between, got, refused}
-use Rattle.net_bytes.specs.Walk.{Head, Drawn, drawn, is_past, drawn_reader, net_reader, head_reader, body_reader, output_reader, net_number}
+use Rattle.net_bytes.specs.Reading.{Result as Outcome, and_then, at_end, between, got, refused}
+use Rattle.net_bytes.specs.Walk.{Head, Drawn, drawn, is_past, drawn_reader, net_reader, head_reader, body_reader, net_number}
 use Rattle.net_bytes.specs.Readers.{then-goes, then-stops, byte-got, number-got}
 use Rattle.net_bytes.specs.Sound.{between-true}
 use Rattle.net_bytes.specs.Stages.{from_head, from_body, from_gates, from_sizes, from_gate_list, from_output_list, body_stages, drawn_stages, net_of, net_stages}
 use Rattle.net_bytes.specs.SectionLaws.{times-bytes}
 use Rattle.net_fields.specs.declared.Field.TheVariants.{Net as OfNet}
 use Rattle.net_fields.specs.declared.NetField.TheVariants.{Outputs}
-use Rattle.net_fields.specs.declared.Verdict.{Verdict}
-use Rattle.net_fields.specs.declared.Verdict.TheVariants.{Read, Refused}
 use Rattle.net_fields.specs.Fields.{field_byte}
-use Rattle.net_fields.specs.FieldLaws.{went, stopped, onward-stopping, end_done, end_over}
-use Rattle.net_fields.specs.Verdicts.{outcome}
+use Rattle.net_fields.specs.FieldLaws.{end_done, end_over}
+use Rattle.net_fields.specs.Outcomes.{onward}
 use Rattle.net_section.specs.SectionRead.{pasts}
 use Rattle.net_reader.specs.declared.NetSizes.{NetSizes}
-use Rattle.net_reader.specs.declared.BodySizes.{BodySizes}
-use Rattle.net_reader.specs.declared.Part.{Part}
 use Rattle.net_reader.specs.ReadAnswer.{arrays_of}
 use Rattle.net_reader.specs.NetStored.{gates_of, outputs_of, GatesRead, OutputsRead, SizesRead}
 
 -- the numbers of the body, where G is tested as the rules say
 module _ (R : Rules) (s : List ℕ) (at : ℕ) where
-  stop-sizes : {n : ℕ} (r : BodySizes) → ((k i : ℕ) → body_reader R k i (drop at s) ≡ refused n)
-      → (r.verdict ≡ Refused n) × (r.gates ≡ 0) × (r.outputs ≡ 0) → SizesRead R s at r
-  stop-sizes r e v =
-      let g = v.1 in
-      let o = v.2 in
-      record {
-        result = λ k i. onward-stopping (from_sizes R.wide k i r.gates r.outputs (drop r.at s)) (e k i) v.0;
-        gates = omega arith;
-        outputs = omega arith;
-      }
-
-  pub gates-number-stops : {n : ℕ} (r : BodySizes) → net_number R.wide 5 (between 1 R.gates) (drop at s) ≡ refused n
-      → (r.verdict ≡ Refused n) × (r.gates ≡ 0) × (r.outputs ≡ 0) → SizesRead R s at r
-  gates-number-stops r e v = stop-sizes r (λ k i. body_stages R k i (drop at s) ∙ then-stops (from_gates R.wide k i) e) v
+  pub gates-number-stops : {n : ℕ} → net_number R.wide 5 (between 1 R.gates) (drop at s) ≡ refused n
+      → (k i : ℕ) → body_reader R k i (drop at s) ≡ refused n
+  gates-number-stops e k i = body_stages R k i (drop at s) ∙ then-stops (from_gates R.wide k i) e
 
   module _ (g : ℕ) (t : List ℕ) (e : net_number R.wide 5 (between 1 R.gates) (drop at s) ≡ got g t) where
-    pub outputs-number-stops : {n : ℕ} (r : BodySizes) → field_byte (OfNet Outputs) 0 t ≡ refused n
-        → (r.verdict ≡ Refused n) × (r.gates ≡ 0) × (r.outputs ≡ 0) → SizesRead R s at r
-    outputs-number-stops r f v =
-        stop-sizes r (λ k i. body_stages R k i (drop at s) ∙ then-goes (from_gates R.wide k i) e ∙ then-stops (from_sizes R.wide k i g) f) v
+    pub outputs-number-stops : {n : ℕ} → field_byte (OfNet Outputs) 0 t ≡ refused n → (k i : ℕ) → body_reader R k i (drop at s) ≡ refused n
+    outputs-number-stops f k i = body_stages R k i (drop at s) ∙ then-goes (from_gates R.wide k i) e ∙ then-stops (from_sizes R.wide k i g) f
 
     pub sizes-go : (o behind : ℕ) → field_byte (OfNet Outputs) 0 t ≡ got o (drop behind s)
-        → SizesRead R s at (record { verdict = Read; at = behind; gates = g; outputs = o })
+        → SizesRead R s at (Ok (record { value = record { gates = g; outputs = o }; at = behind }))
     sizes-go o behind f =
         let few = (between-true 1 R.gates g (number-got R.wide 4 5 (between 1 R.gates) (drop at s) g t e)).1 in
         record {
@@ -67,12 +52,11 @@ module _ (R : Rules) (s : List ℕ) (at : ℕ) where
 
 -- the whole body, behind its numbers
 module _ (R : Rules) (k : ℕ) (s : List ℕ) (start at : ℕ) (z : NetSizes) (net ts : List ℕ)
-    (e : body_reader R k z.inputs (drop start s) ≡ from_sizes R.wide k z.inputs z.gates z.outputs (drop at s)) (y : Part) (gr : GatesRead R.wide s at k z net ts y) where
-  pub gates-refused : {n : ℕ} → y.verdict ≡ Refused n → body_reader R k z.inputs (drop start s) ≡ refused n
-  gates-refused v =
-      e ∙ then-stops (from_gate_list R.wide z.inputs z.gates z.outputs) (stopped (gates_of z.gates net ts z.gates) (drop y.at s) gr.result v)
+    (e : body_reader R k z.inputs (drop start s) ≡ from_sizes R.wide k z.inputs z.gates z.outputs (drop at s)) where
+  pub gates-refused : {n : Refusal} → GatesRead R.wide s at k z net ts (Err n) → body_reader R k z.inputs (drop start s) ≡ refused (number_of n)
+  gates-refused gr = e ∙ then-stops (from_gate_list R.wide z.inputs z.gates z.outputs) gr.result
 
-  module _ (v : y.verdict ≡ Read) (net' : List ℕ) (x : Part) (or : OutputsRead R.wide s y.at z net net' x) where
+  module _ (mid : ℕ) (gr : GatesRead R.wide s at k z net ts (Ok mid)) (net' : List ℕ) (x : Result ℕ Refusal) (or : OutputsRead R.wide s mid z net net' x) where
     abbrev gs : List Gate
     gs = gates_of z.gates net ts z.gates
 
@@ -80,19 +64,20 @@ module _ (R : Rules) (k : ℕ) (s : List ℕ) (start at : ℕ) (z : NetSizes) (n
     same-net : record { inputs = z.inputs; gates = gs; outputs = outputs_of z net' z.outputs } ≡ net_in (arrays_of z net' ts)
     unfolding net_in
     same-net = ap (λ (l : List Gate). record { inputs = z.inputs; gates = l; outputs = outputs_of z net' z.outputs })
-        (sym (gates-same z.gates z.gates net net' (gr.few v) (λ i h. or.below i (omega (arith, h))) (λ m h. or.below (sources_at z.gates + m) (omega (arith, h)))
+        (sym (gates-same z.gates z.gates net net' gr.few (λ i h. or.below i (omega (arith, h))) (λ m h. or.below (sources_at z.gates + m) (omega (arith, h)))
         (λ m h. or.below (counts_at z.gates + m) (omega (arith, h))) ts ts (λ i h. refl)))
 
-    listed : (v : Verdict) (os : List Pin) (t : List ℕ)
-        → and_then (outcome v os t) (from_output_list z.inputs gs) ≡ outcome v (record { inputs = z.inputs; gates = gs; outputs = os }) t
-    listed Read os t = refl
-    listed (Refused n) os t = refl
+    listed : (x : Result ℕ Refusal) (os : List Pin)
+        → and_then (onward (λ end. got os (drop end s)) x) (from_output_list z.inputs gs)
+        ≡ onward (λ end. got (record { inputs = z.inputs; gates = gs; outputs = os }) (drop end s)) x
+    listed (Ok end) os = refl
+    listed (Err n) os = refl
 
-    pub body-read : body_reader R k z.inputs (drop start s) ≡ outcome x.verdict (net_in (arrays_of z net' ts)) (drop x.at s)
+    pub body-read : body_reader R k z.inputs (drop start s) ≡ onward (λ end. got (net_in (arrays_of z net' ts)) (drop end s)) x
     body-read =
-        e ∙ then-goes (from_gate_list R.wide z.inputs z.gates z.outputs) (went gs (drop y.at s) gr.result v)
-        ∙ ap (λ r. and_then r (from_output_list z.inputs gs)) or.result ∙ listed x.verdict (outputs_of z net' z.outputs) (drop x.at s)
-        ∙ ap (λ (N : Net). outcome x.verdict N (drop x.at s)) same-net
+        e ∙ then-goes (from_gate_list R.wide z.inputs z.gates z.outputs) gr.result
+        ∙ ap (λ r. and_then r (from_output_list z.inputs gs)) or.result ∙ listed x (outputs_of z net' z.outputs)
+        ∙ ap (λ (N : Net). onward (λ end. got N (drop end s)) x) same-net
 
 -- bit 7 of a byte
 pub high_bit : (b : ℕ) → b < 256 → leb 128 b ≡ bit b 7
@@ -134,9 +119,5 @@ module _ (R : Rules) (k : ℕ) (s : List ℕ) where
             ∙ ap (λ (m : List ℕ). got (drawn N m) []) (sym (times-bytes 4 6 is_past n (drop behind s) l (drop end s) g ∙ ap (λ (t : List ℕ). l ++ t) (drop_of_length-le s b) ∙ append-nil l))
 
 -- the net alone
-pub net-alone : (R : Rules) (k : ℕ) (s : List ℕ) (v : Verdict) (d : Drawn) → drawn_reader R k s ≡ outcome v d [] → net_reader R k s ≡ outcome v d.net []
-net-alone R k s v d e = net_stages R k s ∙ ap (λ (r : Result Drawn). and_then r net_of) e ∙ by v
-  where
-    by : (x : Verdict) → and_then (outcome x d []) net_of ≡ outcome x d.net []
-    by Read = refl
-    by (Refused n) = refl
+pub net-alone : (R : Rules) (k : ℕ) (s : List ℕ) (x : Outcome Drawn) → drawn_reader R k s ≡ x → net_reader R k s ≡ and_then x net_of
+net-alone R k s x e = net_stages R k s ∙ ap (λ (r : Outcome Drawn). and_then r net_of) e

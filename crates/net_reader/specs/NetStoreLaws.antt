@@ -15,10 +15,6 @@ use Rattle.net_model.specs.PackedNetLaws.{pins-same, gates-same}
 use Rattle.net_bytes.specs.Reading.{times, got, refused}
 use Rattle.net_bytes.specs.Walk.{gate_reader, output_reader}
 use Rattle.net_bytes.specs.Readers.{behind, turn-none, turn_one, turn-stops, turn-ends}
-use Rattle.net_fields.specs.declared.Verdict.{Verdict}
-use Rattle.net_fields.specs.declared.Verdict.TheVariants.{Read, Refused}
-use Rattle.net_fields.specs.Verdicts.{outcome}
-use Rattle.net_fields.specs.FieldLaws.{went, stopped}
 use Rattle.net_rows.specs.declared.GateRow.{GateRow}
 use Rattle.net_rows.specs.RowParts.{row_gate}
 use Rattle.net_reader.specs.declared.NetSizes.{NetSizes}
@@ -109,21 +105,19 @@ module _ (wide : Bool) (s : List ℕ) (at k : ℕ) (z : NetSizes) (net ts : List
   }
 
   module _ (next g : ℕ) (so : GatesSoFar wide s at k z net ts next g) where
-    pub gates-one : (row : GateRow) {net' ts' : List ℕ} → g < z.gates
-        → gate_reader wide k (z.inputs + z.gates) (drop next s) ≡ outcome row.verdict (row_gate row) (drop row.at s) → row.verdict ≡ Read
-        → GateStored net ts z.gates g row net' ts' → GatesSoFar wide s at k z net' ts' row.at (g + 1)
-    gates-one row {net'} {ts'} h e r st = record {
-      result = turn_one z.gates g (gates_of z.gates net ts g) (gate_reader wide k (z.inputs + z.gates)) (drop next s) so.result (row_gate row) (drop row.at s)
-          (gates_of z.gates net' ts' (g + 1)) h (went (row_gate row) (drop row.at s) e r) st.list;
+    pub gates-one : (row : GateRow) (after : ℕ) {net' ts' : List ℕ} → g < z.gates
+        → gate_reader wide k (z.inputs + z.gates) (drop next s) ≡ got (row_gate row) (drop after s)
+        → GateStored net ts z.gates g row net' ts' → GatesSoFar wide s at k z net' ts' after (g + 1)
+    gates-one row after {net'} {ts'} h e st = record {
+      result = turn_one z.gates g (gates_of z.gates net ts g) (gate_reader wide k (z.inputs + z.gates)) (drop next s) so.result (row_gate row) (drop after s)
+          (gates_of z.gates net' ts' (g + 1)) h e st.list;
       most = omega arith;
       few = st.few;
     }
 
-    pub gates-stop : {n : ℕ} (row : GateRow) → g < z.gates
-        → gate_reader wide k (z.inputs + z.gates) (drop next s) ≡ outcome row.verdict (row_gate row) (drop row.at s) → row.verdict ≡ Refused n
+    pub gates-stop : {n : ℕ} → g < z.gates → gate_reader wide k (z.inputs + z.gates) (drop next s) ≡ refused n
         → times z.gates (gate_reader wide k (z.inputs + z.gates)) (drop at s) ≡ refused n
-    gates-stop row h e r =
-        turn-stops z.gates g (gates_of z.gates net ts g) (gate_reader wide k (z.inputs + z.gates)) (drop next s) so.result h (stopped (row_gate row) (drop row.at s) e r)
+    gates-stop h e = turn-stops z.gates g (gates_of z.gates net ts g) (gate_reader wide k (z.inputs + z.gates)) (drop next s) so.result h e
 
     pub gates-all : z.gates ≤ g → times z.gates (gate_reader wide k (z.inputs + z.gates)) (drop at s) ≡ got (gates_of z.gates net ts z.gates) (drop next s)
     gates-all h =
@@ -176,26 +170,24 @@ module _ (wide : Bool) (s : List ℕ) (at : ℕ) (z : NetSizes) (old : List ℕ)
   }
 
   module _ (net : List ℕ) (next o : ℕ) (so : OutputsSoFar wide s at z old net next o) where
-    pub outputs-one : packed_room z.inputs z.gates z.outputs ≤ length old → (h : o < z.outputs) (v : Verdict) (source count after : ℕ)
-        → output_reader wide (z.inputs + z.gates) (drop next s) ≡ outcome v (record { src = source; count = count }) (drop after s) → v ≡ Read
+    pub outputs-one : packed_room z.inputs z.gates z.outputs ≤ length old → (h : o < z.outputs) (source count after : ℕ)
+        → output_reader wide (z.inputs + z.gates) (drop next s) ≡ got (record { src = source; count = count }) (drop after s)
         → OutputsSoFar wide s at z old (with_output net z o source count) after (o + 1)
-    outputs-one room h v source count after e r =
+    outputs-one room h source count after e =
         let a = outs_at z.inputs z.gates in
         let d = delays_at z.inputs z.gates z.outputs in
         record {
           result = turn_one z.outputs o (outputs_of z net o) (output_reader wide (z.inputs + z.gates)) (drop next s) so.result (record { src = source; count = count }) (drop after s)
-              (outputs_of z (with_output net z o source count) (o + 1)) h (went (record { src = source; count = count }) (drop after s) e r)
+              (outputs_of z (with_output net z o source count) (o + 1)) h e
               (output-stored net z o source count (omega (arith, so.long, room)) h);
           most = omega arith;
           below = λ i l. get_or-set_other (set net (a + o) source) (d + o) i count 0 (omega arith) ∙ get_or-set_other net (a + o) i source 0 (omega arith) ∙ so.below i l;
           long = length-set (set net (a + o) source) (d + o) count ∙ length-set net (a + o) source ∙ so.long;
         }
 
-    pub outputs-stop : {n : ℕ} → o < z.outputs → (v : Verdict) (p : Pin) (after : ℕ)
-        → output_reader wide (z.inputs + z.gates) (drop next s) ≡ outcome v p (drop after s) → v ≡ Refused n
+    pub outputs-stop : {n : ℕ} → o < z.outputs → output_reader wide (z.inputs + z.gates) (drop next s) ≡ refused n
         → times z.outputs (output_reader wide (z.inputs + z.gates)) (drop at s) ≡ refused n
-    outputs-stop h v p after e r =
-        turn-stops z.outputs o (outputs_of z net o) (output_reader wide (z.inputs + z.gates)) (drop next s) so.result h (stopped p (drop after s) e r)
+    outputs-stop h e = turn-stops z.outputs o (outputs_of z net o) (output_reader wide (z.inputs + z.gates)) (drop next s) so.result h e
 
     pub outputs-all : z.outputs ≤ o → times z.outputs (output_reader wide (z.inputs + z.gates)) (drop at s) ≡ got (outputs_of z net z.outputs) (drop next s)
     outputs-all h =

@@ -1,7 +1,7 @@
 -- The wiring of a net read, and what stays of it where other parts of the slice are written.
-use Rattle.std.specs.Prelude.{◌≡◌, List, ℕ, ◌+◌, ◌*◌, ◌^◌, ◌≤◌, ◌<◌, length, get_or, drop}
-use Rattle.std.proofs.Common.{sym, subst, ◌∙◌, arith}
-use Rattle.limits.specs.Limits.{most_inputs, most_gates, most_outputs, most_count, most_packed}
+use Rattle.std.specs.Prelude.{◌≡◌, List, ℕ, ◌+◌, ◌*◌, ◌^◌, ◌<◌, length, get_or, drop}
+use Rattle.std.proofs.Common.{sym, subst, arith}
+use Rattle.limits.specs.Limits.{most_gates, most_packed}
 use Rattle.limits.specs.Courses.{Offered}
 use Rattle.limits.specs.CourseLaws.{offered_within}
 use Rattle.limits.specs.declared.Rules.{Rules}

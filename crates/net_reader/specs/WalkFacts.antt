@@ -1,5 +1,5 @@
--- Laws: what holds of the arrays where the walk's verdict is Read.
-use Rattle.std.specs.Prelude.{◌≡◌, ℕ, ◌+◌, ◌*◌, ◌^◌, ◌≤◌, ◌<◌}
+-- Laws: what holds of the arrays where the walk read a net.
+use Rattle.std.specs.Prelude.{◌≡◌, ℕ, ◌+◌, ◌*◌, ◌^◌, ◌≤◌, ◌<◌, Ok}
 use Rattle.std.proofs.Common.{sym, ◌∙◌, zero-add, arith}
 use Rattle.std.proofs.Math.Path.{ap, subst}
 use mathlib.Core.List.{List, []}
@@ -15,10 +15,7 @@ use Rattle.net_model.specs.ArrayLaws.{pin_at, gate_at, length-pins_in, in_pins_i
 use Rattle.net_bytes.specs.Reading.{got}
 use Rattle.net_bytes.specs.Walk.{net_reader}
 use Rattle.net_bytes.specs.Sound.{PinFacts, GateFacts, NetFacts, walk-facts}
-use Rattle.net_fields.specs.declared.Verdict.{Verdict}
-use Rattle.net_fields.specs.declared.Verdict.TheVariants.{Read}
-use Rattle.net_fields.specs.Verdicts.{outcome}
-use Rattle.net_reader.specs.declared.NetRead.{NetRead}
+use Rattle.net_reader.specs.declared.NetSizes.{NetSizes}
 use Rattle.net_reader.specs.ReadAnswer.{arrays_of, result_of}
 
 -- "I is 1..16, G 1..32, outputs O 1..16", checks 6 and 7, and the tables' lengths, as facts about the arrays
@@ -91,10 +88,10 @@ module _ (R : Rules) (within : R.gates ≤ most_gates) (k : ℕ) (w : Arrays) (f
     out-count = λ o h. (output-of o h).count;
   }
 
--- where the verdict is Read, the reader gives the net of the slices, and the facts hold of it
-module _ (R : Rules) (k : ℕ) (s : List ℕ) (r : NetRead) (net ts : List ℕ) (e : net_reader R k s ≡ result_of r net ts) (v : r.verdict ≡ Read) where
-  pub read-gives : net_reader R k s ≡ got (net_in (arrays_of r.sizes net ts)) []
-  read-gives = e ∙ ap (λ (x : Verdict). outcome x (net_in (arrays_of r.sizes net ts)) []) v
+-- where a net was read, the reader gives the net of the slices, and the facts hold of it
+module _ (R : Rules) (k : ℕ) (s : List ℕ) (z : NetSizes) (net ts : List ℕ) (e : net_reader R k s ≡ result_of (Ok z) net ts) where
+  pub read-gives : net_reader R k s ≡ got (net_in (arrays_of z net ts)) []
+  read-gives = e
 
-  pub read-facts : Offered R → WalkFacts k (arrays_of r.sizes net ts)
-  read-facts offered = facts-of R (offered_within offered).gates k (arrays_of r.sizes net ts) (walk-facts R k s (net_in (arrays_of r.sizes net ts)) [] read-gives).0
+  pub read-facts : Offered R → WalkFacts k (arrays_of z net ts)
+  read-facts offered = facts-of R (offered_within offered).gates k (arrays_of z net ts) (walk-facts R k s (net_in (arrays_of z net ts)) [] e).0

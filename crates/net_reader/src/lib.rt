@@ -12,67 +12,40 @@ ghost use Rattle.net_reader.specs.ReadAnswer.{drawn_of, result_of};
 ghost use Rattle.net_reader.specs.Rooms.{NetRoom, ReadRoom};
 ghost use Rattle.net_reader.specs.NetStored.{GateAsked, GateStored, GatesRead, OutputsRead, HeadRead, SizesRead, BodyRead, with_output};
 
-use inputs::wide;
 use limits::{PINS, Rules};
-use net_fields::{Field, NetField, Verdict, gates_field, read_byte, read_number};
+use net_fields::{Field, NetField, Read, gates_field, read_byte, read_number};
 use net_marks::store;
 use net_rows::{GateRow, read_gate, read_output};
 use net_section::read_section;
+use refusals::Refusal;
 
 // The numbers of inputs, gates and outputs of a net.
-#[derive(Clone, Copy)]
+#[derive(Clone, Copy, Debug, PartialEq, Eq)]
 pub struct NetSizes {
     pub inputs: usize,
     pub gates: usize,
     pub outputs: usize,
 }
 
-// The verdict and, where it is Read, the sizes of the net in the slices.
-#[derive(Drop)]
-pub struct NetRead {
-    pub verdict: Verdict,
-    pub sizes: NetSizes,
-}
-
-// The same for a record that may have a section, and the place of its section.
-#[derive(Drop)]
+// The sizes of the net in the slices, and the place of its section.
+#[derive(Clone, Copy, Debug, PartialEq, Eq)]
 pub struct DrawnRead {
-    pub verdict: Verdict,
     pub sizes: NetSizes,
     pub at: usize,
 }
 
-// The number of inputs and whether a section follows, and the place behind.
-#[derive(Drop)]
+// The number of inputs and whether a section follows.
+#[derive(Clone, Copy)]
 struct NetHead {
-    verdict: Verdict,
-    at: usize,
     inputs: usize,
     section: bool,
 }
 
-// The numbers of gates and outputs, and the place behind them.
-#[derive(Drop)]
+// The numbers of gates and outputs.
+#[derive(Clone, Copy)]
 struct BodySizes {
-    verdict: Verdict,
-    at: usize,
     gates: usize,
     outputs: usize,
-}
-
-// The place behind what was read.
-#[derive(Drop)]
-struct Part {
-    verdict: Verdict,
-    at: usize,
-}
-
-// The sizes, and the place behind the body.
-#[derive(Drop)]
-struct Body {
-    verdict: Verdict,
-    at: usize,
-    sizes: NetSizes,
 }
 
 // ---- where the parts stand behind pins and chains
@@ -114,10 +87,8 @@ fn store_counts(counts: &[u8], net: &mut [usize], at: usize)
     requires { (most_pins ≤ length counts.now) × (at + most_pins ≤ length net.old) }
     ensures { Stored net.old at counts.now most_pins net.new }
 {
-    let mut j: usize = 0;
-    while j < PINS {
-        net[at + j] = wide(counts[j]);
-        j += 1;
+    for j in 0..PINS {
+        net[at + j] = usize::from(counts[j]);
     }
 }
 
@@ -134,7 +105,7 @@ fn store_gate(net: &mut [usize], tables: &mut [u64], gates: usize, g: usize, row
     tables[g] = row.table;
 }
 
-// The gates, each stored as it is read.
+// The place behind the gates, each stored as it is read.
 fn read_gates(
     bytes: &[u8],
     at: usize,
@@ -143,30 +114,18 @@ fn read_gates(
     net: &mut [usize],
     tables: &mut [u64],
     rules: Rules,
-) -> Part
+) -> Result<usize, Refusal>
     requires { NetRoom s net.old tables.old }
     ensures { GatesRead rules.wide bytes.now at k s net.new tables.new result }
 {
     let nodes = s.inputs + s.gates;
     let mut next = at;
-    let mut g: usize = 0;
-    while g < s.gates {
-        let row = read_gate(bytes, next, k, nodes, rules);
-        let v = row.verdict;
-        if let Verdict::Refused(n) = v {
-            return Part {
-                verdict: Verdict::Refused(n),
-                at: next,
-            };
-        }
+    for g in 0..s.gates {
+        let row = read_gate(bytes, next, k, nodes, rules)?;
+        store_gate(net, tables, s.gates, g, row.value);
         next = row.at;
-        store_gate(net, tables, s.gates, g, row);
-        g += 1;
     }
-    Part {
-        verdict: Verdict::Read,
-        at: next,
-    }
+    Ok(next)
 }
 
 // One output is stored.
@@ -180,31 +139,25 @@ fn store_output(net: &mut [usize], s: NetSizes, o: usize, source: usize, count: 
     net[b + o] = count;
 }
 
-// The outputs, each stored as it is read.
-fn read_outputs(bytes: &[u8], at: usize, s: NetSizes, net: &mut [usize], rules: Rules) -> Part
+// The place behind the outputs, each stored as it is read.
+fn read_outputs(
+    bytes: &[u8],
+    at: usize,
+    s: NetSizes,
+    net: &mut [usize],
+    rules: Rules,
+) -> Result<usize, Refusal>
     requires { packed_room s.inputs s.gates s.outputs ≤ length net.old }
     ensures { OutputsRead rules.wide bytes.now at s net.old net.new result }
 {
     let nodes = s.inputs + s.gates;
     let mut next = at;
-    let mut o: usize = 0;
-    while o < s.outputs {
-        let row = read_output(bytes, next, nodes, rules);
-        let v = row.verdict;
-        if let Verdict::Refused(n) = v {
-            return Part {
-                verdict: Verdict::Refused(n),
-                at: next,
-            };
-        }
-        store_output(net, s, o, row.source, wide(row.count));
+    for o in 0..s.outputs {
+        let row = read_output(bytes, next, nodes, rules)?;
+        store_output(net, s, o, row.value.source, usize::from(row.value.count));
         next = row.at;
-        o += 1;
     }
-    Part {
-        verdict: Verdict::Read,
-        at: next,
-    }
+    Ok(next)
 }
 
 // ---- head, body, section and end
@@ -217,80 +170,33 @@ fn follows(byte: u8) -> bool
 }
 
 // The head: the number of inputs, tested as it is read, and whether a section follows.
-fn read_head(bytes: &[u8]) -> NetHead
+fn read_head(bytes: &[u8]) -> Result<Read<NetHead>, Refusal>
     ensures { HeadRead bytes.now result }
 {
-    let head = read_byte(bytes, 0, Field::Net(NetField::Inputs), 0);
-    let v = head.verdict;
-    if let Verdict::Refused(n) = v {
-        return NetHead {
-            verdict: Verdict::Refused(n),
-            at: 0,
-            inputs: 0,
-            section: false,
-        };
-    }
-    NetHead {
-        verdict: Verdict::Read,
-        at: head.at,
-        inputs: wide(head.value % 128),
+    let head = read_byte(bytes, 0, Field::Net(NetField::Inputs), 0)?;
+    let value = NetHead {
+        inputs: usize::from(head.value % 128),
         section: follows(head.value),
-    }
-}
-
-fn no_sizes(n: u8) -> BodySizes
-    ensures { (result.verdict ≡ Verdict.Refused n) × (result.gates ≡ 0) × (result.outputs ≡ 0) }
-{
-    BodySizes {
-        verdict: Verdict::Refused(n),
-        at: 0,
-        gates: 0,
-        outputs: 0,
-    }
+    };
+    Ok(Read { value, at: head.at })
 }
 
 // The numbers of gates and outputs, each tested as it is read.
-fn read_sizes(bytes: &[u8], at: usize, rules: Rules) -> BodySizes
+fn read_sizes(bytes: &[u8], at: usize, rules: Rules) -> Result<Read<BodySizes>, Refusal>
     requires { Offered rules }
     ensures { SizesRead rules bytes.now at result }
 {
     let field = gates_field(rules);
-    let gates = read_number(bytes, at, field, 0, rules.wide);
-    let v = gates.verdict;
-    if let Verdict::Refused(n) = v {
-        return no_sizes(n);
-    }
-    let outputs = read_byte(bytes, gates.at, Field::Net(NetField::Outputs), 0);
-    let w = outputs.verdict;
-    if let Verdict::Refused(n) = w {
-        return no_sizes(n);
-    }
-    BodySizes {
-        verdict: Verdict::Read,
-        at: outputs.at,
+    let gates = read_number(bytes, at, field, 0, rules.wide)?;
+    let outputs = read_byte(bytes, gates.at, Field::Net(NetField::Outputs), 0)?;
+    let value = BodySizes {
         gates: gates.value,
-        outputs: wide(outputs.value),
-    }
-}
-
-fn no_net() -> NetSizes
-    ensures { (result.inputs ≡ 0) × (result.gates ≡ 0) }
-{
-    NetSizes {
-        inputs: 0,
-        gates: 0,
-        outputs: 0,
-    }
-}
-
-fn no_body(n: u8) -> Body
-    ensures { (result.verdict ≡ Verdict.Refused n) × (result.sizes.inputs ≡ 0) × (result.sizes.gates ≡ 0) }
-{
-    Body {
-        verdict: Verdict::Refused(n),
-        at: 0,
-        sizes: no_net(),
-    }
+        outputs: usize::from(outputs.value),
+    };
+    Ok(Read {
+        value,
+        at: outputs.at,
+    })
 }
 
 // The body: the numbers of gates and outputs, the gates, the outputs.
@@ -302,33 +208,20 @@ fn read_body(
     net: &mut [usize],
     tables: &mut [u64],
     rules: Rules,
-) -> Body
+) -> Result<Read<NetSizes>, Refusal>
     requires offered { Offered rules }
     requires inputs_le_most_inputs { (inputs ≤ most_inputs) × ReadRoom rules net.old tables.old }
     ensures { BodyRead rules bytes.now at k inputs net.new tables.new result }
 {
-    let sizes = read_sizes(bytes, at, rules);
-    let v = sizes.verdict;
-    if let Verdict::Refused(n) = v {
-        return no_body(n);
-    }
+    let sizes = read_sizes(bytes, at, rules)?;
     let s = NetSizes {
-        inputs: inputs,
-        gates: sizes.gates,
-        outputs: sizes.outputs,
+        inputs,
+        gates: sizes.value.gates,
+        outputs: sizes.value.outputs,
     };
-    let gates = read_gates(bytes, sizes.at, k, s, net, tables, rules);
-    let w = gates.verdict;
-    if let Verdict::Refused(n) = w {
-        return no_body(n);
-    }
-    let outputs = read_outputs(bytes, gates.at, s, net, rules);
-    let x = outputs.verdict;
-    Body {
-        verdict: x,
-        at: outputs.at,
-        sizes: s,
-    }
+    let gates_end = read_gates(bytes, sizes.at, k, s, net, tables, rules)?;
+    let end = read_outputs(bytes, gates_end, s, net, rules)?;
+    Ok(Read { value: s, at: end })
 }
 
 // The number of bytes of the section.
@@ -339,53 +232,27 @@ fn section_bytes(follows: bool, inputs: usize, gates: usize) -> usize
     if follows { inputs + gates } else { 0 }
 }
 
-fn refused_drawn(n: u8) -> DrawnRead
-    ensures { result.verdict ≡ Verdict.Refused n }
-{
-    DrawnRead {
-        verdict: Verdict::Refused(n),
-        sizes: no_net(),
-        at: 0,
-    }
-}
-
-// The walk: the net of the record in the slices and the place of its section, which is the rest of the bytes, or the number of the first refusal met.
+// The walk: the net of the record in the slices and the place of its section, which is the rest of the bytes, or the first refusal met.
 pub fn read_drawn(
     bytes: &[u8],
     k: u32,
     rules: Rules,
     net: &mut [usize],
     tables: &mut [u64],
-) -> DrawnRead
+) -> Result<DrawnRead, Refusal>
     requires offered { Offered rules }
     requires read_room { ReadRoom rules net.old tables.old }
     ensures { drawn_reader rules k bytes.now ≡ drawn_of result net.new tables.new bytes.now }
 {
-    let head = read_head(bytes);
-    let v = head.verdict;
-    if let Verdict::Refused(n) = v {
-        return refused_drawn(n);
+    let head = read_head(bytes)?;
+    let body = read_body(bytes, head.at, k, head.value.inputs, net, tables, rules)?;
+    let sizes = body.value;
+    let n = section_bytes(head.value.section, sizes.inputs, sizes.gates);
+    let end = read_section(bytes, body.at, n)?;
+    if end < bytes.len() {
+        return Err(Refusal::BytesBehind);
     }
-    let body = read_body(bytes, head.at, k, head.inputs, net, tables, rules);
-    let w = body.verdict;
-    if let Verdict::Refused(n) = w {
-        return refused_drawn(n);
-    }
-    let s = body.sizes;
-    let n = section_bytes(head.section, s.inputs, s.gates);
-    let section = read_section(bytes, body.at, n);
-    let x = section.verdict;
-    if let Verdict::Refused(n) = x {
-        return refused_drawn(n);
-    }
-    if section.at < bytes.len() {
-        return refused_drawn(8);
-    }
-    DrawnRead {
-        verdict: Verdict::Read,
-        sizes: s,
-        at: body.at,
-    }
+    Ok(DrawnRead { sizes, at: body.at })
 }
 
 // The walk where the section is not asked for: the net alone.
@@ -395,16 +262,11 @@ pub fn read_net(
     rules: Rules,
     net: &mut [usize],
     tables: &mut [u64],
-) -> NetRead
+) -> Result<NetSizes, Refusal>
     requires offered { Offered rules }
     requires read_room { ReadRoom rules net.old tables.old }
     ensures { net_reader rules k bytes.now ≡ result_of result net.new tables.new }
 {
-    let drawn = read_drawn(bytes, k, rules, net, tables);
-    let v = drawn.verdict;
-    let s = drawn.sizes;
-    NetRead {
-        verdict: v,
-        sizes: s,
-    }
+    let drawn = read_drawn(bytes, k, rules, net, tables)?;
+    Ok(drawn.sizes)
 }

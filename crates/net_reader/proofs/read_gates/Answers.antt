@@ -1,9 +1,6 @@
-use mathlib.Core.Path.{◌≡◌, refl, ◌∙◌}
-use Prim.Native.Nat.{ℕ, ◌-◌}
-use native.Mathlib.Omega.{arith}
-use lib.ListN.{length}
-use Rattle.net_reader.specs.NetStoreLaws.{GatesSoFar, gates-none, gates-one, gates-stop, gates-all}
-use Rattle.std.proofs.Common.{rules}
+use Rattle.std.proofs.Common.{refl, ◌∙◌, arith}
+use Rattle.std.proofs.lemmas.Result.{err_from_is_err_and}
+use Rattle.net_reader.specs.NetStoreLaws.{gates-none, gates-one, gates-stop, gates-all}
 use Rattle.net_reader.proofs.read_gates.Goals as goal
 
 pub loop-g-init : goal.loop-g-init
@@ -11,23 +8,24 @@ loop-g-init c =
     let a = c.args in
     (gates-none a.rules.wide a.bytes.now a.at a.k a.s a.net.now a.tables.now, refl, refl)
 
-pub returns-in-Refused : goal.returns-in-Refused
-returns-in-Refused c =
+pub returns-in_err-row : goal.returns-in_err-row
+returns-in_err-row c =
     let a = c.args in
     let l = c.loop-g in
-    let r = c.read_gate-row in
-    record {
-      result = gates-stop a.rules.wide a.bytes.now a.at a.k a.s l.net l.tables l.next l.g l.invariant.0 r.result c.loop-g-test.true r.ensures.result c.in-Refused.is;
-      few = λ e. let z : ◌≡◌ {A = ℕ} 0 1 = cc in absurd (omega arith);
-    }
+    let p = err_from_is_err_and c.from_residual.result c.from_residual.ensures.1 in
+    rw (p.1, p.2)
+    (record {
+      result = gates-stop a.rules.wide a.bytes.now a.at a.k a.s l.net l.tables l.next l.g l.invariant.0 c.loop-g-test.true c.in_err-row.ensures.result;
+      few = tt;
+    })
 
 pub loop-g-preserved : goal.loop-g-preserved
 loop-g-preserved c =
     let a = c.args in
     let l = c.loop-g in
-    let r = c.read_gate-row in
+    let r = c.in_ok-row in
     let st = c.store_gate in (
-      gates-one a.rules.wide a.bytes.now a.at a.k a.s l.net l.tables l.next l.g l.invariant.0 r.result c.loop-g-test.true r.ensures.result c.in_default.is st.ensures,
+      gates-one a.rules.wide a.bytes.now a.at a.k a.s l.net l.tables l.next l.g l.invariant.0 r.row.value r.row.at c.loop-g-test.true r.ensures.result st.ensures,
       st.auto.net ∙ l.invariant.1,
       st.auto.tables ∙ l.invariant.2,
     )
@@ -39,5 +37,5 @@ returns c =
     let most = l.invariant.0.most in
     record {
       result = gates-all a.rules.wide a.bytes.now a.at a.k a.s l.net l.tables l.next l.g l.invariant.0 c.loop-g-test.false;
-      few = λ e i h. l.invariant.0.few i (omega (arith, h, c.loop-g-test.false, most));
+      few = λ i h. l.invariant.0.few i (omega (arith, h, c.loop-g-test.false, most));
     }

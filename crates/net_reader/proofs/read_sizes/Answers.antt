@@ -1,40 +1,31 @@
-use mathlib.Core.Path.{sym, ap, ◌∙◌}
-use Prim.Native.Nat.{ℕ}
-use lib.ListN.{drop}
+use Rattle.std.proofs.Common.{sym, ap, ◌∙◌, ℕ, drop}
+use Rattle.std.proofs.lemmas.Result.{err_from_is_err_and}
 use Rattle.net_bytes.specs.Reading.{Reader}
-use Rattle.net_fields.specs.FieldLaws.{went, stopped}
 use Rattle.net_reader.specs.NetLaws.{gates-number-stops, outputs-number-stops, sizes-go}
-use Rattle.std.proofs.Common.{rules}
 use Rattle.net_reader.proofs.read_sizes.Goals as goal
 
-pub returns-in-Refused : goal.returns-in-Refused
-returns-in-Refused c =
+pub returns-in_err-gates : goal.returns-in_err-gates
+returns-in_err-gates c =
     let a = c.args in
     let s = a.bytes.now in
-    let g = c.read_number-gates in
-    let is = ap (λ (m : Reader ℕ). m (drop a.at s)) (sym (c.gates_field-field.ensures a.rules.wide 0)) ∙ g.ensures.result in
-    gates-number-stops a.rules s a.at c.no_sizes.result (stopped g.result.value (drop g.result.at s) is c.in-Refused.is) c.no_sizes.ensures
+    let is = ap (λ (m : Reader ℕ). m (drop a.at s)) (sym (c.gates_field-field.ensures a.rules.wide 0)) ∙ c.in_err-gates.ensures.result in
+    let p = err_from_is_err_and c.from_residual.result c.from_residual.ensures.1 in
+    rw (p.1, p.2) (record { result = gates-number-stops a.rules s a.at is; gates = tt; outputs = tt })
 
-pub returns-in-Refused-w : goal.returns-in-Refused-w
-returns-in-Refused-w c =
+pub returns-in_err-outputs : goal.returns-in_err-outputs
+returns-in_err-outputs c =
     let a = c.args in
     let s = a.bytes.now in
-    let g = c.read_number-gates in
-    let is = ap (λ (m : Reader ℕ). m (drop a.at s)) (sym (c.gates_field-field.ensures a.rules.wide 0)) ∙ g.ensures.result in
-    let o = c.read_byte-outputs in
-    outputs-number-stops a.rules s a.at g.result.value (drop g.result.at s)
-    (went g.result.value (drop g.result.at s) is c.in_default.is)
-    c.no_sizes-in-Refused-w.result (stopped o.result.value (drop o.result.at s) o.ensures c.in-Refused-w.is) c.no_sizes-in-Refused-w.ensures
+    let g = c.in_ok-gates.gates in
+    let is = ap (λ (m : Reader ℕ). m (drop a.at s)) (sym (c.gates_field-field.ensures a.rules.wide 0)) ∙ c.in_ok-gates.ensures.result in
+    let p = err_from_is_err_and c.from_residual-in_err-outputs.result c.from_residual-in_err-outputs.ensures.1 in
+    rw (p.1, p.2) (record { result = outputs-number-stops a.rules s a.at g.value (drop g.at s) is c.in_err-outputs.ensures; gates = tt; outputs = tt })
 
 pub returns : goal.returns
 returns c =
-    let start = c in
     let a = c.args in
     let s = a.bytes.now in
-    let g = c.read_number-gates in
-    let is = ap (λ (m : Reader ℕ). m (drop a.at s)) (sym (c.gates_field-field.ensures a.rules.wide 0)) ∙ g.ensures.result in
-    let o = c.read_byte-outputs in
-    rw c.wide.ensures
-    (sizes-go a.rules s a.at g.result.value (drop g.result.at s)
-    (went g.result.value (drop g.result.at s) is c.in_default.is)
-    o.result.value o.result.at (went o.result.value (drop o.result.at s) o.ensures c.in_default-w.is))
+    let g = c.in_ok-gates.gates in
+    let is = ap (λ (m : Reader ℕ). m (drop a.at s)) (sym (c.gates_field-field.ensures a.rules.wide 0)) ∙ c.in_ok-gates.ensures.result in
+    let o = c.in_ok-outputs in
+    rw c.from.ensures (sizes-go a.rules s a.at g.value (drop g.at s) is o.outputs.value o.outputs.at o.ensures)

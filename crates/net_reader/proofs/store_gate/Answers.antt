@@ -1,9 +1,4 @@
-use mathlib.Core.Path.{◌≡◌, ◌∙◌}
-use native.Mathlib.Omega.{arith}
-use lib.ListN.{length, length-set}
-use Rattle.limits.specs.Limits.{most_items}
 use Rattle.net_reader.specs.NetStoreLaws.{gate-stored}
-use Rattle.std.proofs.Common.{rules}
 use Rattle.net_reader.proofs.store_gate.Goals as goal
 
 pub returns : goal.returns
