@@ -1,5 +1,5 @@
 -- Definitions: lists of copies and a net's wiring kept in arrays, and orders of such lists.
-use Rattle.std.specs.Prelude.{◌≡◌, List, ℕ, ◌+◌, ◌-◌, ◌*◌, ◌≤◌, ◌<◌, length, get_or}
+use Rattle.std.specs.Prelude.{◌≡◌, List, ℕ, ◌+◌, ◌*◌, ◌≤◌, ◌<◌, length, get_or}
 use Rattle.limits.specs.Limits.{most_inputs, most_gates, most_nodes, most_count, most_copies}
 use Rattle.sequences.specs.Member.{◌∈◌, Within}
 use Rattle.net_model.specs.Net.{Net}

@@ -18,8 +18,5 @@ pub fn is_copy(
     requires { (j < length cone_nodes.now) × (j < length cone_backs.now) }
     ensures { Tells result (copy_at cone_nodes.now cone_backs.now j ≡ copy node back) }
 {
-    if cone_nodes[j] != node {
-        return false;
-    }
-    cone_backs[j] == back
+    (cone_nodes[j], cone_backs[j]) == (node, back)
 }

@@ -1,5 +1,5 @@
 -- Laws of the leaf lookup over leaves kept in arrays: what may be read, how the search ends, and what stands behind the first leaf beyond c.
-use Rattle.std.specs.Prelude.{◌≡◌, refl, List, ◌⊎◌, ℕ, suc, ◌+◌, ◌≤◌, ◌<◌, length, get_or, take}
+use Rattle.std.specs.Prelude.{◌≡◌, List, ◌⊎◌, ℕ, suc, ◌+◌, ◌≤◌, ◌<◌, length, take}
 use Rattle.std.proofs.Common.{sym, ap, subst, ◌∙◌, inl, inr, arith, get_or-take}
 use Rattle.sequences.specs.Rising.{ℕ_cmp}
 use Rattle.sequences.specs.Tests.{First}

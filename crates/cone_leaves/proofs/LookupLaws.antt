@@ -1,11 +1,11 @@
 -- Laws of the leaf lookup: **E3's statements hold of it**.
-use Rattle.std.specs.Prelude.{◌≡◌, Bool, true, false, cond, ◌&&◌, ◌||◌, List, [], ◌∷◌, ◌++◌, ◌⊎◌, ◌↔◌, ℕ, zero, suc, ◌+◌, ◌≤◌, ◌<◌, ltb, eqb, length, get_or, take, drop}
+use Rattle.std.specs.Prelude.{◌≡◌, Bool, true, false, ◌&&◌, ◌||◌, List, [], ◌∷◌, ◌++◌, ◌⊎◌, ◌↔◌, ℕ, zero, suc, ◌≤◌, ◌<◌, ltb, eqb, length, take, drop}
 use Rattle.std.proofs.Math.Path.{refl}
-use Rattle.std.proofs.Common.{sym, ap, ap₂, subst, ◌∙◌, true≢false, inl, inr, zero-le, suc-le-suc, not-suc-le-zero, le_of_suc-le-suc, arith, ltb-true, ltb-false, eqb-true, length-append, take-suc, get_or-take, ext_get_or, length-take-le}
-use Rattle.std.proofs.lemmas.Bool.{false≢true, eqb-false}
+use Rattle.std.proofs.Common.{sym, ap, ap₂, subst, ◌∙◌, inl, inr, zero-le, suc-le-suc, not-suc-le-zero, le_of_suc-le-suc, arith, ltb-true, ltb-false, eqb-true, length-append, take-suc, get_or-take, ext_get_or, length-take-le}
+use Rattle.std.proofs.lemmas.Bool.{eqb-false}
 use Rattle.std.proofs.Math.ListN.{get_or-append}
 use Rattle.std.proofs.Math.Seq.{split_at, get_or-append_seam}
-use Rattle.sequences.specs.Member.{◌∈◌, here, there, not_in_nil, in_equal, in_get_or, get_or_in}
+use Rattle.sequences.specs.Member.{◌∈◌, in_equal, in_get_or, get_or_in}
 use Rattle.sequences.specs.Rising.{ℕ_cmp}
 use Rattle.sequences.specs.Tests.{First}
 use Rattle.sequences.specs.TestLaws.{first-here, first-none}

@@ -1,5 +1,5 @@
 -- Definitions: the leaf lookup (document 02, E3), and what is asked of it.
-use Rattle.std.specs.Prelude.{◌≡◌, Bool, cond, ◌&&◌, ◌||◌, List, [], ◌∷◌, ◌++◌, ◌↔◌, ℕ, suc, ◌≤◌, ◌<◌, ltb, eqb, length, get_or, take}
+use Rattle.std.specs.Prelude.{◌≡◌, Bool, cond, ◌&&◌, ◌||◌, List, [], ◌∷◌, ◌++◌, ◌↔◌, ℕ, suc, ◌<◌, ltb, eqb, length, get_or, take}
 use Rattle.sequences.specs.Member.{◌∈◌}
 use Rattle.sequences.specs.Tests.{First}
 use Rattle.net_model.specs.Copies.{Copy, copy, Before, Rising}

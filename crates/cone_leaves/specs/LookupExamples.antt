@@ -1,5 +1,5 @@
 -- The lookup computed on small lists.
-use Rattle.std.specs.Prelude.{◌≡◌, refl, List, [], ◌∷◌, ℕ}
+use Rattle.std.specs.Prelude.{◌≡◌, refl, List, [], ◌∷◌}
 use Rattle.net_model.specs.Copies.{Copy, copy}
 use Rattle.cone_leaves.specs.Lookup.{seek_of}
 

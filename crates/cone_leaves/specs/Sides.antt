@@ -1,11 +1,11 @@
 -- Definitions: how a leaf stands to the copy sought.
 use Rattle.std.specs.Prelude.{◌≡◌}
+use Rattle.std.specs.declared.cmp.Ordering.{Ordering}
+use Rattle.std.specs.declared.cmp.Ordering.TheVariants.{Less, Equal, Greater}
 use Rattle.net_model.specs.Copies.{Copy, Before}
-use Rattle.cone_leaves.specs.declared.Side as declared
-use Rattle.cone_leaves.specs.declared.Side.TheVariants as side
 
 -- what each answer says of leaf b and copy c
-abbrev pub Seen : Copy → Copy → declared.Side → Type 0
-Seen c b side.Before = Before b c
-Seen c b side.Same = b ≡ c
-Seen c b side.Beyond = Before c b
+abbrev pub Seen : Copy → Copy → Ordering → Type 0
+Seen c b Less = Before b c
+Seen c b Equal = b ≡ c
+Seen c b Greater = Before c b
