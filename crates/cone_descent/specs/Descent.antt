@@ -1,6 +1,6 @@
 -- Definitions: a walk from a root to its leaves, depth first. Copies that were left stand in a list, sources first; open ones on a stack, each with the number of its pins that were passed; a
 -- table of marks has a byte for each copy u:d, at place u·width + d.
-use Rattle.std.specs.Prelude.{◌≡◌, List, ◌⊎◌, ℕ, ◌+◌, ◌-◌, ◌*◌, ◌%◌, ◌≤◌, ◌<◌, length, get_or}
+use Rattle.std.specs.Prelude.{◌≡◌, List, ◌⊎◌, ℕ, ◌+◌, ◌-◌, ◌*◌, ◌%◌, ◌≤◌, ◌<◌, length, get_or, Option, MatchOption}
 use Rattle.limits.specs.Limits.{most_reach, most_beyond}
 use Rattle.sequences.specs.Member.{◌∈◌}
 use Rattle.sequences.specs.Tests.{First}
@@ -14,7 +14,6 @@ use Rattle.cone_theory.specs.Reach.{reach_of}
 use Rattle.cone_theory.specs.CopyOrder.{Levels, measure}
 use Rattle.cone_copies.specs.CopyLists.{source_at, copies_in, SourcesFirst}
 use Rattle.cone_walk.specs.Walking.{Walked, Refuted}
-use Rattle.cone_walk.specs.WalkTold.{number_of}
 use Rattle.cone_walk.specs.declared.Cone.{Cone}
 
 abbrev pub nobody : Copy
@@ -112,17 +111,26 @@ pub record Seated (width : ℕ) (us ds : List ℕ) (len : ℕ) (marks : List ℕ
 pub record Wiped (width : ℕ) (us ds : List ℕ) (len : ℕ) (marks marks' : List ℕ) : Type 0 where
   pub each : (q : ℕ) → ¬ (get_or marks' q 0 ≡ 0) → (get_or marks' q 0 ≡ get_or marks q 0) × ((p : ℕ) → p < len → ¬ (place width (copy_at us ds p) ≡ q))
 
--- what the walk tells: r is 0 where there is no cut, else the length of the list
-pub record Told (I G width border : ℕ) (ps so co : List ℕ) (L : List Copy) (v r : ℕ) (us ds marks : List ℕ) : Type 0 where
-  pub inside : ¬ (r ≡ 0) → (c : Copy) → c ∈ copies_in us ds r → Inside I G border c
-  pub close : ¬ (r ≡ 0) → (m : ℕ) → Counts G ps co m → (c : Copy) → c ∈ copies_in us ds r → c.back + m ≤ r * m
-  pub cone : ¬ (r ≡ 0) → (N : Net) → Wired N I G ps so co → IsCone N v (copies_in us ds r)
-  pub leaves : ¬ (r ≡ 0) → (N : Net) → Wired N I G ps so co → IsLeaves N (copies_in us ds r) L
-  pub order : ¬ (r ≡ 0) → (N : Net) → Wired N I G ps so co → Loopless N → SourcesFirst N (copies_in us ds r)
-  pub last : ¬ (r ≡ 0) → copy_at us ds (r - 1) ≡ copy v 0
-  pub fits : r ≤ length us
-  pub none : r ≡ 0 → (N : Net) → Wired N I G ps so co → Ranked N → length L * reach_of N ≤ border → (k : ℕ) → ¬ IsCut N k v L
-  pub seated : Seated width us ds r marks
+-- what the walk tells where there is a cut: len is the length of the list
+pub record ToldCut (I G width border : ℕ) (ps so co : List ℕ) (L : List Copy) (v : ℕ) (us ds marks : List ℕ) (len : ℕ) : Type 0 where
+  pub some : 1 ≤ len
+  pub inside : (c : Copy) → c ∈ copies_in us ds len → Inside I G border c
+  pub close : (m : ℕ) → Counts G ps co m → (c : Copy) → c ∈ copies_in us ds len → c.back + m ≤ len * m
+  pub cone : (N : Net) → Wired N I G ps so co → IsCone N v (copies_in us ds len)
+  pub leaves : (N : Net) → Wired N I G ps so co → IsLeaves N (copies_in us ds len) L
+  pub order : (N : Net) → Wired N I G ps so co → Loopless N → SourcesFirst N (copies_in us ds len)
+  pub last : copy_at us ds (len - 1) ≡ copy v 0
+  pub fits : len ≤ length us
+  pub seated : Seated width us ds len marks
+
+-- and where there is none
+pub record ToldNone (I G border : ℕ) (ps so co : List ℕ) (L : List Copy) (v : ℕ) (marks : List ℕ) : Type 0 where
+  pub none : (N : Net) → Wired N I G ps so co → Ranked N → length L * reach_of N ≤ border → (k : ℕ) → ¬ IsCut N k v L
+  pub clear : Clear marks
+
+-- what the walk tells
+abbrev pub Told : ℕ → ℕ → ℕ → ℕ → List ℕ → List ℕ → List ℕ → List Copy → ℕ → Option ℕ → List ℕ → List ℕ → List ℕ → Type 0
+Told I G width border ps so co L v r us ds marks = MatchOption r (ToldNone I G border ps so co L v marks) (ToldCut I G width border ps so co L v us ds marks)
 
 -- r is the place in the list of the copy y, whose place in the table is `at`, or len
 abbrev pub Seat : List ℕ → List ℕ → ℕ → List ℕ → ℕ → Copy → ℕ → Type 0
@@ -135,5 +143,4 @@ Missed us ds y mark p = (q : ℕ) → q < p → seat_mark q ≡ mark → ¬ (cop
 -- with document 01's limits: the marks that the walk from gate g leaves, and where the root stands
 pub record Placed (I g : ℕ) (r : Cone) (marks : List ℕ) : Type 0 where
   pub seated : Seated wide_most r.nodes r.backs r.len marks
-  pub last : number_of r.verdict ≡ 0 → copy_at r.nodes r.backs (r.len - 1) ≡ copy (I + g) 0
-  pub clear : number_of r.verdict ≡ 14 → Clear marks
+  pub last : copy_at r.nodes r.backs (r.len - 1) ≡ copy (I + g) 0

@@ -2,7 +2,7 @@
 use Rattle.std.specs.Prelude.{◌≡◌, refl, List, [], ◌∷◌, ◌⊎◌, ℕ, zero, suc, ◌+◌, ◌-◌, ◌*◌, ◌≤◌, ◌<◌, length, get_or}
 use Rattle.std.proofs.Common.{sym, ap, ◌∙◌, subst, inl, inr, not-suc-le-zero, lt_irrefl, arith}
 use Rattle.std.proofs.Math.Decide.{ℕ_discrete, dec_lt}
-use Rattle.sequences.specs.Member.{◌∈◌, here, there, in_equal, in_get_or, get_or_in, in_append_right}
+use Rattle.sequences.specs.Member.{◌∈◌, here, in_equal, in_get_or, get_or_in, in_append_right}
 use Rattle.net_model.specs.Net.{Net}
 use Rattle.net_model.specs.Checks.{Loopless}
 use Rattle.net_model.specs.Arrays.{copy_at}
@@ -15,7 +15,7 @@ use Rattle.cone_copies.specs.CopyLists.{copies_in, Mixed, SourcesFirst}
 use Rattle.cone_copies.specs.CopyListLaws.{length-copies_in, get_or_copies_in, in_copies_in, copies_in_in, mixed-cone, mixed-leaves}
 use Rattle.cone_copies.specs.CopyPinLaws.{feeds-pin}
 use Rattle.cone_walk.specs.Walking.{Closed, walked_more, walked-cone, walked-leaves, closed_all, refuted-input, refuted-full, node-gate, input_no_gate}
-use Rattle.cone_descent.specs.Descent.{nobody, place, Clear, pin_of, pins_of, Known, Trail, State, Denied, Seated, Wiped, Told}
+use Rattle.cone_descent.specs.Descent.{nobody, place, Clear, pin_of, pins_of, Known, Trail, State, Denied, Seated, Wiped, ToldCut}
 use Rattle.cone_descent.specs.TrailLaws.{met-marked}
 use Rattle.cone_descent.specs.DescentLaws.{inside-copy, inside-gate, pin-of-feeds, known-copy}
 
@@ -156,16 +156,16 @@ module _ {I G width border : ℕ} {ps so co : List ℕ} {L : List Copy} {v : ℕ
           go (inl q) = (q.0, q.1, get_or_copies_in us ds len q.0 (copy 0 0) (omega (arith, q.1, k)) ∙ q.2 ∙ r.2)
           go (inr l) = absurd ((s.walked N w).apart y (met-listed y i) (in_equal (sym r.2) l))
 
-      pub told-cut : len ≤ length us → Told I G width border ps so co L v len us ds marks
+      pub told-cut : len ≤ length us → ToldCut I G width border ps so co L v us ds marks len
       told-cut fits = record {
-        inside = λ n c m. s.trail.inside c (met-listed c m);
-        close = λ n k counts c m. subst (λ (z : ℕ). c.back + k ≤ z * k) {x = length s.met} {y = len} (omega (arith, s.trail.long, e)) (s.close k counts c (met-listed c m));
-        cone = λ n N w. mixed-cone mixed (walked-cone (s.walked N w));
-        leaves = λ n N w. mixed-leaves mixed (walked-leaves rising (s.walked N w) (closed-met N w) (touched N w));
-        order = λ n. sources-first;
-        last = λ n. (s.last e).1;
+        some = (s.last e).0;
+        inside = λ c m. s.trail.inside c (met-listed c m);
+        close = λ k counts c m. subst (λ (z : ℕ). c.back + k ≤ z * k) {x = length s.met} {y = len} (omega (arith, s.trail.long, e)) (s.close k counts c (met-listed c m));
+        cone = λ N w. mixed-cone mixed (walked-cone (s.walked N w));
+        leaves = λ N w. mixed-leaves mixed (walked-leaves rising (s.walked N w) (closed-met N w) (touched N w));
+        order = sources-first;
+        last = (s.last e).1;
         fits = fits;
-        none = λ z. absurd (omega (arith, z, (s.last e).0));
         seated = trail-seated s.trail e;
       }
 

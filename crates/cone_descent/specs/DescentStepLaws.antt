@@ -1,5 +1,5 @@
 -- Laws of the steps of the walk.
-use Rattle.std.specs.Prelude.{◌≡◌, refl, List, ℕ, zero, suc, ◌+◌, ◌-◌, ◌*◌, ◌≤◌, ◌<◌, length, get_or, set, drop}
+use Rattle.std.specs.Prelude.{◌≡◌, refl, List, ℕ, zero, suc, ◌+◌, ◌-◌, ◌*◌, ◌≤◌, ◌<◌, length, get_or, set, drop, Option, Some, None}
 use Rattle.std.proofs.Common.{sym, ap, ◌∙◌, subst, inl, inr, not-suc-le-zero, suc-mul, arith, length-set, get_or-set_same, get_or-set_other}
 use Rattle.std.proofs.Math.Decide.{ℕ_discrete}
 use Rattle.sequences.specs.Member.{◌∈◌}
@@ -9,6 +9,8 @@ use Rattle.net_model.specs.PackedNet.{sources_at, counts_at}
 use Rattle.cone_copies.specs.CopyLists.{copies_in}
 use Rattle.cone_copies.specs.CopyListLaws.{length-copies_in, get_or_copies_in, missing}
 use Rattle.sequences.specs.Tests.{First}
+use Rattle.cone_descent.specs.declared.Met.{Met}
+use Rattle.cone_descent.specs.declared.Met.TheVariants as met
 use Rattle.cone_descent.specs.Descent.{nobody, place, Inside, Field, pin_of, pins_of, Known, State, Wiped, seat_mark}
 use Rattle.cone_descent.specs.TrailLaws.{place-below, marked-met, copy_at_other}
 use Rattle.cone_descent.specs.PinRead.{source-inside, count-inside, source-read}
@@ -66,20 +68,29 @@ work_pop room len ts d h = omega (arith, rest-top ts d, ap (λ (z : ℕ). (room 
 -- ---- a copy met
 
 module _ (I border room size : ℕ) (ln lb : List ℕ) (n : ℕ) (y : Copy) (mark : ℕ) (seen : List ℕ) (i : ℕ) (f : First (λ j. copy_at ln lb j ≡ y) n i) where
-  pub meet-leaf : i < n → Meet I border room size (copies_in ln lb n) y mark seen 1 (set seen i 1)
+  pub meet-leaf : i < n → Meet I border room size (copies_in ln lb n) y mark seen met.Known (set seen i 1)
   meet-leaf h = Meet.leaf refl i (omega (arith, h, length-copies_in ln lb n)) (get_or_copies_in ln lb n i nobody h ∙ f.found h) refl
 
-  pub meet-input : n ≤ i → y.node < I → Meet I border room size (copies_in ln lb n) y mark seen 0 seen
+  pub meet-input : n ≤ i → y.node < I → Meet I border room size (copies_in ln lb n) y mark seen met.NoCut seen
   meet-input h low = Meet.input refl refl (missing ln lb n i y f h) low
 
-  pub meet-beyond : n ≤ i → I ≤ y.node → border < y.back → Meet I border room size (copies_in ln lb n) y mark seen 0 seen
+  pub meet-beyond : n ≤ i → I ≤ y.node → border < y.back → Meet I border room size (copies_in ln lb n) y mark seen met.NoCut seen
   meet-beyond h low far = Meet.beyond refl refl (missing ln lb n i y f h) low far
 
-  pub meet-full : n ≤ i → I ≤ y.node → mark ≡ 0 → room ≤ size → Meet I border room size (copies_in ln lb n) y mark seen 0 seen
+  pub meet-full : n ≤ i → I ≤ y.node → mark ≡ 0 → room ≤ size → Meet I border room size (copies_in ln lb n) y mark seen met.NoCut seen
   meet-full h low z full = Meet.full refl refl (missing ln lb n i y f h) low z full
 
-  pub meet-fresh : n ≤ i → I ≤ y.node → y.back ≤ border → mark ≡ 0 → size < room → Meet I border room size (copies_in ln lb n) y mark seen 2 seen
+  pub meet-fresh : n ≤ i → I ≤ y.node → y.back ≤ border → mark ≡ 0 → size < room → Meet I border room size (copies_in ln lb n) y mark seen met.New seen
   meet-fresh h low near z free = Meet.fresh refl refl (missing ln lb n i y f h) low near z free
+
+none_known : {r : Met} → r ≡ met.NoCut → r ≡ met.Known → ⊥
+none_known z e = cc
+
+none_new : {r : Met} → r ≡ met.NoCut → r ≡ met.New → ⊥
+none_new z e = cc
+
+known-new : {r : Met} → r ≡ met.Known → r ≡ met.New → ⊥
+known-new z e = cc
 
 -- ---- a pin passed
 
@@ -107,7 +118,7 @@ module _ (G : ℕ) (net : List ℕ) {I width room len : ℕ} {hs bs ts : List �
 pub leaves-long : {ln lb : List ℕ} {n : ℕ} {seen : List ℕ} → Leaves ln lb n seen → length (copies_in ln lb n) ≤ length seen
 leaves-long {ln} {lb} {n} l = omega (arith, l.touched, length-copies_in ln lb n)
 
-module _ {I width border room : ℕ} {so co : List ℕ} {L : List Copy} {len : ℕ} {hs bs ts : List ℕ} {d : ℕ} {marks seen seen' : List ℕ} {r : ℕ} (t : TopPin I width room len so co hs bs ts d marks)
+module _ {I width border room : ℕ} {so co : List ℕ} {L : List Copy} {len : ℕ} {hs bs ts : List ℕ} {d : ℕ} {marks seen seen' : List ℕ} {r : Met} (t : TopPin I width room len so co hs bs ts d marks)
     (long : length L ≤ length seen)
     {y : Copy} (this : y ≡ pin_of I so co (copy_at hs bs d) (get_or ts d 0)) (m : Meet I border room (len + (d + 1)) L y (get_or marks (place width y) 0) seen r seen') where
   module _ (G v : ℕ) (ps us ds : List ℕ) (field : Field I G width border ps so co marks) (limit : length L * G ≤ room) (few : get_or ts d 0 < pins_of I ps (copy_at hs bs d)) (s : State I G width
@@ -130,25 +141,25 @@ module _ {I width border room : ℕ} {so co : List ℕ} {L : List Copy} {len : �
     same-state : seen' ≡ seen → State I G width border ps so co L v us ds len hs bs ts (d + 1) marks seen'
     same-state e = subst (State I G width border ps so co L v us ds len hs bs ts (d + 1) marks) (sym e) s
 
-    none : r ≡ 0 → Meet I border room (len + (d + 1)) L y (get_or marks (place width y) 0) seen r seen' → Advanced I G width border room ps so co L v us ds len ts (d + 1) 0 hs bs ts marks seen'
-    none z (Meet.leaf e i h q w) = absurd (omega (arith, z, e))
+    none : r ≡ met.NoCut → Meet I border room (len + (d + 1)) L y (get_or marks (place width y) 0) seen r seen' → Advanced I G width border room ps so co L v us ds len ts (d + 1) None hs bs ts marks seen'
+    none z (Meet.leaf e i h q w) = absurd (none_known z e)
     none z (Meet.input e w a low) = Advanced.denied refl (denied-input s (copy_at hs bs d) top-met (get_or ts d 0) few y this a low) (same-state w)
     none z (Meet.beyond e w a low far) = Advanced.denied refl (denied-beyond s (copy_at hs bs d) top-met (get_or ts d 0) few y this a low high far) (same-state w)
-    none z (Meet.known e w n) = absurd (omega (arith, z, e))
+    none z (Meet.known e w n) = absurd (none_known z e)
     none z (Meet.full e w a low f full) = Advanced.denied refl (denied-full s (copy_at hs bs d) top-met (get_or ts d 0) few y this a low high f (omega (arith, limit, full))) (same-state w)
-    none z (Meet.fresh e w a low b f g) = absurd (omega (arith, z, e))
+    none z (Meet.fresh e w a low b f g) = absurd (none_new z e)
 
     abbrev Passed : Type 0
-    Passed = Advanced I G width border room ps so co L v us ds len ts (d + 1) (d + 1) hs bs (set ts d (get_or ts d 0 + 1)) marks seen'
+    Passed = Advanced I G width border room ps so co L v us ds len ts (d + 1) (Some (d + 1)) hs bs (set ts d (get_or ts d 0 + 1)) marks seen'
 
     pass : (s' : State I G width border ps so co L v us ds len hs bs ts (d + 1) marks seen') → Known L seen' s'.met (pin_of I so co (copy_at hs bs d) (get_or ts d 0)) → Passed
-    pass s' k = Advanced.moved (omega arith) t.fits (work-turn room (len + (d + 1)) ts d (get_or ts d 0) (omega (arith, t.fits, t.turns)) refl small)
+    pass s' k = Advanced.moved (d + 1) refl t.fits (work-turn room (len + (d + 1)) ts d (get_or ts d 0) (omega (arith, t.fits, t.turns)) refl small)
         (state-turn us ds len hs bs ts (d + 1) marks seen' s' d (get_or ts d 0) (omega arith) (omega (arith, t.fits, t.turns)) refl few k)
 
-    touched : (i : ℕ) → i < length L → get_or L i nobody ≡ y → Advanced I G width border room ps so co L v us ds len ts (d + 1) (d + 1) hs bs (set ts d (get_or ts d 0 + 1)) marks (set seen i 1)
+    touched : (i : ℕ) → i < length L → get_or L i nobody ≡ y → Advanced I G width border room ps so co L v us ds len ts (d + 1) (Some (d + 1)) hs bs (set ts d (get_or ts d 0 + 1)) marks (set seen i 1)
     touched i h q =
         let lit : i < length seen = omega (arith, h, long) in
-        Advanced.moved (omega arith) t.fits (work-turn room (len + (d + 1)) ts d (get_or ts d 0) (omega (arith, t.fits, t.turns)) refl small)
+        Advanced.moved (d + 1) refl t.fits (work-turn room (len + (d + 1)) ts d (get_or ts d 0) (omega (arith, t.fits, t.turns)) refl small)
         (state-turn us ds len hs bs ts (d + 1) marks (set seen i 1) (state_touch us ds len hs bs ts (d + 1) marks seen s i h lit (copy_at hs bs d) top-met (get_or ts d 0) few (sym this ∙ sym q)) d
         (get_or ts d 0) (omega arith) (omega (arith, t.fits, t.turns)) refl few
         (inr (i, h, q ∙ this, λ z. bad (get_or-set_same seen i 1 0 lit) z)))
@@ -156,21 +167,21 @@ module _ {I width border room : ℕ} {so co : List ℕ} {L : List Copy} {len : �
         bad : {a : ℕ} → a ≡ 1 → a ≡ 0 → ⊥
         bad e z = omega arith
 
-    one : r ≡ 1 → Meet I border room (len + (d + 1)) L y (get_or marks (place width y) 0) seen r seen' → Passed
-    one z (Meet.leaf e i h q w) = subst (λ (x : List ℕ). Advanced I G width border room ps so co L v us ds len ts (d + 1) (d + 1) hs bs (set ts d (get_or ts d 0 + 1)) marks x) (sym w) (touched i h q)
-    one z (Meet.input e w a low) = absurd (omega (arith, z, e))
-    one z (Meet.beyond e w a low far) = absurd (omega (arith, z, e))
-    one z (Meet.known e w n) = subst (λ (x : List ℕ). Advanced I G width border room ps so co L v us ds len ts (d + 1) (d + 1) hs bs (set ts d (get_or ts d 0 + 1)) marks x) (sym w)
+    one : r ≡ met.Known → Meet I border room (len + (d + 1)) L y (get_or marks (place width y) 0) seen r seen' → Passed
+    one z (Meet.leaf e i h q w) = subst (λ (x : List ℕ). Advanced I G width border room ps so co L v us ds len ts (d + 1) (Some (d + 1)) hs bs (set ts d (get_or ts d 0 + 1)) marks x) (sym w) (touched i h q)
+    one z (Meet.input e w a low) = absurd (none_known e z)
+    one z (Meet.beyond e w a low far) = absurd (none_known e z)
+    one z (Meet.known e w n) = subst (λ (x : List ℕ). Advanced I G width border room ps so co L v us ds len ts (d + 1) (Some (d + 1)) hs bs (set ts d (get_or ts d 0 + 1)) marks x) (sym w)
         (known-passed (subst (λ (c : Copy). c ∈ s.met) this (marked-met s.trail field.wide y near n)))
       where
-        known-passed : pin_of I so co (copy_at hs bs d) (get_or ts d 0) ∈ s.met → Advanced I G width border room ps so co L v us ds len ts (d + 1) (d + 1) hs bs (set ts d (get_or ts d 0 + 1)) marks seen
-        known-passed k = Advanced.moved (omega arith) t.fits (work-turn room (len + (d + 1)) ts d (get_or ts d 0) (omega (arith, t.fits, t.turns)) refl small)
+        known-passed : pin_of I so co (copy_at hs bs d) (get_or ts d 0) ∈ s.met → Advanced I G width border room ps so co L v us ds len ts (d + 1) (Some (d + 1)) hs bs (set ts d (get_or ts d 0 + 1)) marks seen
+        known-passed k = Advanced.moved (d + 1) refl t.fits (work-turn room (len + (d + 1)) ts d (get_or ts d 0) (omega (arith, t.fits, t.turns)) refl small)
             (state-turn us ds len hs bs ts (d + 1) marks seen s d (get_or ts d 0) (omega arith) (omega (arith, t.fits, t.turns)) refl few (inl k))
-    one z (Meet.full e w a low f full) = absurd (omega (arith, z, e))
-    one z (Meet.fresh e w a low b f g) = absurd (omega (arith, z, e))
+    one z (Meet.full e w a low f full) = absurd (none_known e z)
+    one z (Meet.fresh e w a low b f g) = absurd (known-new z e)
 
     abbrev Pushed : List ℕ → Type 0
-    Pushed x = Advanced I G width border room ps so co L v us ds len ts (d + 1) (d + 1 + 1) (set hs (d + 1) y.node) (set bs (d + 1) y.back) (set (set ts (d + 1) 0) d (get_or ts d 0 + 1)) (set
+    Pushed x = Advanced I G width border room ps so co L v us ds len ts (d + 1) (Some (d + 1 + 1)) (set hs (d + 1) y.node) (set bs (d + 1) y.back) (set (set ts (d + 1) 0) d (get_or ts d 0 + 1)) (set
         marks (place width y) 1) x
 
     pushed : ¬ (y ∈ L) → I ≤ y.node → y.back ≤ border → get_or marks (place width y) 0 ≡ 0 → len + (d + 1) < room → Pushed seen
@@ -184,54 +195,60 @@ module _ {I width border room : ℕ} {so co : List ℕ} {L : List Copy} {len : �
         let k = push_known us ds len hs bs ts (d + 1) marks seen s d refl (get_or ts d 0) few y this inside a f room' hh hb ht in
         let other : ¬ (d ≡ d + 1) = λ (z : d ≡ d + 1). omega (arith, z) in
         let old = copy_at_other hs bs (d + 1) y.node y.back d other in
-        Advanced.moved (omega arith) (omega arith) (subst (λ (z : ℕ). work room z (set (set ts (d + 1) 0) d (get_or ts d 0 + 1)) (d + 1 + 1) < work room (len + (d + 1)) ts (d + 1))
+        Advanced.moved (d + 1 + 1) refl (omega arith) (subst (λ (z : ℕ). work room z (set (set ts (d + 1) 0) d (get_or ts d 0 + 1)) (d + 1 + 1) < work room (len + (d + 1)) ts (d + 1))
         {x = len + (d + 1) + 1} {y = len + (d + 1 + 1)} (omega arith) (work_push room (len + (d + 1)) ts d (get_or ts d 0) ht refl small g))
         (state-turn us ds len (set hs (d + 1) y.node) (set bs (d + 1) y.back) (set ts (d + 1) 0) (d + 1 + 1) (set marks (place width y) 1) seen p d (get_or ts d 0) (omega arith)
         (omega (arith, ht, length-set ts (d + 1) 0)) (get_or-set_other ts (d + 1) d 0 0 other) (omega (arith, few, ap (pins_of I ps) old)) k)
 
-    two : ¬ (r ≡ 0) → ¬ (r ≡ 1) → Meet I border room (len + (d + 1)) L y (get_or marks (place width y) 0) seen r seen' → Pushed seen'
-    two n o (Meet.leaf e i h q w) = absurd (o e)
-    two n o (Meet.input e w a low) = absurd (n e)
-    two n o (Meet.beyond e w a low far) = absurd (n e)
-    two n o (Meet.known e w z) = absurd (o e)
-    two n o (Meet.full e w a low f full) = absurd (n e)
-    two n o (Meet.fresh e w a low b f g) = subst Pushed (sym w) (pushed a low b f g)
+    two : r ≡ met.New → Meet I border room (len + (d + 1)) L y (get_or marks (place width y) 0) seen r seen' → Pushed seen'
+    two n (Meet.leaf e i h q w) = absurd (known-new e n)
+    two n (Meet.input e w a low) = absurd (none_new e n)
+    two n (Meet.beyond e w a low far) = absurd (none_new e n)
+    two n (Meet.known e w z) = absurd (known-new e n)
+    two n (Meet.full e w a low f full) = absurd (none_new e n)
+    two n (Meet.fresh e w a low b f g) = subst Pushed (sym w) (pushed a low b f g)
 
-  pub advance_denied : r ≡ 0 → Advances I width border room so co L len hs bs ts d marks seen 0 hs bs ts marks seen'
+  pub advance_denied : r ≡ met.NoCut → Advances I width border room so co L len hs bs ts d marks seen None hs bs ts marks seen'
   advance_denied z G v ps us ds field limit few s = none G v ps us ds field limit few s z m
 
-  pub advance_known : r ≡ 1 → Advances I width border room so co L len hs bs ts d marks seen (d + 1) hs bs (set ts d (get_or ts d 0 + 1)) marks seen'
+  pub advance_known : r ≡ met.Known → Advances I width border room so co L len hs bs ts d marks seen (Some (d + 1)) hs bs (set ts d (get_or ts d 0 + 1)) marks seen'
   advance_known z G v ps us ds field limit few s = one G v ps us ds field limit few s z m
 
-  pub advance_fresh : ¬ (r ≡ 0) → ¬ (r ≡ 1)
-      → Advances I width border room so co L len hs bs ts d marks seen (d + 1 + 1) (set hs (d + 1) y.node) (set bs (d + 1) y.back) (set (set ts (d + 1) 0) d (get_or ts d 0 + 1)) (set marks
+  pub advance_fresh : r ≡ met.New
+      → Advances I width border room so co L len hs bs ts d marks seen (Some (d + 1 + 1)) (set hs (d + 1) y.node) (set bs (d + 1) y.back) (set (set ts (d + 1) 0) d (get_or ts d 0 + 1)) (set marks
       (place width y) 1) seen'
-  advance_fresh n o G v ps us ds field limit few s = two G v ps us ds field limit few s n o m
+  advance_fresh n G v ps us ds field limit few s = two G v ps us ds field limit few s n m
 
-  pub fresh-free : ¬ (r ≡ 0) → ¬ (r ≡ 1) → len + (d + 1) < room
-  fresh-free n o = go m
+  pub fresh-free : r ≡ met.New → len + (d + 1) < room
+  fresh-free n = go m
     where
       go : Meet I border room (len + (d + 1)) L y (get_or marks (place width y) 0) seen r seen' → len + (d + 1) < room
-      go (Meet.leaf e i h q w) = absurd (o e)
-      go (Meet.input e w a low) = absurd (n e)
-      go (Meet.beyond e w a low far) = absurd (n e)
-      go (Meet.known e w z) = absurd (o e)
-      go (Meet.full e w a low f full) = absurd (n e)
+      go (Meet.leaf e i h q w) = absurd (known-new e n)
+      go (Meet.input e w a low) = absurd (none_new e n)
+      go (Meet.beyond e w a low far) = absurd (none_new e n)
+      go (Meet.known e w z) = absurd (known-new e n)
+      go (Meet.full e w a low f full) = absurd (none_new e n)
       go (Meet.fresh e w a low b f g) = g
 
-  pub advance_pushed : {hs' bs' ts' marks' : List ℕ} → ¬ (r ≡ 0) → ¬ (r ≡ 1) → hs' ≡ set hs (d + 1) y.node → bs' ≡ set bs (d + 1) y.back → ts' ≡ set ts (d + 1) 0
+  pub advance_pushed : {hs' bs' ts' marks' : List ℕ} → r ≡ met.New → hs' ≡ set hs (d + 1) y.node → bs' ≡ set bs (d + 1) y.back → ts' ≡ set ts (d + 1) 0
       → marks' ≡ set marks (place width y) 1
-      → Advances I width border room so co L len hs bs ts d marks seen (d + 1 + 1) hs' bs' (set ts' d (get_or ts d 0 + 1)) marks' seen'
-  advance_pushed {hs'} {bs'} {ts'} {marks'} n o a b e f =
-      subst (λ (x : List ℕ). Advances I width border room so co L len hs bs ts d marks seen (d + 1 + 1) x bs' (set ts' d (get_or ts d 0 + 1)) marks' seen') (sym a)
-      (subst (λ (x : List ℕ). Advances I width border room so co L len hs bs ts d marks seen (d + 1 + 1) (set hs (d + 1) y.node) x (set ts' d (get_or ts d 0 + 1)) marks' seen') (sym b)
-      (subst (λ (x : List ℕ). Advances I width border room so co L len hs bs ts d marks seen (d + 1 + 1) (set hs (d + 1) y.node) (set bs (d + 1) y.back) (set x d (get_or ts d 0 + 1)) marks'
+      → Advances I width border room so co L len hs bs ts d marks seen (Some (d + 1 + 1)) hs' bs' (set ts' d (get_or ts d 0 + 1)) marks' seen'
+  advance_pushed {hs'} {bs'} {ts'} {marks'} n a b e f =
+      subst (λ (x : List ℕ). Advances I width border room so co L len hs bs ts d marks seen (Some (d + 1 + 1)) x bs' (set ts' d (get_or ts d 0 + 1)) marks' seen') (sym a)
+      (subst (λ (x : List ℕ). Advances I width border room so co L len hs bs ts d marks seen (Some (d + 1 + 1)) (set hs (d + 1) y.node) x (set ts' d (get_or ts d 0 + 1)) marks' seen') (sym b)
+      (subst (λ (x : List ℕ). Advances I width border room so co L len hs bs ts d marks seen (Some (d + 1 + 1)) (set hs (d + 1) y.node) (set bs (d + 1) y.back) (set x d (get_or ts d 0 + 1)) marks'
       seen') (sym e)
-      (subst (λ (x : List ℕ). Advances I width border room so co L len hs bs ts d marks seen (d + 1 + 1) (set hs (d + 1) y.node) (set bs (d + 1) y.back) (set (set ts (d + 1) 0) d
+      (subst (λ (x : List ℕ). Advances I width border room so co L len hs bs ts d marks seen (Some (d + 1 + 1)) (set hs (d + 1) y.node) (set bs (d + 1) y.back) (set (set ts (d + 1) 0) d
       (get_or ts d 0 + 1)) x seen') (sym f)
-      (advance_fresh n o))))
+      (advance_fresh n))))
 
 -- ---- the run
+
+none-some : {r : Option ℕ} {k : ℕ} → r ≡ None → r ≡ Some k → ⊥
+none-some z e = cc
+
+some-same : {r : Option ℕ} {j k : ℕ} → r ≡ Some j → r ≡ Some k → j ≡ k
+some-same z e = cc
 
 pub field-more : {I G width border : ℕ} {ps so co marks marks' : List ℕ} → length marks' ≡ length marks → Field I G width border ps so co marks → Field I G width border ps so co marks'
 field-more e f = record { wires = f.wires; wide = f.wide; near = f.near; table = omega (arith, e, f.table) }
@@ -284,7 +301,7 @@ module _ {I G width border room : ℕ} {ps so co ln lb : List ℕ} {n v : ℕ} {
         );
       }
 
-  module _ (r : ℕ) (hs' bs' ts' marks' seen' : List ℕ) (few : get_or ts (depth - 1) 0 < get_or ps (get_or hs (depth - 1) 0 - I) 0)
+  module _ (r : Option ℕ) (hs' bs' ts' marks' seen' : List ℕ) (few : get_or ts (depth - 1) 0 < get_or ps (get_or hs (depth - 1) 0 - I) 0)
       (step : Advances I width border room so co (copies_in ln lb n) len hs bs ts (depth - 1) marks seen r hs' bs' ts' marks' seen')
       (eh : length hs' ≡ length hs) (eb : length bs' ≡ length bs) (et : length ts' ≡ length ts) (em : length marks' ≡ length marks) (es : length seen' ≡ length seen) where
     stepped : Advanced I G width border room ps so co (copies_in ln lb n) v us ds len ts (depth - 1 + 1) r hs' bs' ts' marks' seen'
@@ -305,15 +322,18 @@ module _ {I G width border room : ℕ} {ps so co ln lb : List ℕ} {n v : ℕ} {
       state = s;
     }
 
-    pub run_moved : ¬ (r ≡ 0) → Turn I G width border room ps so co ln lb n v us ds len hs' bs' ts' r seen' marks' × (work room (len + r) ts' r < work room (len + depth) ts depth)
-    run_moved z = go stepped
+    pub run_moved : (k : ℕ) → r ≡ Some k → Turn I G width border room ps so co ln lb n v us ds len hs' bs' ts' k seen' marks' × (work room (len + k) ts' k < work room (len + depth) ts depth)
+    run_moved k z = go stepped
       where
         go : Advanced I G width border room ps so co (copies_in ln lb n) v us ds len ts (depth - 1 + 1) r hs' bs' ts' marks' seen'
-            → Turn I G width border room ps so co ln lb n v us ds len hs' bs' ts' r seen' marks' × (work room (len + r) ts' r < work room (len + depth) ts depth)
-        go (Advanced.denied e a s) = absurd (z e)
-        go (Advanced.moved o fits less s) = (turned r fits s, subst (λ (q : ℕ). work room (len + r) ts' r < work room (len + q) ts q) {x = depth - 1 + 1} {y = depth} (omega arith) less)
+            → Turn I G width border room ps so co ln lb n v us ds len hs' bs' ts' k seen' marks' × (work room (len + k) ts' k < work room (len + depth) ts depth)
+        go (Advanced.denied e a s) = absurd (none-some e z)
+        go (Advanced.moved j o fits less s) =
+            let same : j ≡ k = some-same o z in
+            subst (λ (i : ℕ). Turn I G width border room ps so co ln lb n v us ds len hs' bs' ts' i seen' marks' × (work room (len + i) ts' i < work room (len + depth) ts depth)) same
+            (turned j fits s, subst (λ (q : ℕ). work room (len + j) ts' j < work room (len + q) ts q) {x = depth - 1 + 1} {y = depth} (omega arith) less)
 
-    pub run-denied : r ≡ 0 → Ran I G width border room ps so co ln lb n v us ds len hs' bs' ts' depth seen' marks'
+    pub run-denied : r ≡ None → Ran I G width border room ps so co ln lb n v us ds len hs' bs' ts' depth seen' marks'
     run-denied z = go stepped
       where
         go : Advanced I G width border room ps so co (copies_in ln lb n) v us ds len ts (depth - 1 + 1) r hs' bs' ts' marks' seen'
@@ -322,7 +342,7 @@ module _ {I G width border room : ℕ} {ps so co ln lb : List ℕ} {n v : ℕ} {
           turn = turned depth t.fits (subst (λ (q : ℕ). State I G width border ps so co (copies_in ln lb n) v us ds len hs' bs' ts' q marks' seen') {x = depth - 1 + 1} {y = depth} (omega arith) s);
           denied = λ h. a;
         }
-        go (Advanced.moved o fits less s) = absurd (omega (arith, o, z))
+        go (Advanced.moved j o fits less s) = absurd (none-some z o)
 
   -- the top copy has no pin left
   module _ (full : get_or ps (get_or hs (depth - 1) 0 - I) 0 ≤ get_or ts (depth - 1) 0) {us' ds' marks' : List ℕ} (eu : us' ≡ set us len (get_or hs (depth - 1) 0)) (ed : ds' ≡ set ds len

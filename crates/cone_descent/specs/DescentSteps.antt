@@ -1,19 +1,21 @@
 -- Definitions: what the steps of the walk ask and tell.
-use Rattle.std.specs.Prelude.{◌≡◌, List, ℕ, zero, suc, ◌+◌, ◌-◌, ◌*◌, ◌≤◌, ◌<◌, length, get_or, set}
+use Rattle.std.specs.Prelude.{◌≡◌, List, ℕ, zero, suc, ◌+◌, ◌-◌, ◌*◌, ◌≤◌, ◌<◌, length, get_or, set, Option, Some, None}
 use Rattle.sequences.specs.Member.{◌∈◌}
 use Rattle.net_model.specs.Arrays.{stride, copy_at}
 use Rattle.net_model.specs.Copies.{Copy, Rising}
 use Rattle.cone_copies.specs.CopyLists.{copies_in}
+use Rattle.cone_descent.specs.declared.Met.{Met}
+use Rattle.cone_descent.specs.declared.Met.TheVariants as met
 use Rattle.cone_descent.specs.Descent.{nobody, place, Clear, Field, pin_of, pins_of, State, Denied}
 
--- A copy y met by a pin: r is 0 where there is no cut, 1 where y is a leaf or was met before, 2 where it is new.
-pub data Meet (I border room size : ℕ) (L : List Copy) (y : Copy) (mark : ℕ) (seen : List ℕ) (r : ℕ) (seen' : List ℕ) : Type 0 where
-  leaf : r ≡ 1 → (i : ℕ) → i < length L → get_or L i nobody ≡ y → seen' ≡ set seen i 1 → Meet I border room size L y mark seen r seen'
-  input : r ≡ 0 → seen' ≡ seen → ¬ (y ∈ L) → y.node < I → Meet I border room size L y mark seen r seen'
-  beyond : r ≡ 0 → seen' ≡ seen → ¬ (y ∈ L) → I ≤ y.node → border < y.back → Meet I border room size L y mark seen r seen'
-  known : r ≡ 1 → seen' ≡ seen → ¬ (mark ≡ 0) → Meet I border room size L y mark seen r seen'
-  full : r ≡ 0 → seen' ≡ seen → ¬ (y ∈ L) → I ≤ y.node → mark ≡ 0 → room ≤ size → Meet I border room size L y mark seen r seen'
-  fresh : r ≡ 2 → seen' ≡ seen → ¬ (y ∈ L) → I ≤ y.node → y.back ≤ border → mark ≡ 0 → size < room → Meet I border room size L y mark seen r seen'
+-- A copy y met by a pin.
+pub data Meet (I border room size : ℕ) (L : List Copy) (y : Copy) (mark : ℕ) (seen : List ℕ) (r : Met) (seen' : List ℕ) : Type 0 where
+  leaf : r ≡ met.Known → (i : ℕ) → i < length L → get_or L i nobody ≡ y → seen' ≡ set seen i 1 → Meet I border room size L y mark seen r seen'
+  input : r ≡ met.NoCut → seen' ≡ seen → ¬ (y ∈ L) → y.node < I → Meet I border room size L y mark seen r seen'
+  beyond : r ≡ met.NoCut → seen' ≡ seen → ¬ (y ∈ L) → I ≤ y.node → border < y.back → Meet I border room size L y mark seen r seen'
+  known : r ≡ met.Known → seen' ≡ seen → ¬ (mark ≡ 0) → Meet I border room size L y mark seen r seen'
+  full : r ≡ met.NoCut → seen' ≡ seen → ¬ (y ∈ L) → I ≤ y.node → mark ≡ 0 → room ≤ size → Meet I border room size L y mark seen r seen'
+  fresh : r ≡ met.New → seen' ≡ seen → ¬ (y ∈ L) → I ≤ y.node → y.back ≤ border → mark ≡ 0 → size < room → Meet I border room size L y mark seen r seen'
 
 -- n leaves that rise, and a byte for each
 pub record Leaves (ln lb : List ℕ) (n : ℕ) (seen : List ℕ) : Type 0 where
@@ -41,15 +43,15 @@ rest ts (suc d) = rest ts d + (suc stride - get_or ts d 0)
 abbrev pub work : ℕ → ℕ → List ℕ → ℕ → ℕ
 work room size ts depth = (room - size) * (stride + 2) + rest ts depth
 
--- one pin of the top copy passed: r is 0 where there is no cut, else the new depth
-pub data Advanced (I G width border room : ℕ) (ps so co : List ℕ) (L : List Copy) (v : ℕ) (us ds : List ℕ) (len : ℕ) (ts : List ℕ) (depth r : ℕ) (hs' bs' ts' marks' seen' : List ℕ) : Type 0 where
-  denied : r ≡ 0 → Denied I G border ps so co L v → State I G width border ps so co L v us ds len hs' bs' ts' depth marks' seen'
+-- one pin of the top copy passed: r is the new depth, or none where there is no cut
+pub data Advanced (I G width border room : ℕ) (ps so co : List ℕ) (L : List Copy) (v : ℕ) (us ds : List ℕ) (len : ℕ) (ts : List ℕ) (depth : ℕ) (r : Option ℕ) (hs' bs' ts' marks' seen' : List ℕ) : Type 0 where
+  denied : r ≡ None → Denied I G border ps so co L v → State I G width border ps so co L v us ds len hs' bs' ts' depth marks' seen'
       → Advanced I G width border room ps so co L v us ds len ts depth r hs' bs' ts' marks' seen'
-  moved : 1 ≤ r → len + r ≤ room → work room (len + r) ts' r < work room (len + depth) ts depth → State I G width border ps so co L v us ds len hs' bs' ts' r marks' seen'
+  moved : (depth' : ℕ) → r ≡ Some depth' → len + depth' ≤ room → work room (len + depth') ts' depth' < work room (len + depth) ts depth → State I G width border ps so co L v us ds len hs' bs' ts' depth' marks' seen'
       → Advanced I G width border room ps so co L v us ds len ts depth r hs' bs' ts' marks' seen'
 
 -- so for every walk that is in this state
-abbrev pub Advances : ℕ → ℕ → ℕ → ℕ → List ℕ → List ℕ → List Copy → ℕ → List ℕ → List ℕ → List ℕ → ℕ → List ℕ → List ℕ → ℕ → List ℕ → List ℕ → List ℕ → List ℕ → List ℕ → Type 0
+abbrev pub Advances : ℕ → ℕ → ℕ → ℕ → List ℕ → List ℕ → List Copy → ℕ → List ℕ → List ℕ → List ℕ → ℕ → List ℕ → List ℕ → Option ℕ → List ℕ → List ℕ → List ℕ → List ℕ → List ℕ → Type 0
 Advances I width border room so co L len hs bs ts d marks seen r hs' bs' ts' marks' seen' = (G v : ℕ) (ps us ds : List ℕ) → Field I G width border ps so co marks → length L * G ≤ room
     → get_or ts d 0 < pins_of I ps (copy_at hs bs d) → State I G width border ps so co L v us ds len hs bs ts (d + 1) marks seen
     → Advanced I G width border room ps so co L v us ds len ts (d + 1) r hs' bs' ts' marks' seen'

@@ -1,13 +1,13 @@
 -- What the whole walk asks, and its ways out.
-use Rattle.std.specs.Prelude.{◌≡◌, refl, List, ℕ, ◌+◌, ◌*◌, ◌≤◌, ◌<◌, length, get_or, set}
-use Rattle.std.proofs.Common.{sym, ap, ◌∙◌, subst, not-suc-le-zero, mul-le-mul, arith, length-set}
+use Rattle.std.specs.Prelude.{◌≡◌, List, ℕ, ◌+◌, ◌*◌, ◌≤◌, ◌<◌, length, get_or, set}
+use Rattle.std.proofs.Common.{sym, ap, ◌∙◌, subst, mul-le-mul, arith, length-set}
 use Rattle.sequences.specs.Tests.{First}
 use Rattle.net_model.specs.Arrays.{copy_at}
 use Rattle.net_model.specs.Copies.{Copy, copy}
 use Rattle.cone_copies.specs.CopyLists.{copies_in}
 use Rattle.cone_copies.specs.CopyListLaws.{length-copies_in, found_in, missing}
 use Rattle.cone_walk.specs.Walking.{refuted-root, refuted-cut}
-use Rattle.cone_descent.specs.Descent.{Clear, Inside, State, Denied, Wiped, Told, place}
+use Rattle.cone_descent.specs.Descent.{Clear, Inside, State, Denied, Wiped, ToldNone, ToldCut, place}
 use Rattle.cone_descent.specs.TrailLaws.{place-below}
 use Rattle.cone_descent.specs.DescentLaws.{state-start}
 use Rattle.cone_descent.specs.DescentEnds.{seated-clear, trail-clear, trail-seated, told-cut, denied-untouched}
@@ -58,20 +58,10 @@ module _ {I G width border room : ℕ} {ps so co ln lb : List ℕ} {n g : ℕ} {
       first = state-start us ds hs bs ts marks seen (omega arith) (omega (arith, a.root)) (missing ln lb n i (copy (I + g) 0) f h) a.clear a.unseen (omega (arith, root-table))
           (omega (arith, a.some, a.nodes)) (omega (arith, a.some, a.backs)) (omega (arith, a.some, a.turns))
 
-module _ {I G width border : ℕ} {ps so co : List ℕ} {L : List Copy} {v : ℕ} where
+module _ {I G border : ℕ} {ps so co : List ℕ} {L : List Copy} {v : ℕ} where
   -- no cut
-  pub told_none : (us ds marks : List ℕ) → Clear marks → Denied I G border ps so co L v → Told I G width border ps so co L v 0 us ds marks
-  told_none us ds marks clear den = record {
-    inside = λ n. absurd (n refl);
-    close = λ n. absurd (n refl);
-    cone = λ n. absurd (n refl);
-    leaves = λ n. absurd (n refl);
-    order = λ n. absurd (n refl);
-    last = λ n. absurd (n refl);
-    fits = omega arith;
-    none = λ z N w R b k. refuted-cut (den N w R b) k;
-    seated = record { byte = λ p h. absurd (not-suc-le-zero h); sound = λ q n. absurd (n (clear q)) };
-  }
+  pub told_none : (marks : List ℕ) → Clear marks → Denied I G border ps so co L v → ToldNone I G border ps so co L v marks
+  told_none marks clear den = record { none = λ N w R b k. refuted-cut (den N w R b) k; clear = clear }
 
 pub denied-root : {I G border : ℕ} {ps so co : List ℕ} (ln lb : List ℕ) (n v i : ℕ) → First (λ j. copy_at ln lb j ≡ copy v 0) n i → i < n → Denied I G border ps so co (copies_in ln lb n) v
 denied-root ln lb n v i f h N w R b = refuted-root (found_in ln lb n i (copy v 0) f h)
@@ -87,13 +77,15 @@ module _ {I G width border room : ℕ} {ps so co ln lb : List ℕ} {n v : ℕ} {
   pub stack_table : (k : ℕ) → k < depth → place width (copy_at hs bs k) < length marks
   stack_table k h = inside-table (copy_at hs bs k) (r.turn.state.trail.inside (copy_at hs bs k) (r.turn.state.trail.stacked k h))
 
-  pub told-stop : (marks' marks'' : List ℕ) → 1 ≤ depth → Wiped width us ds len marks marks' → Wiped width hs bs depth marks' marks'' → Told I G width border ps so co (copies_in ln lb n) v 0 us ds marks''
-  told-stop marks' marks'' h a b = told_none us ds marks'' (trail-clear r.turn.state.trail marks' marks'' a b) (r.denied h)
+  -- the walk stopped before the stack was empty
+  pub told-stop : (marks' marks'' : List ℕ) → 1 ≤ depth → Wiped width us ds len marks marks' → Wiped width hs bs depth marks' marks'' → Clear marks'' × Denied I G border ps so co (copies_in ln lb n) v
+  told-stop marks' marks'' h a b = (trail-clear r.turn.state.trail marks' marks'' a b, r.denied h)
 
-  pub told-some : (marks' : List ℕ) (i : ℕ) → depth ≡ 0 → First (λ k. get_or seen k 0 ≡ 0) n i → i < n → Wiped width us ds len marks marks'
-      → Told I G width border ps so co (copies_in ln lb n) v 0 us ds marks'
-  told-some marks' i e f h a = told_none us ds marks' (seated-clear width us ds len marks marks' (trail-seated r.turn.state.trail e) a)
-      (denied-untouched r.turn.state e r.turn.leaves.rising i (omega (arith, h, length-copies_in ln lb n)) (f.found h))
+  -- a leaf is not touched
+  pub told-some : (marks' : List ℕ) (i : ℕ) → depth ≡ 0 → i < n → get_or seen i 0 ≡ 0 → Wiped width us ds len marks marks' → ToldNone I G border ps so co (copies_in ln lb n) v marks'
+  told-some marks' i e h z a = told_none marks' (seated-clear width us ds len marks marks' (trail-seated r.turn.state.trail e) a)
+      (denied-untouched r.turn.state e r.turn.leaves.rising i (omega (arith, h, length-copies_in ln lb n)) z)
 
-  pub told-all : (i : ℕ) → depth ≡ 0 → First (λ k. get_or seen k 0 ≡ 0) n i → n ≤ i → Told I G width border ps so co (copies_in ln lb n) v len us ds marks
-  told-all i e f h = told-cut r.turn.state e r.turn.leaves.rising (λ k l. f.before k (omega (arith, l, h, length-copies_in ln lb n))) (omega (arith, r.turn.fits, r.turn.list_nodes))
+  -- each leaf is
+  pub told-all : depth ≡ 0 → ¬ ((i : ℕ) × (i < n) × (get_or seen i 0 ≡ 0)) → ToldCut I G width border ps so co (copies_in ln lb n) v us ds marks len
+  told-all e f = told-cut r.turn.state e r.turn.leaves.rising (λ k l z. f (k, omega (arith, l, length-copies_in ln lb n), z)) (omega (arith, r.turn.fits, r.turn.list_nodes))

@@ -1,19 +1,18 @@
 -- The walk with document 01's limits: what it asks follows from them, and what it tells is told as before.
 use Rattle.std.specs.Prelude.{◌≡◌, List, ℕ, ◌+◌, ◌*◌, ◌≤◌, ◌<◌, length}
-use Rattle.std.proofs.Common.{sym, ap, ◌∙◌, subst, mul-le-mul, mul-le-mul_right, le_trans, arith}
+use Rattle.std.proofs.Common.{ap, subst, mul-le-mul, mul-le-mul_right, le_trans, arith}
 use Rattle.limits.specs.Limits.{most_pins, most_gates, most_count, most_reach, most_table, most_nodes}
 use Rattle.sequences.specs.Member.{◌∈◌}
 use Rattle.net_model.specs.Net.{Net, Pin, IsGate, pins}
 use Rattle.net_model.specs.Arrays.{copy_at}
-use Rattle.net_model.specs.Copies.{Copy, copy, Rising, IsCone, IsLeaves}
+use Rattle.net_model.specs.Copies.{Copy, Rising}
 use Rattle.net_model.specs.Wired.{Wired}
 use Rattle.net_model.specs.WiredLaws.{gate-wired, pin-wired}
 use Rattle.cone_theory.specs.Reach.{reach_of, reach_of_le}
-use Rattle.cone_copies.specs.CopyLists.{copies_in, SmallWires, members, most, Room, Bounded, SourcesFirst}
+use Rattle.cone_copies.specs.CopyLists.{copies_in, SmallWires, members, most, Room, Bounded}
 use Rattle.cone_copies.specs.CopyListLaws.{length-copies_in, in_copies_in}
-use Rattle.cone_walk.specs.declared.Cone.{Cone}
-use Rattle.cone_walk.specs.WalkTold.{Walk, number_of}
-use Rattle.cone_descent.specs.Descent.{wide_most, place, Clear, Field, Told, Seated}
+use Rattle.cone_walk.specs.WalkTold.{WalkCut, WalkNone}
+use Rattle.cone_descent.specs.Descent.{wide_most, place, Clear, Field, ToldCut, ToldNone, Seated}
 use Rattle.cone_descent.specs.TrailLaws.{place-below}
 use Rattle.cone_descent.specs.DescentSteps.{Asked}
 
@@ -71,36 +70,20 @@ module _ {I G : ℕ} {ps so co : List ℕ} (w : SmallWires I G ps so co) where
       let m : reach_of N ≤ most_gates * most_count = omega (arith, reach_of_le N most_count (small-counts N wired), wired.gates, w.gates) in
       mul-le-mul h m
 
-  module _ {ln lb : List ℕ} {n g len : ℕ} {us ds marks : List ℕ} (few : n ≤ most_pins) (t : Told I G wide_most most_reach ps so co (copies_in ln lb n) (I + g) len us ds marks) where
-    pub walk_none : (r : Cone) → number_of r.verdict ≡ 14 → len ≡ 0 → Walk I G ps so co ln lb n g r
-    walk_none r e z = record {
-      room = λ q. absurd (bad q);
-      bounded = λ q. absurd (bad q);
-      cone = λ q. absurd (bad q);
-      leaves = λ q. absurd (bad q);
-      order = λ q. absurd (bad q);
-      none = λ q N wired R k. t.none z N wired R (small-reach N wired (copies_in ln lb n) (omega (arith, few, length-copies_in ln lb n))) k;
-    }
-      where
-        bad : number_of r.verdict ≡ 0 → ⊥
-        bad q = omega (arith, q, e)
+  module _ (ln lb : List ℕ) (n g : ℕ) where
+    pub walk_none : {marks : List ℕ} → n ≤ most_pins → ToldNone I G most_reach ps so co (copies_in ln lb n) (I + g) marks → WalkNone I G ps so co ln lb n g
+    walk_none few t N wired R k = t.none N wired R (small-reach N wired (copies_in ln lb n) (omega (arith, few, length-copies_in ln lb n))) k
 
-    pub walk-cut : (r : Cone) → number_of r.verdict ≡ 0 → r.nodes ≡ us → r.backs ≡ ds → r.len ≡ len → ¬ (len ≡ 0) → length us ≡ members → length ds ≡ members → Walk I G ps so co ln lb n g r
-    walk-cut r e eu ed el z hu hd = record {
-      room = λ q. record { nodes = ap length eu ∙ hu; backs = ap length ed ∙ hd; some = omega (arith, el, z); fits = omega (arith, el, t.fits, hu) };
-      bounded = λ q. subst (Bounded I G) (sym same) bounded;
-      cone = λ q N wired. subst (λ (C : List Copy). IsCone N (I + g) C) (sym same) (t.cone z N wired);
-      leaves = λ q N wired. subst (λ (C : List Copy). IsLeaves N C (copies_in ln lb n)) (sym same) (t.leaves z N wired);
-      order = λ q N wired A. subst (SourcesFirst N) (sym same) (t.order z N wired A);
-      none = λ q. absurd (omega (arith, q, e));
+    pub walk-cut : {us ds marks : List ℕ} {len : ℕ} → ToldCut I G wide_most most_reach ps so co (copies_in ln lb n) (I + g) us ds marks len → length us ≡ members → length ds ≡ members
+        → WalkCut I G ps so co ln lb n g (record { nodes = us; backs = ds; len = len })
+    walk-cut {us} {ds} {len = len} t hu hd = record {
+      room = record { nodes = hu; backs = hd; some = t.some; fits = omega (arith, t.fits, hu) };
+      bounded = record {
+        low = λ c m. (t.inside c m).low;
+        high = λ c m. (t.inside c m).high;
+        near = λ c m. omega (arith, t.close most w.count c m, length-copies_in us ds len);
+      };
+      cone = t.cone;
+      leaves = t.leaves;
+      order = t.order;
     }
-      where
-        same : copies_in r.nodes r.backs r.len ≡ copies_in us ds len
-        same = ap (λ (x : List ℕ). copies_in x r.backs r.len) eu ∙ ap (λ (x : List ℕ). copies_in us x r.len) ed ∙ ap (copies_in us ds) el
-
-        bounded : Bounded I G (copies_in us ds len)
-        bounded = record {
-          low = λ c m. (t.inside z c m).low;
-          high = λ c m. (t.inside z c m).high;
-          near = λ c m. omega (arith, t.close z most w.count c m, length-copies_in us ds len);
-        }

@@ -2,22 +2,21 @@
 // A copy is written when it is left, so sources come first. A table of marks has a byte for each copy u:d, at place u * width + d: 1 while the copy is open, then its place in the list, counted round from 2.
 #![tactic(auto)]
 
-ghost use Rattle.std.specs.Prelude.{◌≡◌, ℕ, ◌+◌, ◌≤◌, ◌<◌, length, get_or, set, drop};
-ghost use Rattle.sequences.specs.Tests.{First};
+ghost use Rattle.std.specs.Prelude.{◌≡◌, ℕ, ◌+◌, ◌≤◌, ◌<◌, length, get_or, set, drop, MatchOption};
+ghost use Rattle.sequences.specs.Tests.{Tells};
 ghost use Rattle.net_model.specs.Arrays.{copy_at};
 ghost use Rattle.net_model.specs.Copies.{copy, Rising};
 ghost use Rattle.net_model.specs.PackedNet.{sources_at, counts_at};
 ghost use Rattle.limits.specs.Limits.{most_pins, most_table};
 ghost use Rattle.cone_copies.specs.CopyLists.{copies_in, SmallWires};
 ghost use Rattle.cone_walk.specs.WalkTold.{Walk};
-ghost use Rattle.cone_descent.specs.Descent.{place, seat_mark, Clear, Placed, Seat, Wiped};
+ghost use Rattle.cone_descent.specs.Descent.{place, seat_mark, Clear, Denied, Placed, Seat, Wiped};
 ghost use Rattle.cone_descent.specs.Descent as descent;
 ghost use Rattle.cone_descent.specs.DescentSteps.{Meet, Leaves, TopPin, Advances, Turn, Ran, Asked};
 
 use cone_copies::is_copy;
 use cone_leaves::seek;
-use cone_walk::{Cone, Told};
-use inputs::wide;
+use cone_walk::Cone;
 use limits::{BEYOND, COPIES, PINS, REACH};
 
 // Marks of listed copies: a place modulo ROUND, and 2.
@@ -33,6 +32,14 @@ pub struct CutQuery {
     pub room: usize,
     pub leaves: usize,
     pub gate: usize,
+}
+
+// What a pin meets: a copy that shows that there is no cut, a leaf or a copy met before, or a new copy.
+#[derive(Clone, Copy, Debug, PartialEq, Eq)]
+enum Met {
+    NoCut,
+    Known,
+    New,
 }
 
 // The copy is put on the stack, no pin passed, and marked as open.
@@ -73,7 +80,7 @@ fn leave(
     marks[at] = (len % ROUND + 2) as u8;
 }
 
-// One copy met by a pin, with its place in the table: 0 for no cut, 1 for a leaf or a copy met before, 2 for a new copy.
+// One copy met by a pin, with its place in the table.
 fn meet(
     q: CutQuery,
     leaf_nodes: &[usize],
@@ -84,31 +91,30 @@ fn meet(
     size: usize,
     node: usize,
     back: usize,
-) -> usize
+) -> Met
     requires { Leaves leaf_nodes.now leaf_backs.now q.leaves seen.old × (at < length marks.now) }
     ensures { Meet q.inputs q.border q.room size (copies_in leaf_nodes.now leaf_backs.now q.leaves) (copy node back) (get_or marks.now at 0) seen.old result seen.new }
 {
-    let leaf = seek(leaf_nodes, leaf_backs, q.leaves, node, back);
-    if leaf < q.leaves {
+    if let Some(leaf) = seek(leaf_nodes, leaf_backs, q.leaves, node, back) {
         seen[leaf] = 1;
-        return 1;
+        return Met::Known;
     }
     if node < q.inputs {
-        return 0;
+        return Met::NoCut;
     }
     if q.border < back {
-        return 0;
+        return Met::NoCut;
     }
     if marks[at] != 0 {
-        return 1;
+        return Met::Known;
     }
     if q.room <= size {
-        return 0;
+        return Met::NoCut;
     }
-    2
+    Met::New
 }
 
-// One pin more of the copy at place top, the last of the stack. The result is the new depth, or 0 for no cut.
+// One pin more of the copy at place top, the last of the stack: the new depth, or none where there is no cut.
 fn advance(
     q: CutQuery,
     net: &[usize],
@@ -121,7 +127,7 @@ fn advance(
     turns: &mut [usize],
     top: usize,
     marks: &mut [u8],
-) -> usize
+) -> Option<usize>
     requires { Leaves leaf_nodes.now leaf_backs.now q.leaves seen.old × TopPin q.inputs q.width q.room len (drop (sources_at q.gates) net.now) (drop (counts_at q.gates) net.now) stack_nodes.old stack_backs.old turns.old top marks.old }
     ensures { Advances q.inputs q.width q.border q.room (drop (sources_at q.gates) net.now) (drop (counts_at q.gates) net.now) (copies_in leaf_nodes.now leaf_backs.now q.leaves) len stack_nodes.old stack_backs.old turns.old top marks.old seen.old result stack_nodes.new stack_backs.new turns.new marks.new seen.new }
 {
@@ -132,7 +138,7 @@ fn advance(
     let back = stack_backs[top] + net[(2 + PINS) * q.gates + pin];
     let at = node * q.width + back;
     let depth = top + 1;
-    let r = meet(
+    let met = meet(
         q,
         leaf_nodes,
         leaf_backs,
@@ -143,35 +149,30 @@ fn advance(
         node,
         back,
     );
-    if r == 0 {
-        return 0;
+    match met {
+        Met::NoCut => None,
+        Met::Known => {
+            turns[top] = next;
+            Some(depth)
+        }
+        Met::New => {
+            push(
+                stack_nodes,
+                stack_backs,
+                turns,
+                depth,
+                marks,
+                at,
+                node,
+                back,
+            );
+            turns[top] = next;
+            Some(depth + 1)
+        }
     }
-    if r == 1 {
-        turns[top] = next;
-        return depth;
-    }
-    push(
-        stack_nodes,
-        stack_backs,
-        turns,
-        depth,
-        marks,
-        at,
-        node,
-        back,
-    );
-    turns[top] = next;
-    depth + 1
 }
 
-// What a run leaves: the length of the list and the depth of the stack, 0 unless there is no cut.
-#[derive(Drop)]
-struct Pace {
-    len: usize,
-    depth: usize,
-}
-
-// The walk from a stack with the root alone.
+// The walk from a stack with the root alone: the length of the list, or none where there is no cut. No mark stays then.
 fn run(
     q: CutQuery,
     net: &[usize],
@@ -184,9 +185,9 @@ fn run(
     stack_backs: &mut [usize],
     turns: &mut [usize],
     marks: &mut [u8],
-) -> Pace
+) -> Option<usize>
     requires { Turn q.inputs q.gates q.width q.border q.room net.now (drop (sources_at q.gates) net.now) (drop (counts_at q.gates) net.now) leaf_nodes.now leaf_backs.now q.leaves (q.inputs + q.gate) nodes.old backs.old 0 stack_nodes.old stack_backs.old turns.old 1 seen.old marks.old }
-    ensures { Ran q.inputs q.gates q.width q.border q.room net.now (drop (sources_at q.gates) net.now) (drop (counts_at q.gates) net.now) leaf_nodes.now leaf_backs.now q.leaves (q.inputs + q.gate) nodes.new backs.new result.len stack_nodes.new stack_backs.new turns.new result.depth seen.new marks.new }
+    ensures { MatchOption result (Clear marks.new × Denied q.inputs q.gates q.border net.now (drop (sources_at q.gates) net.now) (drop (counts_at q.gates) net.now) (copies_in leaf_nodes.now leaf_backs.now q.leaves) (q.inputs + q.gate)) (λ len. Ran q.inputs q.gates q.width q.border q.room net.now (drop (sources_at q.gates) net.now) (drop (counts_at q.gates) net.now) leaf_nodes.now leaf_backs.now q.leaves (q.inputs + q.gate) nodes.new backs.new len stack_nodes.new stack_backs.new turns.new 0 seen.new marks.new) }
 {
     let mut len = 0;
     let mut depth = 1;
@@ -194,7 +195,7 @@ fn run(
         let top = depth - 1;
         let node = stack_nodes[top];
         if turns[top] < net[node - q.inputs] {
-            let r = advance(
+            let next = advance(
                 q,
                 net,
                 leaf_nodes,
@@ -207,13 +208,14 @@ fn run(
                 top,
                 marks,
             );
-            if r == 0 {
-                return Pace {
-                    len: len,
-                    depth: depth,
-                };
+            match next {
+                None => {
+                    clear(nodes, backs, len, q.width, marks);
+                    clear(stack_nodes, stack_backs, depth, q.width, marks);
+                    return None;
+                }
+                Some(d) => depth = d,
             }
-            depth = r;
         } else {
             let back = stack_backs[top];
             leave(nodes, backs, len, marks, node * q.width + back, node, back);
@@ -221,7 +223,7 @@ fn run(
             depth = top;
         }
     }
-    Pace { len: len, depth: 0 }
+    Some(len)
 }
 
 // The marks of the first len copies go.
@@ -229,29 +231,20 @@ pub fn clear(nodes: &[usize], backs: &[usize], len: usize, width: usize, marks: 
     requires { (len ≤ length nodes.now) × (len ≤ length backs.now) × ((p : ℕ) → p < len → place width (copy_at nodes.now backs.now p) < length marks.old) }
     ensures { Wiped width nodes.now backs.now len marks.old marks.new }
 {
-    let mut p = 0;
-    while p < len {
+    for p in 0..len {
         marks[nodes[p] * width + backs[p]] = 0;
-        p += 1;
     }
 }
 
-// The first of n leaves that is not touched, or n.
-fn untouched(seen: &[usize], n: usize) -> usize
+// Whether one of n leaves is not touched.
+fn untouched(seen: &[usize], n: usize) -> bool
     requires { n ≤ length seen.now }
-    ensures { First (λ i. get_or seen.now i 0 ≡ 0) n result }
+    ensures { Tells result ((i : ℕ) × (i < n) × (get_or seen.now i 0 ≡ 0)) }
 {
-    let mut i = 0;
-    while i < n {
-        if seen[i] == 0 {
-            return i;
-        }
-        i += 1;
-    }
-    n
+    seen[..n].contains(&0)
 }
 
-// The walk from the gate back to the leaves, over lent arrays of any length: the length of the list, or 0 for no cut. Marks stay where there is a cut: those of the listed copies.
+// The walk from the gate back to the leaves, over lent arrays of any length: the length of the list, or none for no cut. Marks stay where there is a cut: those of the listed copies.
 pub fn descend(
     q: CutQuery,
     net: &[usize],
@@ -264,14 +257,13 @@ pub fn descend(
     stack_backs: &mut [usize],
     turns: &mut [usize],
     marks: &mut [u8],
-) -> usize
+) -> Option<usize>
     requires { Asked q.inputs q.gates q.width q.border q.room net.now (drop (sources_at q.gates) net.now) (drop (counts_at q.gates) net.now) leaf_nodes.now leaf_backs.now q.leaves q.gate nodes.old backs.old stack_nodes.old stack_backs.old turns.old seen.old marks.old }
     ensures { descent.Told q.inputs q.gates q.width q.border net.now (drop (sources_at q.gates) net.now) (drop (counts_at q.gates) net.now) (copies_in leaf_nodes.now leaf_backs.now q.leaves) (q.inputs + q.gate) result nodes.new backs.new marks.new }
 {
     let root = q.inputs + q.gate;
-    let leaf = seek(leaf_nodes, leaf_backs, q.leaves, root, 0);
-    if leaf < q.leaves {
-        return 0;
+    if let Some(_) = seek(leaf_nodes, leaf_backs, q.leaves, root, 0) {
+        return None;
     }
     push(
         stack_nodes,
@@ -283,7 +275,7 @@ pub fn descend(
         root,
         0,
     );
-    let end = run(
+    let len = run(
         q,
         net,
         leaf_nodes,
@@ -295,22 +287,15 @@ pub fn descend(
         stack_backs,
         turns,
         marks,
-    );
-    let len = end.len;
-    let depth = end.depth;
-    if 0 < depth {
+    )?;
+    if untouched(seen, q.leaves) {
         clear(nodes, backs, len, q.width, marks);
-        clear(stack_nodes, stack_backs, depth, q.width, marks);
-        return 0;
+        return None;
     }
-    if untouched(seen, q.leaves) < q.leaves {
-        clear(nodes, backs, len, q.width, marks);
-        return 0;
-    }
-    len
+    Some(len)
 }
 
-// The walk from gate g to the n leaves, with document 01's limits: the cone with sources first and the root last, or no cut. Marks stay where there is a cut: those of the cone's copies.
+// The walk from gate g to the n leaves, with document 01's limits: the cone with sources first and the root last, or none where the leaves are no cut. Marks stay where there is a cut: those of the cone's copies.
 pub fn walk(
     inputs: usize,
     gates: usize,
@@ -320,9 +305,9 @@ pub fn walk(
     n: usize,
     g: usize,
     marks: &mut [u8],
-) -> Cone
+) -> Option<Cone>
     requires { SmallWires inputs gates net.now (drop (sources_at gates) net.now) (drop (counts_at gates) net.now) × (n ≤ most_pins) × (n ≤ length leaf_nodes.now) × (n ≤ length leaf_backs.now) × (g < gates) × Rising (copies_in leaf_nodes.now leaf_backs.now n) × (most_table ≤ length marks.old) × Clear marks.old }
-    ensures { Walk inputs gates net.now (drop (sources_at gates) net.now) (drop (counts_at gates) net.now) leaf_nodes.now leaf_backs.now n g result × Placed inputs g result marks.new }
+    ensures { Walk inputs gates net.now (drop (sources_at gates) net.now) (drop (counts_at gates) net.now) leaf_nodes.now leaf_backs.now n g result × MatchOption result (Clear marks.new) (λ r. Placed inputs g r marks.new) }
 {
     let mut nodes = [0usize; COPIES];
     let mut backs = [0usize; COPIES];
@@ -332,9 +317,9 @@ pub fn walk(
     let mut seen = [0usize; PINS];
     let width = REACH + BEYOND;
     let q = CutQuery {
-        inputs: inputs,
-        gates: gates,
-        width: width,
+        inputs,
+        gates,
+        width,
         border: REACH,
         room: COPIES,
         leaves: n,
@@ -352,24 +337,11 @@ pub fn walk(
         &mut stack_backs,
         &mut turns,
         marks,
-    );
-    if len == 0 {
-        return Cone {
-            verdict: Told::NoCut,
-            nodes: nodes,
-            backs: backs,
-            len: 0,
-        };
-    }
-    Cone {
-        verdict: Told::Cut,
-        nodes: nodes,
-        backs: backs,
-        len: len,
-    }
+    )?;
+    Some(Cone { nodes, backs, len })
 }
 
-// The place in the list of the copy whose place in the table is `at`, or len.
+// The place in the list of the copy whose place in the table is `at`.
 pub fn seat(
     nodes: &[usize],
     backs: &[usize],
@@ -378,20 +350,20 @@ pub fn seat(
     at: usize,
     node: usize,
     back: usize,
-) -> usize
+) -> Option<usize>
     requires { (len ≤ length nodes.now) × (len ≤ length backs.now) × (at < length marks.now) }
-    ensures { Seat nodes.now backs.now len marks.now at (copy node back) result }
+    ensures { MatchOption result (Seat nodes.now backs.now len marks.now at (copy node back) len) (λ p. (p < len) × Seat nodes.now backs.now len marks.now at (copy node back) p) }
 {
-    let mark = wide(marks[at]);
+    let mark = usize::from(marks[at]);
     if mark < 2 {
-        return len;
+        return None;
     }
     let mut p = mark - 2;
     while p < len {
         if is_copy(nodes, backs, p, node, back) {
-            return p;
+            return Some(p);
         }
         p += ROUND;
     }
-    len
+    None
 }

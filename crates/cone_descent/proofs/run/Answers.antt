@@ -1,49 +1,48 @@
-use mathlib.Core.Path.{◌≡◌, refl, ◌∙◌}
-use Prim.Native.Nat.{◌+◌, ◌-◌, ◌*◌, ◌<◌, ◌^◌}
+use mathlib.Core.Path.{◌∙◌}
 use native.Mathlib.Omega.{arith}
-use lib.ListN.{length, drop}
-use Rattle.net_model.specs.PackedNet.{sources_at, counts_at}
-use Rattle.cone_descent.specs.DescentSteps.{work, Turn}
-use Rattle.cone_descent.specs.DescentStepLaws.{top-low, top-gate, top_below, top-table, top-pin, run_moved, run-denied, run-left, run-done, work-left}
-use Rattle.std.proofs.Common.{rules}
+use Rattle.cone_descent.specs.DescentStepLaws.{top_below, top-table, top-pin, run_moved, run-denied, run-left, work-left}
+use Rattle.cone_descent.specs.DescentTold.{list-table, stack_table, told-stop}
 use Rattle.cone_descent.proofs.run.Goals as goal
 
-pub advance-r-requires : goal.advance-r-requires
-advance-r-requires c =
+pub advance-next-requires : goal.advance-next-requires
+advance-next-requires c =
     let t = c.loop-depth.invariant.0 in
     (t.leaves, top-pin t (omega arith) c.if-turns-top.true)
 
-pub returns-then-r-eq0 : goal.returns-then-r-eq0
-returns-then-r-eq0 c =
+pub clear-requires : goal.clear-requires
+clear-requires c =
     let t = c.loop-depth.invariant.0 in
-    let k = c.advance-r.auto in
-    run-denied t (omega arith) c.advance-r.result _ _ _ _ _
-    c.if-turns-top.true
-    c.advance-r.ensures k.stack_nodes
-    k.stack_backs k.turns k.marks k.seen c.if-r-eq0.true
+    let k = c.advance-next.auto in
+    let r = run-denied t (omega arith) c.advance-next.result _ _ _ _ _ c.if-turns-top.true c.advance-next.ensures k.stack_nodes k.stack_backs k.turns k.marks k.seen c.in-None.is in
+    (omega (arith, r.turn.fits, r.turn.list_nodes), omega (arith, r.turn.fits, r.turn.list_backs), list-table r)
 
-pub loop-depth-smaller-then-turns-top : goal.loop-depth-smaller-then-turns-top
-loop-depth-smaller-then-turns-top c =
+pub clear-requires-in-None : goal.clear-requires-in-None
+clear-requires-in-None c =
     let t = c.loop-depth.invariant.0 in
-    let k = c.advance-r.auto in
-    let step = run_moved t (omega arith) c.advance-r.result _ _ _ _ _
-    c.if-turns-top.true
-    c.advance-r.ensures k.stack_nodes
-    k.stack_backs k.turns k.marks k.seen c.if-r-eq0.false in
-    step.1
+    let k = c.advance-next.auto in
+    let r = run-denied t (omega arith) c.advance-next.result _ _ _ _ _ c.if-turns-top.true c.advance-next.ensures k.stack_nodes k.stack_backs k.turns k.marks k.seen c.in-None.is in
+    (omega (arith, r.turn.fits, r.turn.nodes), omega (arith, r.turn.fits, r.turn.backs), λ p h. omega (arith, stack_table r p h, c.clear.auto.marks))
 
-pub loop-depth-preserved-then-turns-top : goal.loop-depth-preserved-then-turns-top
-loop-depth-preserved-then-turns-top c =
+pub returns-in-None : goal.returns-in-None
+returns-in-None c =
     let t = c.loop-depth.invariant.0 in
-    let k = c.advance-r.auto in
-    let step = run_moved t (omega arith) c.advance-r.result _ _ _ _ _
-    c.if-turns-top.true
-    c.advance-r.ensures k.stack_nodes
-    k.stack_backs k.turns k.marks k.seen c.if-r-eq0.false in (
-      step.0,
-      k.seen ∙ c.loop-depth.invariant.1,
-      k.marks ∙ c.loop-depth.invariant.2,
-    )
+    let k = c.advance-next.auto in
+    let r = run-denied t (omega arith) c.advance-next.result _ _ _ _ _ c.if-turns-top.true c.advance-next.ensures k.stack_nodes k.stack_backs k.turns k.marks k.seen c.in-None.is in
+    told-stop r _ _ c.loop-depth-test.true c.clear.ensures c.clear-in-None.ensures
+
+pub loop-depth-smaller-in-Some : goal.loop-depth-smaller-in-Some
+loop-depth-smaller-in-Some c =
+    let t = c.loop-depth.invariant.0 in
+    let k = c.advance-next.auto in
+    let r = run_moved t (omega arith) c.advance-next.result _ _ _ _ _ c.if-turns-top.true c.advance-next.ensures k.stack_nodes k.stack_backs k.turns k.marks k.seen c.in-Some.d c.in-Some.is in
+    r.1
+
+pub loop-depth-preserved-in-Some : goal.loop-depth-preserved-in-Some
+loop-depth-preserved-in-Some c =
+    let t = c.loop-depth.invariant.0 in
+    let k = c.advance-next.auto in
+    let r = run_moved t (omega arith) c.advance-next.result _ _ _ _ _ c.if-turns-top.true c.advance-next.ensures k.stack_nodes k.stack_backs k.turns k.marks k.seen c.in-Some.d c.in-Some.is in
+    (r.0, k.seen ∙ c.loop-depth.invariant.1, k.marks ∙ c.loop-depth.invariant.2)
 
 pub overflow_add-node : goal.overflow_add-node
 overflow_add-node c =

@@ -1,10 +1,8 @@
-use mathlib.Core.Path.{◌≡◌, refl, ◌∙◌}
-use Prim.Native.Nat.{◌+◌, ◌-◌, ◌*◌, ◌<◌, ◌^◌}
-use native.Mathlib.Omega.{arith}
+use mathlib.Core.Path.{◌≡◌}
+use Prim.Native.Nat.{◌+◌}
 use lib.ListN.{length, drop}
 use Rattle.net_model.specs.PackedNet.{sources_at, counts_at}
 use Rattle.cone_descent.specs.DescentSteps.{work, Turn}
-use Rattle.cone_descent.specs.DescentStepLaws.{top-low, top-gate, top_below, top-table, top-pin, run_moved, run-denied, run-left, run-done, work-left}
 use Rattle.cone_descent.proofs.run.Given as goal
 
 abbrev pub invariant-loop-depth : goal.invariant-loop-depth

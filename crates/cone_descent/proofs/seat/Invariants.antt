@@ -1,9 +1,7 @@
 use mathlib.Core.Path.{◌≡◌}
-use Prim.Native.Nat.{◌-◌, ◌<◌}
-use native.Mathlib.Omega.{arith}
+use Prim.Native.Nat.{◌-◌}
 use Rattle.net_model.specs.Copies.{copy}
 use Rattle.cone_descent.specs.Descent.{seat_mark, Missed}
-use Rattle.cone_descent.specs.Seats.{missed_first, missed_more, seat_none, seat_here, seat_end}
 use Rattle.cone_descent.proofs.seat.Given as goal
 
 abbrev pub invariant-loop-p : goal.invariant-loop-p
