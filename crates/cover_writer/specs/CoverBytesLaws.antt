@@ -1,7 +1,8 @@
 -- The LUTs of some gates and those of the next ones.
 use Rattle.std.specs.Prelude.{◌≡◌, Bool, cond, not, ℕ, zero, suc, ◌+◌, ◌*◌, ◌-◌, ◌≤◌, ◌<◌, eqb, pos, get_or}
 use Rattle.std.proofs.Math.Path.{refl}
-use Rattle.std.proofs.Common.{sym, ap, ap₂, ◌∙◌, subst, add-one, arith, ne_eqb, length-append}
+use Rattle.std.proofs.Common.{sym, ap, ap₂, ◌∙◌, subst, add-one, arith, ne_eqb, length-append, count_by, take}
+use Rattle.std.proofs.lemmas.List.Sums.{count_by_more_yes, count_by_more_no}
 use Rattle.std.proofs.Math.Bool.{true, false}
 use mathlib.Core.List.{List, [], ◌∷◌, ◌++◌, append_assoc, append-nil}
 use Rattle.std.proofs.Math.ListN.{length}
@@ -118,6 +119,24 @@ marked-none marks = refl
 pub marked_next : (marks : List ℕ) (g : ℕ) → marked marks (g + 1) ≡ as_number (not_zero (get_or marks g 0)) + marked marks g
 unfolding marked
 marked_next marks g = rw add-one refl
+
+-- counted one by one
+pub marked_count : (marks : List ℕ) (n : ℕ) → n ≤ length marks → count_by not_zero (take n marks) ≡ marked marks n
+marked_count marks zero h = sym (marked-none marks)
+marked_count marks (suc n) h = go (marked_count marks n (omega arith)) (not_zero (get_or marks n 0)) refl
+  where
+    next : (b : Bool) → not_zero (get_or marks n 0) ≡ b → marked marks (n + 1) ≡ as_number b + marked marks n
+    next b e = marked_next marks n ∙ ap (λ (t : Bool). as_number t + marked marks n) e
+
+    go : count_by not_zero (take n marks) ≡ marked marks n → (b : Bool) → not_zero (get_or marks n 0) ≡ b → count_by not_zero (take (suc n) marks) ≡ marked marks (suc n)
+    go f true e =
+        let a = rw (add-one n) at (count_by_more_yes not_zero marks n 0 h e) in
+        let d = rw (add-one n) at (next true e) in
+        omega arith
+    go f false e =
+        let a = rw (add-one n) at (count_by_more_no not_zero marks n 0 h e) in
+        let d = rw (add-one n) at (next false e) in
+        omega arith
 
 -- ---- the whole record
 

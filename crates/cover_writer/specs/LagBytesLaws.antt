@@ -1,7 +1,8 @@
 -- A lag as a signed byte.
 use Rattle.std.specs.Prelude.{◌≡◌, refl, Bool, true, false, cond, [], ◌∷◌, zero, suc, ◌≤◌, ◌<◌, ℤ, pos, negsuc, ◌+ℤ◌, ◌≤ℤ◌, ◌<ℤ◌}
 use Rattle.std.proofs.Common.{sym, ap, ◌∙◌, arith, SFits, to_z, of_z}
-use Rattle.std.specs.Int.{w64}
+use Rattle.std.specs.Int.{w8, w64}
+use Rattle.std.proofs.lemmas.Int.{to_z-of_z}
 use Rattle.integers.specs.Parts.{ints, +-parts}
 use Rattle.cover_records.specs.CoverBytes.{is_zero, signed_number, lag_bytes}
 use Rattle.cover_records.specs.RoundTrip.{SmallLag, up, down}
@@ -47,3 +48,15 @@ below-zero (down {n = n} h) l = let p = +-parts (negsuc n) (pos 256) in omega (a
 pub from_zero : {z : ℤ} → SmallLag false z → pos 0 ≤ℤ z → z ≡ pos (signed_number false z)
 from_zero (up h) l = refl
 from_zero (down {n = n} h) l = absurd (omega (arith, ints))
+
+-- in eight bits
+pub lag-fits-byte : {z : ℤ} → SmallLag false z → SFits w8 z
+lag-fits-byte (up h) = record { sfits = omega arith }
+lag-fits-byte (down h) = record { sfits = omega arith }
+
+pub byte_bits : {z : ℤ} → SmallLag false z → of_z w8 z ≡ signed_number false z
+byte_bits (up h) = omega arith
+byte_bits (down h) = omega arith
+
+pub byte_back : {z : ℤ} → SmallLag false z → to_z w8 (of_z w8 (to_z w64 (of_z w64 z))) ≡ z
+byte_back {z} s = ap (λ (x : ℤ). to_z w8 (of_z w8 x)) (back z (lag-fits s)) ∙ to_z-of_z w8 z (lag-fits-byte s)

@@ -8,7 +8,6 @@ use Rattle.net_model.specs.Arrays.{copy_at, copies_from}
 use Rattle.net_model.specs.ArrayLaws.{length-copies_from}
 use Rattle.net_model.specs.Copies.{Copy, copy}
 use Rattle.net_model.specs.Tables.{as_number}
-use Rattle.cone_values.specs.Words.{as_number_small}
 use Rattle.cover_records.specs.RoundTrip.{leaf_map-small}
 use Rattle.cover_records.specs.CoverBytes.{to_bytes, not_zero, leaf_map, depths, is_zero, lag_bytes, lut_bytes}
 use Rattle.net_bytes.specs.Walk.{table_bytes}

@@ -32,7 +32,7 @@ pub struct CoverHead {
 fn not_zero(n: usize) -> usize
     ensures { result ≡ as_number (not_zero n) }
 {
-    if n == 0 { 0 } else { 1 }
+    usize::from(n != 0)
 }
 
 // The map of n leaves: bit j says that leaf j has d not 0.
@@ -41,9 +41,7 @@ fn leaf_map(backs: &[usize], at: usize, n: usize) -> usize
     ensures { result ≡ leaf_map (copies_from [] backs.now at n) }
 {
     let mut m = 0;
-    let mut j = n;
-    while 0 < j {
-        j -= 1;
+    for j in (0..n).rev() {
         m = not_zero(backs[at + j]) + 2 * m;
     }
     m
@@ -62,10 +60,8 @@ fn write_nodes(nodes: &[usize], at: usize, n: usize, area: &mut [u8]) -> usize
     requires below { Below 256 nodes.now at n }
     ensures { Wrote (map (λ (y : Copy). y.node) (copies_from nodes.now [] at n)) area.old area.new result }
 {
-    let mut j = 0;
-    while j < n {
+    for j in 0..n {
         area[j] = nodes[at + j] as u8;
-        j += 1;
     }
     n
 }
@@ -92,11 +88,9 @@ fn write_depths(backs: &[usize], at: usize, n: usize, area: &mut [u8]) -> usize
     ensures { Wrote (depths (copies_from [] backs.now at n)) area.old area.new result }
 {
     let mut end = 0;
-    let mut j = 0;
-    while j < n {
+    for j in 0..n {
         let d = backs[at + j];
         end += write_depth(d, &mut area[end..]);
-        j += 1;
     }
     end
 }
@@ -106,11 +100,7 @@ fn byte_of_lag(lag: i64) -> u8
     requires { SmallLag false lag }
     ensures { result ≡ signed_number false lag }
 {
-    if lag < 0 {
-        (lag + 256) as u8
-    } else {
-        lag as u8
-    }
+    (lag as i8).cast_unsigned()
 }
 
 // The lag, where it is not 0.
@@ -132,11 +122,9 @@ pub fn write_table(table: u64, n: usize, area: &mut [u8]) -> usize
     ensures { Wrote (to_bytes n table) area.old area.new result }
 {
     let mut rest = table;
-    let mut i = 0;
-    while i < n {
+    for i in 0..n {
         area[i] = (rest % 256) as u8;
-        rest = rest / 256;
-        i += 1;
+        rest /= 256;
     }
     n
 }
@@ -232,10 +220,8 @@ fn write_luts(
 {
     let gates = s.gates;
     let mut at = 0;
-    let mut g = 0;
-    while g < gates {
+    for g in 0..gates {
         at += write_gate(s, labels, rows, tables, g, &mut area[at..]);
-        g += 1;
     }
     at
 }
@@ -245,13 +231,7 @@ pub fn count_luts(marks: &[usize], gates: usize) -> usize
     requires { gates ≤ length marks.now }
     ensures { result ≡ marked marks.now gates }
 {
-    let mut count = 0;
-    let mut g = 0;
-    while g < gates {
-        count += not_zero(marks[g]);
-        g += 1;
-    }
-    count
+    marks[..gates].iter().filter(|mark| **mark != 0).count()
 }
 
 // The period and the number of LUTs.

@@ -1,27 +1,10 @@
-use mathlib.Core.Path.{◌≡◌, sym, ap, ◌∙◌}
-use Prim.Native.Nat.{ℕ, ◌≤◌, ◌+◌, ◌-◌}
-use native.Mathlib.Omega.{arith}
-use Rattle.cover_writer.specs.Writing.{marked}
-use Rattle.cover_writer.specs.CoverBytesLaws.{marked_le, marked-none, marked_next}
-use Rattle.std.proofs.Common.{rules}
+use mathlib.Core.Path.{◌≡◌, ◌∙◌}
+use Rattle.std.proofs.Common.{rules, take, count_by}
+use Rattle.cover_records.specs.CoverBytes.{not_zero}
+use Rattle.cover_writer.specs.CoverBytesLaws.{marked_count}
 use Rattle.cover_writer.proofs.count_luts.Goals as goal
 
-pub loop-g-init : goal.loop-g-init
-loop-g-init c = (omega arith, sym (marked-none c.args.marks.now))
-
-pub overflow_add-count : goal.overflow_add-count
-overflow_add-count c =
-    let m = c.args.marks.now in
-    let g = c.loop-g.g in
-    let a = marked_next m g in
-    let b = marked_le m (g + 1) in
-    let e = c.not_zero-count.ensures in
-    record { fits = omega arith }
-
-pub loop-g-preserved : goal.loop-g-preserved
-loop-g-preserved c =
-    let m = c.args.marks.now in
-    let g = c.loop-g.g in
-    let a = marked_next m g in
-    let e = c.not_zero-count.ensures in
-    (omega arith, omega arith)
+pub returns : goal.returns
+returns c =
+    let e : c.count.result ≡ count_by not_zero (take c.args.gates c.args.marks.now) = search rules in
+    e ∙ marked_count c.args.marks.now c.args.gates c.requires

@@ -6,7 +6,6 @@ use mathlib.Core.List.{List}
 use Rattle.net_model.specs.Tables.{as_number}
 use Rattle.cover_records.specs.CoverBytes.{not_zero}
 use Rattle.cover_writer.specs.LutBytesLaws.{map_from, map-none, map-all, map_more, map-small}
-use Rattle.std.proofs.Common.{rules}
 use Rattle.cover_writer.proofs.leaf_map.Goals as goal
 
 -- one leaf more
@@ -18,33 +17,26 @@ more backs at n j m r p h e f =
     omega arith
 
 pub loop-j-init : goal.loop-j-init
-loop-j-init c = (omega arith, sym (map-none c.args.backs.now c.args.at c.args.n))
+loop-j-init c = sym (map-none c.args.backs.now c.args.at c.args.n)
 
 pub overflow_mul-m : goal.overflow_mul-m
 overflow_mul-m c =
-    let start = c in
     let s = map-small c.args.backs.now c.args.at c.args.n c.loop-j.j c.requires.0 in record { fits = omega arith }
 
 pub overflow_add-m : goal.overflow_add-m
 overflow_add-m c =
     let loop = c.loop-j in
-    let start = c in
-    let e = more c.args.backs.now c.args.at c.args.n loop.j loop.m c.not_zero.result c.loop-j-test.true loop.invariant.0
-    loop.invariant.1 c.not_zero.ensures in
+    let e = more c.args.backs.now c.args.at c.args.n loop.j loop.m c.not_zero.result c.loop-j-test.true loop.auto.j
+    loop.invariant c.not_zero.ensures in
     let s = map-small c.args.backs.now c.args.at c.args.n (loop.j - 1) c.requires.0 in
     record { fits = omega arith }
 
 pub loop-j-preserved : goal.loop-j-preserved
 loop-j-preserved c =
     let loop = c.loop-j in
-    let start = c in (
-      omega arith,
-      more c.args.backs.now c.args.at c.args.n loop.j loop.m c.not_zero.result c.loop-j-test.true loop.invariant.0
-          loop.invariant.1 c.not_zero.ensures,
-    )
+    more c.args.backs.now c.args.at c.args.n loop.j loop.m c.not_zero.result c.loop-j-test.true loop.auto.j loop.invariant c.not_zero.ensures
 
 pub returns : goal.returns
 returns c =
-    let start = c in
     let e : c.loop-j.j ≡ 0 = omega arith in
-    c.loop-j.invariant.1 ∙ ap (map_from c.args.backs.now c.args.at c.args.n) e ∙ map-all c.args.backs.now c.args.at c.args.n
+    c.loop-j.invariant ∙ ap (map_from c.args.backs.now c.args.at c.args.n) e ∙ map-all c.args.backs.now c.args.at c.args.n

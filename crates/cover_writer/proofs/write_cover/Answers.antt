@@ -8,9 +8,8 @@ use Rattle.cover_records.specs.CoverBytes.{all_lut_bytes}
 use Rattle.cover_records.specs.Kept.{Kept, entries_in}
 use Rattle.cover_records.specs.Rows.{kept_in}
 use Rattle.cover_writer.specs.Writing.{Writable, marked}
-use Rattle.cover_writer.specs.BytesBehind.{wrote-behind, wrote-within, wrote-fits, room-behind}
+use Rattle.cover_writer.specs.BytesBehind.{wrote-behind, room-behind}
 use Rattle.cover_writer.specs.CoverBytesLaws.{cover-bytes, marked_le}
-use Rattle.std.proofs.Common.{rules}
 use Rattle.cover_writer.proofs.write_cover.Goals as goal
 
 -- `cover_writer::write_cover` meets its contract: the LUTs stand behind the period and their number.

@@ -4,7 +4,6 @@ use native.Mathlib.Omega.{arith}
 use lib.ListN.{length, length-set}
 use Rattle.cover_writer.specs.BytesBehind.{wrote_none, wrote-next}
 use Rattle.cover_writer.specs.LutBytesLaws.{depths-none, depths-two}
-use Rattle.std.proofs.Common.{rules}
 use Rattle.cover_writer.proofs.write_depth.Goals as goal
 
 pub returns-then-d-eq0 : goal.returns-then-d-eq0

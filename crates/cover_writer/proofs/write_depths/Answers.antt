@@ -1,17 +1,15 @@
-use mathlib.Core.Path.{◌≡◌, subst}
+use mathlib.Core.Path.{subst}
 use mathlib.Core.List.{List, [], ◌∷◌, ◌++◌}
-use Prim.Native.Nat.{ℕ, suc, ◌≤◌, ◌+◌, ◌-◌, ◌<◌}
+use Prim.Native.Nat.{ℕ, suc, ◌≤◌, ◌+◌, ◌<◌}
 use native.Mathlib.Nat.{le_trans}
 use native.Mathlib.Omega.{arith}
 use native.Mathlib.Numerals.{add-one}
-use lib.ListN.{length, get_or, length-append}
+use lib.ListN.{length, get_or}
 use Rattle.net_model.specs.Arrays.{copies_from}
 use Rattle.net_model.specs.Copies.{copy}
 use Rattle.cover_records.specs.CoverBytes.{depths}
-use Rattle.cover_writer.specs.Writing.{Wrote}
-use Rattle.cover_writer.specs.BytesBehind.{wrote_none, wrote-behind, wrote-length, wrote-fits, room-behind}
+use Rattle.cover_writer.specs.BytesBehind.{wrote_none, wrote-behind, room-behind}
 use Rattle.cover_writer.specs.LutBytesLaws.{depths-zero, depths-next, depths-within}
-use Rattle.std.proofs.Common.{rules}
 use Rattle.cover_writer.proofs.write_depths.Goals as goal
 
 -- `cover_writer::write_depths` meets its contract. The loop's invariant: the d's passed are written.
@@ -24,23 +22,21 @@ and-next : (backs area : List ℕ) (at n j : ℕ) → j < n → length (depths (
 and-next backs area at n j h l = subst (λ (b : List ℕ). length b ≤ length area) (depths-next [] backs at j) (so_far backs area at n (suc j) h l)
 
 pub loop-j-init : goal.loop-j-init
-loop-j-init c = (omega arith, rw depths-zero (wrote_none c.args.area.now))
+loop-j-init c = rw depths-zero (wrote_none c.args.area.now)
 
 pub write_depth-end-requires : goal.write_depth-end-requires
 write_depth-end-requires c =
     let loop = c.loop-j in
-    let start = c in
     let v = loop.invariant in
     let b = c.args.backs.now in
     let i = c.args.at + loop.j in (
-      c.requires.below.each loop.j c.loop-j-test.true,
-      room-behind (depths (copy 0 (get_or b i 0) ∷ [])) v.1
-          (and-next b c.args.area.now c.args.at c.args.n loop.j c.loop-j-test.true c.requires.n_in_bounds.1),
+      c.requires.below.each loop.j (omega arith),
+      room-behind (depths (copy 0 (get_or b i 0) ∷ [])) v
+          (and-next b c.args.area.now c.args.at c.args.n loop.j (omega arith) c.requires.n_in_bounds.1),
     )
 
 pub loop-j-preserved : goal.loop-j-preserved
 loop-j-preserved c =
     let loop = c.loop-j in
-    let start = c in
     let v = loop.invariant in
-    (omega arith, rw (add-one loop.j, depths-next [] c.args.backs.now c.args.at loop.j) (wrote-behind v.1 c.write_depth-end.ensures))
+    rw (add-one loop.j, depths-next [] c.args.backs.now c.args.at loop.j) (wrote-behind v c.write_depth-end.ensures)

@@ -12,14 +12,13 @@ use Rattle.net_model.specs.Arrays.{stride}
 use Rattle.cover_records.specs.Kept.{Kept, short_table}
 use Rattle.cover_records.specs.CoverBytes.{lut_bytes}
 use Rattle.cover_records.specs.Rows.{kept_in}
-use Rattle.cover_records.specs.RowLaws.{size-at, row-lent, row-whole}
+use Rattle.cover_records.specs.RowLaws.{row-lent, row-whole}
 use Rattle.signed.specs.Range.{Small, room}
 use Rattle.signed.specs.RangeLaws.{back, small-fits}
 use Rattle.cover_writer.specs.Writing.{LutAsked, lut_of, GateAsked, LutHeld, Wrote}
 use Rattle.cover_writer.specs.BytesBehind.{wrote_none}
 use Rattle.cover_writer.specs.LagBytesLaws.{lag-fits}
 use Rattle.cover_writer.specs.CoverBytesLaws.{at_none, at_some}
-use Rattle.std.proofs.Common.{rules}
 use Rattle.cover_writer.proofs.write_gate.Goals as goal
 
 -- `cover_writer::write_gate` meets its contract, by the mark.

@@ -5,9 +5,8 @@ use lib.ListN.{length, length-append}
 use Rattle.net_model.specs.Arrays.{copies_from}
 use Rattle.cover_records.specs.CoverBytes.{depths}
 use Rattle.cover_writer.specs.Writing.{LeavesAsked}
-use Rattle.cover_writer.specs.BytesBehind.{wrote-behind, wrote-within, wrote-fits, room-behind}
+use Rattle.cover_writer.specs.BytesBehind.{wrote-behind, room-behind}
 use Rattle.cover_writer.specs.LutBytesLaws.{nodes_of, leaf-bytes, length-nodes}
-use Rattle.std.proofs.Common.{rules}
 use Rattle.cover_writer.proofs.write_leaves.Goals as goal
 
 -- `cover_writer::write_leaves` meets its contract: the d's stand behind the nodes.

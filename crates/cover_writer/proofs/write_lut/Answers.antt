@@ -12,10 +12,9 @@ use Rattle.cover_records.specs.CoverBytes.{leaf_map, is_zero}
 use Rattle.cover_records.specs.RoundTrip.{SmallLag}
 use Rattle.signed.specs.RangeLaws.{back}
 use Rattle.cover_writer.specs.Writing.{Wrote, LutAsked, leaf_bytes, value_bytes}
-use Rattle.cover_writer.specs.BytesBehind.{wrote-behind, wrote-within, wrote-fits, room-behind}
+use Rattle.cover_writer.specs.BytesBehind.{wrote-behind, room-behind}
 use Rattle.cover_writer.specs.LagBytesLaws.{lag-fits, flag_small}
 use Rattle.cover_writer.specs.LutBytesLaws.{head_bytes, lut-bytes, map_below}
-use Rattle.std.proofs.Common.{rules}
 use Rattle.cover_writer.proofs.write_lut.Goals as goal
 
 -- `cover_writer::write_lut` meets its contract: the leaves stand behind the first three bytes, and the lag and the table behind them.

@@ -11,10 +11,9 @@ use Rattle.cover_records.specs.CoverBytes.{lag_bytes, to_bytes}
 use Rattle.cover_records.specs.RoundTrip.{length_to_bytes, SmallLag}
 use Rattle.signed.specs.RangeLaws.{back}
 use Rattle.cover_writer.specs.Writing.{Wrote, value_bytes}
-use Rattle.cover_writer.specs.BytesBehind.{wrote-behind, wrote-within, wrote-fits, room-behind}
+use Rattle.cover_writer.specs.BytesBehind.{wrote-behind, room-behind}
 use Rattle.cover_writer.specs.LagBytesLaws.{lag-fits}
 use Rattle.cover_writer.specs.LutBytesLaws.{value-bytes}
-use Rattle.std.proofs.Common.{rules}
 use Rattle.cover_writer.proofs.write_values.Goals as goal
 
 -- `cover_writer::write_values` meets its contract: the table stands behind the lag.
