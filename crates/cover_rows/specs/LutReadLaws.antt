@@ -1,5 +1,5 @@
 -- Laws of reading a LUT, one for each way out.
-use Rattle.std.specs.Prelude.{◌≡◌, refl, Bool, false, List, ℕ, ◌%◌, ◌/◌, ◌^◌, ◌≤◌, ◌<◌, ℤ, length, get_or, take, drop}
+use Rattle.std.specs.Prelude.{◌≡◌, refl, Bool, false, List, ℕ, ◌%◌, ◌/◌, ◌^◌, ◌≤◌, ℤ, length, get_or, take, drop, Ok}
 use Rattle.std.proofs.Common.{sym, ap₂, ◌∙◌, arith, length-take-le}
 use Rattle.std.proofs.Math.Path.{ap}
 use Rattle.std.proofs.Math.Bool.{true}
@@ -12,7 +12,7 @@ use Rattle.net_model.specs.Arrays.{copies_from}
 use Rattle.net_model.specs.ArrayLaws.{copies-listed}
 use Rattle.net_model.specs.Copies.{Copy, copy}
 use Rattle.cover_theory.specs.Key.{Entry}
-use Rattle.net_bytes.specs.Reading.{Result, Reader, ◌>>=◌, and_then, give, check, times, between, got, refused}
+use Rattle.net_bytes.specs.Reading.{Result as Outcome, Reader, ◌>>=◌, and_then, give, check, times, between, got, refused}
 use Rattle.net_bytes.specs.Readers.{then-goes, then-stops, byte-got}
 use Rattle.net_bytes.specs.Sound.{between-true}
 use Rattle.net_bytes.specs.Walk.{table_bytes, from_bytes, first}
@@ -20,15 +20,11 @@ use Rattle.cover_records.specs.CoverBytes.{cover_number, depth_reader, leaves_fr
 use Rattle.cover_records.specs.CoverStages.{front, front_reader}
 use Rattle.cover_records.specs.LutStages.{from_table, from_lags, from_leaves, from_depths, from_nodes, from_map, from_size, body_stages}
 use Rattle.net_fields.specs.Fields.{field_byte, field_number}
-use Rattle.net_fields.specs.FieldLaws.{onward-stopping, not-both}
 use Rattle.net_fields.specs.FieldListLaws.{take-alike}
 use Rattle.net_fields.specs.declared.CoverField.TheVariants.{Size, Map, Table}
 use Rattle.net_fields.specs.declared.Field.TheVariants.{Cover}
 use Rattle.net_fields.specs.declared.NumberField.TheVariants.{Leaf, Depth, Lag}
-use Rattle.net_fields.specs.declared.Verdict.TheVariants.{Read, Refused}
-use Rattle.cover_rows.specs.declared.Head.{Head}
-use Rattle.cover_rows.specs.declared.Leaves.{Leaves}
-use Rattle.cover_rows.specs.LutParts.{HeadRead, LeavesRead, Spread}
+use Rattle.cover_rows.specs.LutParts.{HeadRead, Spread}
 use Rattle.cover_rows.specs.LeafSpreadLaws.{leaves_from-alike}
 
 -- ---- what stands before the LUTs
@@ -72,21 +68,9 @@ module _ {R : Rules} (o : Offered R) (s : List ℕ) where
 pub size_few : (k n : ℕ) (t u : List ℕ) → field_byte (Cover Size) k t ≡ got n u → n ≤ k
 size_few k n t u e = (between-true 1 k n (byte-got 13 13 (between 1 k) t n u e)).1
 
--- the numbers of a head that was not read
-abbrev pub NoHead : ℕ → Head → Type 0
-NoHead n h = (h.verdict ≡ Refused n) × (h.size ≡ 0) × (h.map ≡ 0)
-
 module _ (s : List ℕ) (at k : ℕ) where
-  stop-head : {j : ℕ} (h : Head) → ((w : Bool) (nodes root : ℕ) → lut_body w nodes k root (drop at s) ≡ refused j) → NoHead j h → HeadRead s at k h
-  stop-head h e bad =
-      let size = bad.1 in
-      record {
-        result = λ w nodes root. onward-stopping (from_map w nodes root h.size h.map (drop h.at s)) (e w nodes root) bad.0;
-        few = omega arith;
-      }
-
-  pub size-stops : {j : ℕ} (h : Head) → field_byte (Cover Size) k (drop at s) ≡ refused j → NoHead j h → HeadRead s at k h
-  size-stops h f bad = stop-head h (λ w nodes root. body_stages w nodes k root (drop at s) ∙ then-stops (from_size w nodes root) f) bad
+  pub size-stops : {j : ℕ} → field_byte (Cover Size) k (drop at s) ≡ refused j → (w : Bool) (nodes root : ℕ) → lut_body w nodes k root (drop at s) ≡ refused j
+  size-stops f w nodes root = body_stages w nodes k root (drop at s) ∙ then-stops (from_size w nodes root) f
 
   module _ (n : ℕ) (u : List ℕ) (f : field_byte (Cover Size) k (drop at s) ≡ got n u) (p : ℕ) (is : p ≡ 2 ^ n) where
     size-goes : (w : Bool) (nodes root : ℕ) → lut_body w nodes k root (drop at s) ≡ and_then (field_byte (Cover Map) p u) (from_map w nodes root n)
@@ -94,10 +78,10 @@ module _ (s : List ℕ) (at k : ℕ) where
         body_stages w nodes k root (drop at s) ∙ then-goes (from_size w nodes root) f
         ∙ ap (λ (x : ℕ). and_then (field_byte (Cover Map) x u) (from_map w nodes root n)) (sym is)
 
-    pub map-stops : {j : ℕ} (h : Head) → field_byte (Cover Map) p u ≡ refused j → NoHead j h → HeadRead s at k h
-    map-stops h g bad = stop-head h (λ w nodes root. size-goes w nodes root ∙ then-stops (from_map w nodes root n) g) bad
+    pub map-stops : {j : ℕ} → field_byte (Cover Map) p u ≡ refused j → (w : Bool) (nodes root : ℕ) → lut_body w nodes k root (drop at s) ≡ refused j
+    map-stops g w nodes root = size-goes w nodes root ∙ then-stops (from_map w nodes root n) g
 
-    pub head-goes : (m end : ℕ) → field_byte (Cover Map) p u ≡ got m (drop end s) → k ≤ most_k → HeadRead s at k (record { verdict = Read; at = end; size = n; map = m })
+    pub head-goes : (m end : ℕ) → field_byte (Cover Map) p u ≡ got m (drop end s) → k ≤ most_k → HeadRead s at k (Ok (record { value = record { size = n; map = m }; at = end }))
     head-goes m end g six =
         let few = size_few k n (drop at s) u f in
         record { result = λ w nodes root. size-goes w nodes root ∙ then-goes (from_map w nodes root n) g; few = omega arith }
@@ -110,14 +94,8 @@ leaves-made b n m S D backs long hs hd sp =
     ∙ listed-first (copies-listed (take n S) backs) (copies-listed S backs) n (λ i l. ap (λ (x : ℕ). copy x (get_or backs i 0)) (take-alike n S hs i))
 
 module _ (w : Bool) (s : List ℕ) (at nodes n map : ℕ) where
-  stop-leaves : {j : ℕ} (l : Leaves) → ((root : ℕ) → from_map w nodes root n map (drop at s) ≡ refused j) → l.verdict ≡ Refused j → LeavesRead w s at nodes n map l
-  stop-leaves l e bad = record {
-    result = λ root. onward-stopping (from_leaves w root n map (copies_from l.nodes l.backs 0 n) (drop l.at s)) (e root) bad;
-    small = λ good. absurd (not-both good bad);
-  }
-
-  pub nodes-stop : {j : ℕ} (l : Leaves) → times n (field_number w Leaf nodes) (drop at s) ≡ refused j → l.verdict ≡ Refused j → LeavesRead w s at nodes n map l
-  nodes-stop l e bad = stop-leaves l (λ root. then-stops (from_nodes w root n map) e) bad
+  pub nodes-stop : {j : ℕ} → times n (field_number w Leaf nodes) (drop at s) ≡ refused j → (root : ℕ) → from_map w nodes root n map (drop at s) ≡ refused j
+  nodes-stop e root = then-stops (from_nodes w root n map) e
 
   module _ (us t : List ℕ) (e : times n (field_number w Leaf nodes) (drop at s) ≡ got us t) (m : ℕ) (em : m ≡ ones (map % 64)) where
     nodes-go : (root : ℕ) → from_map w nodes root n map (drop at s) ≡ and_then (times m (field_number true Depth 0) t) (from_depths w root n map us)
@@ -125,8 +103,8 @@ module _ (w : Bool) (s : List ℕ) (at nodes n map : ℕ) where
     nodes-go root =
         then-goes (from_nodes w root n map) e ∙ ap (λ (x : ℕ). and_then (times x (field_number true Depth 0) t) (from_depths w root n map us)) (sym em)
 
-    pub depths-stop : {j : ℕ} (l : Leaves) → times m (field_number true Depth 0) t ≡ refused j → l.verdict ≡ Refused j → LeavesRead w s at nodes n map l
-    depths-stop l f bad = stop-leaves l (λ root. nodes-go root ∙ then-stops (from_depths w root n map us) f) bad
+    pub depths-stop : {j : ℕ} → times m (field_number true Depth 0) t ≡ refused j → (root : ℕ) → from_map w nodes root n map (drop at s) ≡ refused j
+    depths-stop f root = nodes-go root ∙ then-stops (from_depths w root n map us) f
 
     module _ (ds u : List ℕ) (f : times m (field_number true Depth 0) t ≡ got ds u) (L : List Copy) (is : leaves_from (map % 64) us ds ≡ L) where
       depths-go : (root : ℕ) → from_map w nodes root n map (drop at s) ≡ and_then (check (rising_leaves L) 13 L u) (from_leaves w root n map)
@@ -134,8 +112,8 @@ module _ (w : Bool) (s : List ℕ) (at nodes n map : ℕ) where
           nodes-go root ∙ then-goes (from_depths w root n map us) f
           ∙ ap (λ (x : List Copy). and_then (check (rising_leaves x) 13 x u) (from_leaves w root n map)) is
 
-      pub rising-stop : (l : Leaves) → rising_leaves L ≡ false → l.verdict ≡ Refused 13 → LeavesRead w s at nodes n map l
-      rising-stop l g bad = stop-leaves l (λ root. depths-go root ∙ ap (λ (x : Bool). and_then (check x 13 L u) (from_leaves w root n map)) g) bad
+      pub rising-stop : rising_leaves L ≡ false → (root : ℕ) → from_map w nodes root n map (drop at s) ≡ refused 13
+      rising-stop g root = depths-go root ∙ ap (λ (x : Bool). and_then (check x 13 L u) (from_leaves w root n map)) g
 
       pub leaves-go : rising_leaves L ≡ true → (root : ℕ) → from_map w nodes root n map (drop at s) ≡ from_leaves w root n map L u
       leaves-go g root = depths-go root ∙ ap (λ (x : Bool). and_then (check x 13 L u) (from_leaves w root n map)) g
@@ -159,4 +137,4 @@ module _ (w : Bool) (n map q b : ℕ) (eq : q ≡ map / 64) (eb : b ≡ table_by
         → from_leaves w root n map L t ≡ got (record { root = root; leaves = L; lag = z; table = table }) v
     tail-goes T v f z table ez et =
         lags-go ∙ then-goes (from_table w root L lags) f
-        ∙ ap₂ {C = Result Entry} (λ (x : ℤ) (y : ℕ). got (record { root = root; leaves = L; lag = x; table = y }) v) (sym ez) (sym et)
+        ∙ ap₂ {C = Outcome Entry} (λ (x : ℤ) (y : ℕ). got (record { root = root; leaves = L; lag = x; table = y }) v) (sym ez) (sym et)

@@ -1,43 +1,32 @@
-use mathlib.Core.Path.{ap, ◌∙◌}
-use Prim.Native.Nat.{ℕ, ◌^◌}
-use lib.ListN.{drop}
-use native.Mathlib.Omega.{arith}
-use Rattle.net_fields.specs.FieldLaws.{went, stopped}
-use Rattle.cover_rows.specs.LutReadLaws.{size_few, size-stops, map-stops, head-goes}
-use Rattle.std.proofs.Common.{rules}
+use Rattle.std.proofs.Common.{ap, ◌∙◌, ℕ, ◌^◌, drop}
+use Rattle.std.proofs.lemmas.Result.{err_from_is_err_and}
+use Rattle.cover_rows.specs.LutReadLaws.{size-stops, map-stops, head-goes}
 use Rattle.cover_rows.proofs.read_head.Goals as goal
 
-pub returns-in-Refused : goal.returns-in-Refused
-returns-in-Refused c =
+pub returns-in_err-size : goal.returns-in_err-size
+returns-in_err-size c =
     let a = c.args in
-    let s = a.bytes.now in
-    let z = c.read_byte-size in
-    let n = c.no_head in
-    size-stops s a.at a.k n.result (stopped z.result.value (drop z.result.at s) z.ensures c.in-Refused.is) n.ensures
+    let p = err_from_is_err_and c.from_residual.result c.from_residual.ensures.1 in
+    rw (p.1, p.2) (record { result = size-stops a.bytes.now a.at a.k c.in_err-size.ensures; few = tt })
 
-pub returns-in-Refused-w : goal.returns-in-Refused-w
-returns-in-Refused-w c =
-    let power = c.power in
+pub returns-in_err-map : goal.returns-in_err-map
+returns-in_err-map c =
     let a = c.args in
     let s = a.bytes.now in
-    let z = c.read_byte-size in
-    let x = c.read_byte-map in
-    let n = c.no_head-in-Refused-w in
-    map-stops s a.at a.k z.result.value (drop z.result.at s)
-    (went z.result.value (drop z.result.at s) z.ensures c.in_default.is) power.result
-    (power.ensures ∙ ap (λ (e : ℕ). 2 ^ e) c.wide-n.ensures)
-    n.result (stopped x.result.value (drop x.result.at s) x.ensures c.in-Refused-w.is) n.ensures
+    let z = c.in_ok-size in
+    let p = err_from_is_err_and c.from_residual-in_err-map.result c.from_residual-in_err-map.ensures.1 in
+    rw (p.1, p.2)
+    (record {
+      result = map-stops s a.at a.k z.size.value (drop z.size.at s) z.ensures c.power.result (c.power.ensures ∙ ap (λ (e : ℕ). 2 ^ e) c.from-n.ensures) c.in_err-map.ensures;
+      few = tt;
+    })
 
 pub returns : goal.returns
 returns c =
-    let power = c.power in
-    let wide = c.wide-n in
-    let start = c in
     let a = c.args in
     let s = a.bytes.now in
-    let z = c.read_byte-size in
-    let x = c.read_byte-map in
-    rw wide.ensures (head-goes s a.at a.k z.result.value (drop z.result.at s)
-    (went z.result.value (drop z.result.at s) z.ensures c.in_default.is) power.result
-    (power.ensures ∙ ap (λ (e : ℕ). 2 ^ e) wide.ensures)
-    x.result.value x.result.at (went x.result.value (drop x.result.at s) x.ensures c.in_default-w.is) c.requires)
+    let z = c.in_ok-size in
+    let x = c.in_ok-map in
+    rw c.from-n.ensures
+    (head-goes s a.at a.k z.size.value (drop z.size.at s) z.ensures c.power.result (c.power.ensures ∙ ap (λ (e : ℕ). 2 ^ e) c.from-n.ensures)
+    x.map.value x.map.at x.ensures c.requires)

@@ -1,29 +1,26 @@
-use mathlib.Core.Path.{◌≡◌, sym, ◌∙◌}
-use Prim.Native.Nat.{◌≤◌, ◌-◌}
-use native.Mathlib.Omega.{arith}
-use borrow.Author.Tests.{not-true, not-false}
-use Rattle.limits.specs.Limits.{most_pins}
-use Rattle.net_model.specs.Arrays.{copies_from}
-use Rattle.cover_records.specs.CoverBytes.{rising_leaves}
-use Rattle.cover_rows.specs.RisingLaws.{rising_none, rising-one, rising-stops, rising-all}
-use Rattle.std.proofs.Common.{rules}
+use Rattle.std.proofs.Common.{◌≡◌, sym, ap, subst, ◌∙◌, ℕ, ◌+◌, ◌-◌, arith}
+use Rattle.net_model.specs.Arrays.{copy_at, copies_from}
+use Rattle.cover_records.specs.CoverBytes.{before, rising_leaves}
+use Rattle.cover_rows.specs.RisingLaws.{rising-one, rising-stops, rising-all}
 use Rattle.cover_rows.proofs.rising.Goals as goal
 
 pub returns-then-not-comes_before : goal.returns-then-not-comes_before
 returns-then-not-comes_before c =
-    let loop = c.loop-i in
-    let start = c in
-    rising-stops c.args.nodes c.args.backs c.args.n loop.i loop.invariant.2 (omega arith) (sym c.comes_before.ensures ∙ c.if-not-comes_before.true)
+    let a = c.args in
+    let i = c.loop-i.i in
+    let next : i - 1 + 1 ≡ i = omega arith in
+    rising-stops a.nodes a.backs a.n (i - 1) c.loop-i.invariant (omega arith)
+    (ap (λ (k : ℕ). before (copy_at a.nodes a.backs (i - 1)) (copy_at a.nodes a.backs k)) next ∙ sym c.comes_before.ensures ∙ c.if-not-comes_before.true)
 
 pub loop-i-preserved : goal.loop-i-preserved
 loop-i-preserved c =
-    let loop = c.loop-i in
-    let start = c in (
-      loop.invariant.0,
-      omega (arith, loop.invariant.0),
-      rising-one c.args.nodes c.args.backs c.args.n loop.i loop.invariant.2 (omega arith)
-          (sym c.comes_before.ensures ∙ c.if-not-comes_before.false),
-    )
+    let a = c.args in
+    let i = c.loop-i.i in
+    let next : i - 1 + 1 ≡ i = omega arith in
+    let after : i - 1 + 1 ≡ i + 1 - 1 = omega arith in
+    subst (λ (k : ℕ). rising_leaves (copies_from a.nodes a.backs 0 a.n) ≡ rising_leaves (copies_from a.nodes a.backs k (a.n - k))) after
+    (rising-one a.nodes a.backs a.n (i - 1) c.loop-i.invariant (omega arith)
+    (ap (λ (k : ℕ). before (copy_at a.nodes a.backs (i - 1)) (copy_at a.nodes a.backs k)) next ∙ sym c.comes_before.ensures ∙ c.if-not-comes_before.false))
 
 pub returns : goal.returns
-returns c = rising-all c.args.nodes c.args.backs c.args.n c.loop-i.i c.loop-i.invariant.2 (omega arith)
+returns c = rising-all c.args.nodes c.args.backs c.args.n (c.loop-i.i - 1) c.loop-i.invariant (omega arith)

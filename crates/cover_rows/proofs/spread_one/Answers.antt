@@ -1,6 +1,5 @@
 use mathlib.Core.Path.{sym, ◌∙◌}
 use Rattle.cover_rows.specs.LeafSpreadLaws.{spread_flat, spread_deep}
-use Rattle.std.proofs.Common.{rules}
 use Rattle.cover_rows.proofs.spread_one.Goals as goal
 
 pub returns-then-has : goal.returns-then-has
