@@ -1,5 +1,5 @@
 -- A copy added to the forced set: it is one of the members, or refutes every cut.
-use Rattle.std.specs.Prelude.{◌≡◌, refl, List, ◌∷◌, map, ◌⊎◌, ℕ, ◌+◌, ◌-◌, ◌*◌, ◌/◌, ◌%◌, ◌^◌, ◌≤◌, ◌<◌, length, get_or, set}
+use Rattle.std.specs.Prelude.{◌≡◌, refl, Result, List, ◌∷◌, map, ◌⊎◌, ℕ, ◌+◌, ◌-◌, ◌*◌, ◌/◌, ◌%◌, ◌^◌, ◌≤◌, ◌<◌, length, get_or, set}
 use Rattle.std.proofs.Common.{sym, ap, subst, ◌∙◌, inl, inr, mul-le-mul_left, mul-le-mul_right, div-add-mod', arith, length-set, get_or-set_same, get_or-set_other}
 use Rattle.std.proofs.Math.Decide.{ℕ_discrete, dec_lt}
 use Rattle.std.proofs.lemmas.List.{length-map}
@@ -16,7 +16,7 @@ use Rattle.cut_circuit.specs.CircuitLaws.{node-below, place-held}
 use Rattle.cut_circuit.specs.Bridge.{decode}
 use Rattle.cut_forced.specs.Slots.{marked, Inner, gate_at, slot_at, holding, Slotted}
 use Rattle.cut_forced.specs.SlotLaws.{gate-inside, inner-marked, slot-node, slot-back, slot-marked, marked-few, slotted-holding, marked-after, marked-new, marked-before}
-use Rattle.cut_forced.specs.Forcing.{Target, ForcedAt, Refuted, Growing, Grew, Told, AddAsked, Added, there-before, there-now, must_not}
+use Rattle.cut_forced.specs.Forcing.{Target, ForcedAt, Refuted, Growing, Grew, Grown, Told, AddAsked, Added, there-before, there-now, must_not}
 
 -- ---- the numbers of `add`
 pub few-fits : (inputs gates width k : ℕ) → 0 < width → (inputs + gates) * width * 16 < 2 ^ 32 → k ≤ most_k → k * gates < 2 ^ 32
@@ -209,27 +209,24 @@ grew_trans f g = record {
 }
 
 module _ {W : Circuit} {T : Target} {k : ℕ} {slots members : List ℕ} {m : ℕ} (G : Growing W T k slots members m) where
-  pub told_same : (P : List ℕ → Type 0) → P slots → Told W T k P slots members m slots members m
-  told_same P p = record { growing = λ h. G; grew = λ h. grew_refl W slots members m; done = λ h. p; refutes = λ h. absurd (omega (arith, h, G.few)) }
+  pub told_same : (P : List ℕ → Type 0) → P slots → Grown W T k P slots members m slots members m
+  told_same P p = record { growing = G; grew = grew_refl W slots members m; done = p }
 
   module _ (y : ℕ) (f : ForcedAt W T y) (below : y < total W) where
-    pub told_added : {slots' members' : List ℕ} {r : ℕ} → Added W.inputs W.gates W.width W.border k slots members m y slots' members' r
+    pub told_added : {slots' members' : List ℕ} {r : Result ℕ ℕ} → Added W.inputs W.gates W.width W.border k slots members m y slots' members' r
         → Told W T k (λ (s : List ℕ). 0 < marked W s y) slots members m slots' members' r
     told_added {r} (there-before e p q h) = rw e (rw p (rw q (told_same (λ (s : List ℕ). 0 < marked W s y) h)))
     told_added {r} (there-now e p q z ends h) = rw e (rw p (rw q (record {
-      growing = λ l. growing-add G y i z h f;
-      grew = λ l. grew-add G y i z h;
-      done = λ l. new G y i z h;
-      refutes = λ l. absurd (omega (arith, l, (growing-add G y i z h f).few));
+      growing = growing-add G y i z h f;
+      grew = grew-add G y i z h;
+      done = new G y i z h;
     })))
       where
         i : Inner W y
         i = record { below = below; ends = ends }
     told_added {r} (must_not e p q z w) = rw e (rw p (rw q (record {
-      growing = λ l. absurd (omega (arith, l, G.some));
-      grew = λ l. absurd (omega (arith, l, G.some));
-      done = λ l. absurd (omega (arith, l, G.some));
-      refutes = λ l. record { count = m; sum = refl; growing = G; refuted = go w };
+      growing = G;
+      refuted = go w;
     })))
       where
         go : (0 < ending_at W.inputs W.width W.border y) ⊎ ((ending_at W.inputs W.width W.border y ≡ 0) × (k ≤ get_or slots (gate_at W y) 0)) → Refuted W T k

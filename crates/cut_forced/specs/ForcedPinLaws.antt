@@ -1,5 +1,5 @@
 -- The pins of a member: the source of each may be a leaf, or is forced.
-use Rattle.std.specs.Prelude.{◌≡◌, List, ℕ, ◌+◌, ◌*◌, ◌/◌, ◌%◌, ◌^◌, ◌≤◌, ◌<◌, ℤ, pos, ◌-ℤ◌, ◌≤ℤ◌, ◌<ℤ◌}
+use Rattle.std.specs.Prelude.{◌≡◌, Result, Ok, Err, List, ℕ, ◌+◌, ◌*◌, ◌/◌, ◌%◌, ◌^◌, ◌≤◌, ◌<◌, ℤ, pos, ◌-ℤ◌, ◌≤ℤ◌, ◌<ℤ◌}
 use Rattle.std.proofs.Common.{sym, subst, ◌∙◌, inl, inr, not-suc-le-zero, mul-le-mul_left, mod-lt, arith}
 use Rattle.std.proofs.Math.Decide.{ℕ_discrete}
 use Rattle.integers.specs.Parts.{ints, sub_parts}
@@ -15,7 +15,7 @@ use Rattle.cut_circuit.specs.Packed.{GateAsked, SourceAsked}
 use Rattle.cut_circuit.specs.Bridge.{Holds, decode, encode, to-feeds, from-feeds}
 use Rattle.cut_forced.specs.Slots.{marked, Inner}
 use Rattle.cut_forced.specs.SlotLaws.{gate-inside}
-use Rattle.cut_forced.specs.Forcing.{filled, Target, target, LowOf, ForcedAt, Ground, Growing, Told, Settled, Looked, LowAsked, PinAsked, PinTold, leaf, forced}
+use Rattle.cut_forced.specs.Forcing.{filled, Target, target, LowOf, ForcedAt, Ground, Growing, Grown, Told, Settled, Looked, LowAsked, PinAsked, PinTold, leaf, forced}
 use Rattle.cut_forced.specs.AddLaws.{grew_trans, told_same, told_added, few-fits, room_for}
 
 -- ---- a leaf low enough
@@ -61,11 +61,8 @@ module _ {W : Circuit} {N : Net} (H : Holds W N) where
 
 -- ---- the ways of a pin
 module _ {W : Circuit} {T : Target} {k : ℕ} {P Q : List ℕ → Type 0} {slots members : List ℕ} {m : ℕ} {slots' members' : List ℕ} {r : ℕ} where
-  pub told_lost : k * W.gates < r → Told W T k P slots members m slots' members' r → Told W T k Q slots members m slots' members' r
-  told_lost h o = record { growing = o.growing; grew = o.grew; done = λ l. absurd (omega (arith, h, l)); refutes = o.refutes }
-
-  pub told-then : ((s : List ℕ) → P s → Q s) → Told W T k P slots members m slots' members' r → Told W T k Q slots members m slots' members' r
-  told-then f o = record { growing = o.growing; grew = o.grew; done = λ l. f slots' (o.done l); refutes = o.refutes }
+  pub told-then : ((s : List ℕ) → P s → Q s) → Grown W T k P slots members m slots' members' r → Grown W T k Q slots members m slots' members' r
+  told-then f o = record { growing = o.growing; grew = o.grew; done = f slots' o.done }
 
 -- ---- the pins of a member
 pub settled-grew : (W : Circuit) (T : Target) (slots slots' : List ℕ) (x j : ℕ) → ((z : ℕ) → 0 < marked W slots z → 0 < marked W slots' z)
@@ -122,40 +119,35 @@ module _ {W : Circuit} {ls : List ℤ} {φ k : ℕ} (B : Ground W ls φ k) {x : 
       };
     }
 
-    module _ {v : ℕ} {h : ℤ} {slots members : List ℕ} {m : ℕ} {slots₁ members₁ : List ℕ} {c : ℕ} (few : c ≤ k * W.gates) (member : 0 < marked W slots x)
-        (o : Told W (target ls φ v h) k (Looked W (target ls φ v h) x j) slots members m slots₁ members₁ c) where
+    module _ {v : ℕ} {h : ℤ} {slots members : List ℕ} {m : ℕ} {slots₁ members₁ : List ℕ} {c : ℕ} (member : 0 < marked W slots x)
+        (o : Grown W (target ls φ v h) k (Looked W (target ls φ v h) x j) slots members m slots₁ members₁ c) where
       abbrev T : Target
       T = target ls φ v h
 
       feeder-forced : ¬ LowOf T (decode W (feeder W x j)) → ForcedAt W T (feeder W x j)
-      feeder-forced n N H = Forced.behind (decode W x) ((o.growing few).forced x ((o.grew few).marked x member) N H) (pin-feeds H B i b) n
+      feeder-forced n N H = Forced.behind (decode W x) (o.growing.forced x (o.grew.marked x member) N H) (pin-feeds H B i b) n
 
-      pub told-pin : {slots₂ members₂ : List ℕ} {r : ℕ} → PinTold W.inputs W.gates W.width W.border ls φ h k slots₁ members₁ c (feeder W x j) slots₂ members₂ r
+      pub told-pin : {slots₂ members₂ : List ℕ} {r : Result ℕ ℕ} → PinTold W.inputs W.gates W.width W.border ls φ h k slots₁ members₁ c (feeder W x j) slots₂ members₂ r
           → Told W T k (Looked W T x (j + 1)) slots members m slots₂ members₂ r
       told-pin (leaf e p q l) = rw e (rw p (rw q (record {
         growing = o.growing;
         grew = o.grew;
-        done = λ t z s. next z s (ℕ_discrete z j);
-        refutes = o.refutes;
+        done = λ z s. next z s (ℕ_discrete z j);
       })))
         where
           next : (z : ℕ) → z < j + 1 → Dec (z ≡ j) → Settled W T slots₁ x z
           next z s (yes t) = subst (Settled W T slots₁ x) (sym t) (inl l)
-          next z s (no n) = o.done few z (omega (arith, s, n))
-      told-pin {slots₂} {members₂} {r} (forced n a) = record {
-        growing = u.growing;
-        grew = λ t. grew_trans (o.grew few) (u.grew t);
-        done = λ t z s. next t z s (ℕ_discrete z j);
-        refutes = u.refutes;
-      }
+          next z s (no n) = o.done z (omega (arith, s, n))
+      told-pin {slots₂} {members₂} {r} (forced n a) = go r (told_added o.growing (feeder W x j) (feeder-forced n) feeder-below a)
         where
-          u : Told W T k (λ (s : List ℕ). 0 < marked W s (feeder W x j)) slots₁ members₁ c slots₂ members₂ r
-          u = told_added (o.growing few) (feeder W x j) (feeder-forced n) feeder-below a
+          next : {r : ℕ} → Grown W T k (λ (s : List ℕ). 0 < marked W s (feeder W x j)) slots₁ members₁ c slots₂ members₂ r → (z : ℕ) → z < j + 1 → Dec (z ≡ j) → Settled W T slots₂ x z
+          next u z s (yes e) = subst (Settled W T slots₂ x) (sym e) (inr u.done)
+          next u z s (no m) = settled-grew W T slots₁ slots₂ x z u.grew.marked (o.done z (omega (arith, s, m)))
 
-          next : r ≤ k * W.gates → (z : ℕ) → z < j + 1 → Dec (z ≡ j) → Settled W T slots₂ x z
-          next t z s (yes e) = subst (Settled W T slots₂ x) (sym e) (inr (u.done t))
-          next t z s (no m) = settled-grew W T slots₁ slots₂ x z (u.grew t).marked (o.done few z (omega (arith, s, m)))
+          go : (r : Result ℕ ℕ) → Told W T k (λ (s : List ℕ). 0 < marked W s (feeder W x j)) slots₁ members₁ c slots₂ members₂ r → Told W T k (Looked W T x (j + 1)) slots members m slots₂ members₂ r
+          go (Ok r) u = record { growing = u.growing; grew = grew_trans o.grew u.grew; done = λ z s. next u z s (ℕ_discrete z j) }
+          go (Err e) u = u
 
 pub told-start : {W : Circuit} {T : Target} {k : ℕ} {slots members : List ℕ} {m : ℕ} (x : ℕ) → Growing W T k slots members m
-    → Told W T k (Looked W T x 0) slots members m slots members m
+    → Grown W T k (Looked W T x 0) slots members m slots members m
 told-start {W} {T} {k} {slots} x G = told_same G (Looked W T x 0) (λ j h. absurd (not-suc-le-zero h))

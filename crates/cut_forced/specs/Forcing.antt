@@ -1,7 +1,7 @@
 -- Definitions: the forced set by a work list, and what the functions that grow it and take it back ask and tell. `slots` holds the forced copies found by their gates,
 -- `members` lists the m of them. Each pin of a member is looked at once: its source may be a leaf, or is forced. A forced terminal, or more forced copies of one gate
 -- than a cone with k leaves has, refutes every cut.
-use Rattle.std.specs.Prelude.{◌≡◌, List, [], ◌⊎◌, ℕ, suc, ◌+◌, ◌-◌, ◌*◌, ◌/◌, ◌%◌, ◌^◌, ◌≤◌, ◌<◌, ℤ, length, get_or, set}
+use Rattle.std.specs.Prelude.{◌≡◌, Result, Ok, Err, List, [], ◌⊎◌, ℕ, suc, ◌+◌, ◌-◌, ◌*◌, ◌/◌, ◌%◌, ◌^◌, ◌≤◌, ◌<◌, ℤ, length, get_or, set}
 use Rattle.limits.specs.Limits.{most_k}
 use Rattle.net_model.specs.Net.{Net}
 use Rattle.net_model.specs.Copies.{Copy, copy, Cut}
@@ -73,19 +73,21 @@ pub record Grew (W : Circuit) (slots members : List ℕ) (m : ℕ) (slots' membe
   pub marked : (x : ℕ) → 0 < marked W slots x → 0 < marked W slots' x
   pub listed : (a : ℕ) → a < m → get_or members' a 0 ≡ get_or members a 0
 
--- A result above k for each gate: every cut is refuted, and so many are forced as it is above.
-pub record Refutes (W : Circuit) (T : Target) (k : ℕ) (slots members : List ℕ) (r : ℕ) : Type 0 where
-  pub count : ℕ
-  pub sum : r ≡ k * W.gates + count
+-- Every cut is refuted, and so many copies are forced.
+pub record Refutes (W : Circuit) (T : Target) (k : ℕ) (slots members : List ℕ) (count : ℕ) : Type 0 where
   pub growing : Growing W T k slots members count
   pub refuted : Refuted W T k
 
--- The result r of a step that is to make P hold of the slots.
-pub record Told (W : Circuit) (T : Target) (k : ℕ) (P : List ℕ → Type 0) (slots members : List ℕ) (m : ℕ) (slots' members' : List ℕ) (r : ℕ) : Type 0 where
-  pub growing : r ≤ k * W.gates → Growing W T k slots' members' r
-  pub grew : r ≤ k * W.gates → Grew W slots members m slots' members' r
-  pub done : r ≤ k * W.gates → P slots'
-  pub refutes : k * W.gates < r → Refutes W T k slots' members' r
+-- A step has made P hold of the slots, and r copies are forced.
+pub record Grown (W : Circuit) (T : Target) (k : ℕ) (P : List ℕ → Type 0) (slots members : List ℕ) (m : ℕ) (slots' members' : List ℕ) (r : ℕ) : Type 0 where
+  pub growing : Growing W T k slots' members' r
+  pub grew : Grew W slots members m slots' members' r
+  pub done : P slots'
+
+-- The result of a step that is to make P hold of the slots.
+abbrev pub Told : Circuit → Target → ℕ → (List ℕ → Type 0) → List ℕ → List ℕ → ℕ → List ℕ → List ℕ → Result ℕ ℕ → Type 0
+Told W T k P slots members m slots' members' (Ok r) = Grown W T k P slots members m slots' members' r
+Told W T k P slots members m slots' members' (Err c) = Refutes W T k slots' members' c
 
 -- the source of pin j of x may be a leaf, or is forced
 abbrev pub Settled : Circuit → Target → List ℕ → ℕ → ℕ → Type 0
@@ -107,13 +109,13 @@ pub record HoldAsked (gates : ℕ) (slots : List ℕ) (g n d : ℕ) : Type 0 whe
   pub fits : d < 2 ^ 32
 
 -- How copy y was added: it was there, or it is now, or it must not be.
-pub data Added (inputs gates width border k : ℕ) (slots members : List ℕ) (m y : ℕ) (slots' members' : List ℕ) (r : ℕ) : Type 0 where
-  there-before : r ≡ m → slots' ≡ slots → members' ≡ members → 0 < forced_at inputs gates width border slots y
+pub data Added (inputs gates width border k : ℕ) (slots members : List ℕ) (m y : ℕ) (slots' members' : List ℕ) (r : Result ℕ ℕ) : Type 0 where
+  there-before : r ≡ Ok m → slots' ≡ slots → members' ≡ members → 0 < forced_at inputs gates width border slots y
       → Added inputs gates width border k slots members m y slots' members' r
-  there-now : r ≡ m + 1 → slots' ≡ holding gates slots (y / width - inputs) (get_or slots (y / width - inputs) 0) (y % width) → members' ≡ set members m y
+  there-now : r ≡ Ok (m + 1) → slots' ≡ holding gates slots (y / width - inputs) (get_or slots (y / width - inputs) 0) (y % width) → members' ≡ set members m y
       → forced_at inputs gates width border slots y ≡ 0 → ending_at inputs width border y ≡ 0 → get_or slots (y / width - inputs) 0 < k
       → Added inputs gates width border k slots members m y slots' members' r
-  must_not : r ≡ k * gates + m → slots' ≡ slots → members' ≡ members → forced_at inputs gates width border slots y ≡ 0
+  must_not : r ≡ Err m → slots' ≡ slots → members' ≡ members → forced_at inputs gates width border slots y ≡ 0
       → (0 < ending_at inputs width border y) ⊎ ((ending_at inputs width border y ≡ 0) × (k ≤ get_or slots (y / width - inputs) 0))
       → Added inputs gates width border k slots members m y slots' members' r
 
@@ -140,8 +142,8 @@ pub record PinAsked (W : Circuit) (ls : List ℤ) (φ k : ℕ) (slots members : 
   pub low : LowAsked W.width ls φ (feeder W x j)
   pub add : AddAsked W.inputs W.gates W.width W.border k slots members m (feeder W x j)
 
-pub data PinTold (inputs gates width border : ℕ) (ls : List ℤ) (φ : ℕ) (h : ℤ) (k : ℕ) (slots members : List ℕ) (m y : ℕ) (slots' members' : List ℕ) (r : ℕ) : Type 0 where
-  leaf : r ≡ m → slots' ≡ slots → members' ≡ members → Low φ (label_in ls) h (copy (y / width) (y % width))
+pub data PinTold (inputs gates width border : ℕ) (ls : List ℤ) (φ : ℕ) (h : ℤ) (k : ℕ) (slots members : List ℕ) (m y : ℕ) (slots' members' : List ℕ) (r : Result ℕ ℕ) : Type 0 where
+  leaf : r ≡ Ok m → slots' ≡ slots → members' ≡ members → Low φ (label_in ls) h (copy (y / width) (y % width))
       → PinTold inputs gates width border ls φ h k slots members m y slots' members' r
   forced : ¬ Low φ (label_in ls) h (copy (y / width) (y % width)) → Added inputs gates width border k slots members m y slots' members' r
       → PinTold inputs gates width border ls φ h k slots members m y slots' members' r
@@ -153,7 +155,7 @@ pub record MemberAsked (W : Circuit) (ls : List ℤ) (φ : ℕ) (h : ℤ) (k : �
   pub growing : Growing W (target ls φ root h) k slots members m
   pub member : 0 < marked W slots x
 
-abbrev pub MemberTold : Circuit → List ℤ → ℕ → ℤ → ℕ → List ℕ → List ℕ → ℕ → ℕ → List ℕ → List ℕ → ℕ → Type 0
+abbrev pub MemberTold : Circuit → List ℤ → ℕ → ℤ → ℕ → List ℕ → List ℕ → ℕ → ℕ → List ℕ → List ℕ → Result ℕ ℕ → Type 0
 MemberTold W ls φ h k slots members m x slots' members' r =
     (v : ℕ) → Growing W (target ls φ v h) k slots members m → Told W (target ls φ v h) k (AllSettled W (target ls φ v h) x) slots members m slots' members' r
 
@@ -163,13 +165,17 @@ pub record GrowAsked (W : Circuit) (ls : List ℤ) (φ : ℕ) (h : ℤ) (k : ℕ
   pub root : ℕ
   pub growing : Growing W (target ls φ root h) k slots members 1
 
--- The forced set: found and closed, or every cut is refuted.
-pub record ForceTold (W : Circuit) (T : Target) (k : ℕ) (slots members : List ℕ) (r : ℕ) : Type 0 where
-  pub growing : r ≤ k * W.gates → Growing W T k slots members r
-  pub closed : r ≤ k * W.gates → (x : ℕ) → 0 < marked W slots x → AllSettled W T x slots
-  pub refutes : k * W.gates < r → Refutes W T k slots members r
+-- The forced set is found and closed.
+pub record AllForced (W : Circuit) (T : Target) (k : ℕ) (slots members : List ℕ) (r : ℕ) : Type 0 where
+  pub growing : Growing W T k slots members r
+  pub closed : (x : ℕ) → 0 < marked W slots x → AllSettled W T x slots
 
-abbrev pub GrowTold : Circuit → List ℤ → ℕ → ℤ → ℕ → List ℕ → List ℕ → List ℕ → List ℕ → ℕ → Type 0
+-- The forced set: found and closed, or every cut is refuted.
+abbrev pub ForceTold : Circuit → Target → ℕ → List ℕ → List ℕ → Result ℕ ℕ → Type 0
+ForceTold W T k slots members (Ok r) = AllForced W T k slots members r
+ForceTold W T k slots members (Err c) = Refutes W T k slots members c
+
+abbrev pub GrowTold : Circuit → List ℤ → ℕ → ℤ → ℕ → List ℕ → List ℕ → List ℕ → List ℕ → Result ℕ ℕ → Type 0
 GrowTold W ls φ h k slots members slots' members' r =
     (v : ℕ) → Growing W (target ls φ v h) k slots members 1 → ForceTold W (target ls φ v h) k slots' members' r
 

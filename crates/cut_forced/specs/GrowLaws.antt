@@ -1,5 +1,5 @@
 -- The forced set grown from its root, member by member, and taken back.
-use Rattle.std.specs.Prelude.{◌≡◌, refl, List, ◌++◌, ℕ, zero, suc, ◌+◌, ◌-◌, ◌*◌, ◌/◌, ◌%◌, ◌^◌, ◌≤◌, ◌<◌, ℤ, length, get_or, set, take, drop}
+use Rattle.std.specs.Prelude.{◌≡◌, refl, Result, Ok, Err, List, ◌++◌, ℕ, zero, suc, ◌+◌, ◌-◌, ◌*◌, ◌/◌, ◌%◌, ◌^◌, ◌≤◌, ◌<◌, ℤ, length, get_or, set, take, drop}
 use Rattle.std.proofs.Common.{sym, ap, subst, ◌∙◌, not-suc-le-zero, mul-le-mul_right, arith, length-set, length-append, get_or-set_same, get_or-set_other, get_or-append-add, get_or-take, get_or-drop, length-take-le}
 use Rattle.std.proofs.Math.Decide.{ℕ_discrete}
 use Rattle.std.proofs.Math.ListN.{get_or-append}
@@ -9,7 +9,7 @@ use Rattle.cut_circuit.specs.Circuit.{Circuit, total}
 use Rattle.cut_circuit.specs.CircuitLaws.{wide-positive, node_of, back-of, copy-inside}
 use Rattle.cut_forced.specs.Slots.{marked, Inner, gate_at, slot_at, holding, Slotted, Unmarked}
 use Rattle.cut_forced.specs.SlotLaws.{gate-inside, marked-inner, none-held, none-marked, none-slotted, slot-node, slot-marked, slotted-holding, marked-new, marked-before}
-use Rattle.cut_forced.specs.Forcing.{Target, target, Growing, Refutes, Told, AllSettled, HoldAsked, ForceTold, Progress, ForceAsked, SameFrom, Listed}
+use Rattle.cut_forced.specs.Forcing.{Target, target, Growing, Grown, Refutes, AllSettled, HoldAsked, AllForced, ForceTold, Progress, ForceAsked, SameFrom, Listed}
 use Rattle.cut_forced.specs.ForcedPinLaws.{settled-grew}
 
 -- ---- the members
@@ -18,27 +18,22 @@ module _ {W : Circuit} {T : Target} {k : ℕ} where
   progress_start G = record { growing = G; closed = λ a h. absurd (not-suc-le-zero h) }
 
   module _ {slots members : List ℕ} {m i : ℕ} (w : Progress W T k slots members m i) where
-    pub progress_step : {slots' members' : List ℕ} {r : ℕ} → i < m → r ≤ k * W.gates → Told W T k (AllSettled W T (get_or members i 0)) slots members m slots' members' r
+    pub progress_step : {slots' members' : List ℕ} {r : ℕ} → i < m → Grown W T k (AllSettled W T (get_or members i 0)) slots members m slots' members' r
         → Progress W T k slots' members' r (i + 1)
-    progress_step {slots'} {members'} h t o = record { growing = o.growing t; closed = λ a p. closed a p (ℕ_discrete a i) }
+    progress_step {slots'} {members'} h o = record { growing = o.growing; closed = λ a p. closed a p (ℕ_discrete a i) }
       where
         closed : (a : ℕ) → a < i + 1 → Dec (a ≡ i) → AllSettled W T (get_or members' a 0) slots'
-        closed a p (yes e) = subst (λ (x : ℕ). AllSettled W T x slots') (sym (ap (λ (n : ℕ). get_or members' n 0) e ∙ (o.grew t).listed i h)) (o.done t)
+        closed a p (yes e) = subst (λ (x : ℕ). AllSettled W T x slots') (sym (ap (λ (n : ℕ). get_or members' n 0) e ∙ o.grew.listed i h)) o.done
         closed a p (no n) =
             let q : a < i = omega (arith, p, n) in
-            subst (λ (x : ℕ). AllSettled W T x slots') (sym ((o.grew t).listed a (omega (arith, q, h))))
-            (λ j b. settled-grew W T slots slots' (get_or members a 0) j (o.grew t).marked (w.closed a q j b))
+            subst (λ (x : ℕ). AllSettled W T x slots') (sym (o.grew.listed a (omega (arith, q, h))))
+            (λ j b. settled-grew W T slots slots' (get_or members a 0) j o.grew.marked (w.closed a q j b))
 
-    pub progress_end : m ≤ i → ForceTold W T k slots members m
+    pub progress_end : m ≤ i → AllForced W T k slots members m
     progress_end h = record {
-      growing = λ t. w.growing;
-      closed = λ t x p. let r = w.growing.all x p in subst (λ (y : ℕ). AllSettled W T y slots) r.2 (w.closed r.0 (omega (arith, r.1, h)));
-      refutes = λ t. absurd (omega (arith, t, w.growing.few));
+      growing = w.growing;
+      closed = λ x p. let r = w.growing.all x p in subst (λ (y : ℕ). AllSettled W T y slots) r.2 (w.closed r.0 (omega (arith, r.1, h)));
     }
-
-  pub progress_lost : {P : List ℕ → Type 0} {slots members slots' members' : List ℕ} {m r : ℕ} → k * W.gates < r
-      → Told W T k P slots members m slots' members' r → ForceTold W T k slots' members' r
-  progress_lost h o = record { growing = λ t. absurd (omega (arith, h, t)); closed = λ t. absurd (omega (arith, h, t)); refutes = o.refutes }
 
 -- what stands behind the first n places, where those were written anew
 get_or_behind : (x l : List ℕ) (n : ℕ) → length x ≡ n → SameFrom n l (x ++ drop n l)
@@ -157,12 +152,9 @@ module _ {W : Circuit} {T : Target} {k : ℕ} {slots members : List ℕ} where
   growing-front rest G =
       growing-same (omega (arith, G.space, length-append members rest)) (λ i h. get_or-append members rest 0 i (omega (arith, h, G.space))) G
 
-  pub told-front : (rest : List ℕ) {r : ℕ} → ForceTold W T k slots members r → ForceTold W T k slots (members ++ rest) r
-  told-front rest o = record {
-    growing = λ t. growing-front rest (o.growing t);
-    closed = o.closed;
-    refutes = λ t. let f = o.refutes t in record { count = f.count; sum = f.sum; growing = growing-front rest f.growing; refuted = f.refuted };
-  }
+pub told-front : (W : Circuit) (T : Target) (k : ℕ) (slots members rest : List ℕ) (r : Result ℕ ℕ) → ForceTold W T k slots members r → ForceTold W T k slots (members ++ rest) r
+told-front W T k slots members rest (Ok r) o = record { growing = growing-front rest o.growing; closed = o.closed }
+told-front W T k slots members rest (Err c) o = record { growing = growing-front rest o.growing; refuted = o.refuted }
 
 -- ---- forced copies taken away
 listed-step : {inputs gates width : ℕ} {slots members : List ℕ} {i : ℕ} → Listed inputs gates width slots members i → i < length members
@@ -237,12 +229,9 @@ module _ {W : Circuit} {T : Target} {k : ℕ} {slots members : List ℕ} {m : �
   }
 
 -- the same where every cut is refuted
-module _ {W : Circuit} {T : Target} {k : ℕ} {slots members : List ℕ} {r : ℕ} (f : Refutes W T k slots members r) where
-  excess : f.count ≡ r - k * W.gates
-  excess = omega (arith, f.sum)
+module _ {W : Circuit} {T : Target} {k : ℕ} {slots members : List ℕ} {c : ℕ} (f : Refutes W T k slots members c) where
+  pub excess-inside : c ≤ length members
+  excess-inside = part-inside f.growing
 
-  pub excess-inside : r - k * W.gates ≤ length members
-  excess-inside = omega (arith, excess, part-inside f.growing)
-
-  pub excess-listed : Listed W.inputs W.gates W.width slots (take (r - k * W.gates) members) 0
-  excess-listed = subst (λ (n : ℕ). Listed W.inputs W.gates W.width slots (take n members) 0) excess (listed_of f.growing)
+  pub excess-listed : Listed W.inputs W.gates W.width slots (take c members) 0
+  excess-listed = listed_of f.growing

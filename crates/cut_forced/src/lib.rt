@@ -45,30 +45,37 @@ fn hold(gates: usize, slots: &mut [u32], g: usize, n: usize, d: usize)
     put_number(slots, g, n + 1);
 }
 
-// Adds the forced copy y to the m members, unless it is one: how many there are then. Where y is a terminal, or one more of its gate than k, the result is m above k for each gate.
-fn add(s: Extent, slots: &mut [u32], members: &mut [u32], k: usize, m: usize, y: usize) -> usize
+// Adds the forced copy y to the m members, unless it is one: how many there are then. Where y is a terminal, or one more of its gate than k, there is no cut, and m stay.
+fn add(
+    s: Extent,
+    slots: &mut [u32],
+    members: &mut [u32],
+    k: usize,
+    m: usize,
+    y: usize,
+) -> Result<usize, usize>
     requires { AddAsked s.inputs s.gates s.width s.border k slots.old members.old m y }
     ensures { Added s.inputs s.gates s.width s.border k slots.old members.old m y slots.new members.new result }
 {
     if is_forced(s, slots, y) {
-        return m;
+        return Ok(m);
     }
     let u = y / s.width;
     let d = y % s.width;
     if u < s.inputs {
-        return k * s.gates + m;
+        return Err(m);
     }
     if s.border < d {
-        return k * s.gates + m;
+        return Err(m);
     }
     let g = u - s.inputs;
     let n = number_at(slots, g);
     if k <= n {
-        return k * s.gates + m;
+        return Err(m);
     }
     hold(s.gates, slots, g, n, d);
     put_number(members, m, y);
-    m + 1
+    Ok(m + 1)
 }
 
 // Looks at pin j of the member x: its source may be a leaf, or is forced.
@@ -82,13 +89,13 @@ fn force_pin(
     m: usize,
     x: usize,
     j: usize,
-) -> usize
+) -> Result<usize, usize>
     requires { PinAsked (packed_of s net.now []) labels.now q.phi q.k slots.old members.old m x j }
     ensures { PinTold s.inputs s.gates s.width s.border labels.now q.phi q.height q.k slots.old members.old m (feeder (packed_of s net.now []) x j) slots.new members.new result }
 {
     let y = source(s, net, x, j);
     if low(s.width, labels, q.phi, q.height, y) {
-        return m;
+        return Ok(m);
     }
     add(s, slots, members, q.k, m, y)
 }
@@ -103,23 +110,16 @@ fn force_pins(
     q: Query,
     m: usize,
     x: usize,
-) -> usize
+) -> Result<usize, usize>
     requires { MemberAsked (packed_of s net.now []) labels.now q.phi q.height q.k slots.old members.old m x }
     ensures { MemberTold (packed_of s net.now []) labels.now q.phi q.height q.k slots.old members.old m x slots.new members.new result }
 {
-    let most = q.k * s.gates;
     let n = pins_of(s, net, x);
     let mut c = m;
-    let mut j = 0;
-    while j < n {
-        let r = force_pin(s, net, slots, members, labels, q, c, x, j);
-        if most < r {
-            return r;
-        }
-        c = r;
-        j += 1;
+    for j in 0..n {
+        c = force_pin(s, net, slots, members, labels, q, c, x, j)?;
     }
-    c
+    Ok(c)
 }
 
 // Looks at all members, those that are added too.
@@ -130,26 +130,21 @@ fn grow(
     members: &mut [u32],
     labels: &[i64],
     q: Query,
-) -> usize
+) -> Result<usize, usize>
     requires { GrowAsked (packed_of s net.now []) labels.now q.phi q.height q.k slots.old members.old }
     ensures { GrowTold (packed_of s net.now []) labels.now q.phi q.height q.k slots.old members.old slots.new members.new result }
 {
-    let most = q.k * s.gates;
     let mut m = 1;
     let mut i = 0;
     while i < m {
         let x = number_at(members, i);
-        let r = force_pins(s, net, slots, members, labels, q, m, x);
-        if most < r {
-            return r;
-        }
-        m = r;
+        m = force_pins(s, net, slots, members, labels, q, m, x)?;
         i += 1;
     }
-    m
+    Ok(m)
 }
 
-// The forced set of gate g and threshold h, in slots and listed: how many copies it has. Above k for each gate there is no cut, and so many are forced as the result is above.
+// The forced set of gate g and threshold h, in slots and listed: how many copies it has; where there is no cut, how many were forced till then.
 // What stands behind the places of the members is kept.
 pub fn force(
     s: Extent,
@@ -158,7 +153,7 @@ pub fn force(
     members: &mut [u32],
     labels: &[i64],
     q: Query,
-) -> usize
+) -> Result<usize, usize>
     requires { ForceAsked (packed_of s net.now []) labels.now q.phi q.k q.gate slots.old members.old }
     ensures told { ForceTold (packed_of s net.now []) (target labels.now q.phi (s.inputs + q.gate) q.height) q.k slots.new members.new result }
     ensures behind { SameFrom (q.k * s.gates) members.old members.new }
@@ -176,12 +171,9 @@ pub fn unforce(s: Extent, slots: &mut [u32], members: &[u32])
     requires { Listed s.inputs s.gates s.width slots.old members.now 0 }
     ensures { Unmarked s.gates slots.new }
 {
-    let mut i = 0;
-    while i < members.len() {
-        let x = number_at(members, i);
-        let g = x / s.width - s.inputs;
+    for x in members {
+        let g = *x as usize / s.width - s.inputs;
         put_number(slots, g, 0);
-        i += 1;
     }
 }
 
@@ -205,11 +197,9 @@ fn outside(s: Extent, net: &[usize], slots: &[u32], x: usize, c: usize) -> usize
 {
     let n = pins_of(s, net, x);
     let mut out = c;
-    let mut j = 0;
-    while j < n {
+    for j in 0..n {
         let y = source(s, net, x, j);
         out = one_more(s, slots, y, out);
-        j += 1;
     }
     out
 }
@@ -221,14 +211,11 @@ pub fn few_outside(s: Extent, net: &[usize], slots: &[u32], members: &[u32], k: 
     ensures { result ≡ true → FewTold (packed_of s net.now []) slots.now members.now k }
 {
     let mut c = 0;
-    let mut i = 0;
-    while i < members.len() {
-        let x = number_at(members, i);
-        c = outside(s, net, slots, x, c);
+    for x in members {
+        c = outside(s, net, slots, *x as usize, c);
         if k < c {
             return false;
         }
-        i += 1;
     }
     true
 }

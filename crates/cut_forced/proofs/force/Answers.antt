@@ -1,10 +1,5 @@
-use mathlib.Core.Path.{sym}
-use Prim.Native.Nat.{◌+◌, ◌*◌}
-use native.Mathlib.Omega.{arith}
-use lib.Seq.{length-take-le}
-use Rattle.cut_forced.specs.ForcedPinLaws.{ground-fits}
-use Rattle.cut_forced.specs.GrowLaws.{root-fits, root-held, members-inside, growing-root, growing-part, told-front, force_behind}
-use Rattle.std.proofs.Common.{rules}
+use Prim.Native.Nat.{◌+◌}
+use Rattle.cut_forced.specs.GrowLaws.{growing-root, growing-part, told-front, force_behind}
 use Rattle.cut_forced.proofs.force.Goals as goal
 
 pub grow-requires : goal.grow-requires
@@ -16,4 +11,4 @@ grow-requires c = record {
 
 pub returns : goal.returns
 returns c = let G = growing-root c.requires c.args.q.height c.hold.ensures c.put_number.ensures in
-    record { told = told-front _ (c.grow.ensures (c.args.s.inputs + c.args.q.gate) (growing-part G)); behind = force_behind c.requires c.grow.new.members c.put_number.ensures c.grow.auto.members }
+    record { told = told-front _ _ _ _ _ _ c.grow.result (c.grow.ensures (c.args.s.inputs + c.args.q.gate) (growing-part G)); behind = force_behind c.requires c.grow.new.members c.put_number.ensures c.grow.auto.members }

@@ -1,9 +1,8 @@
-use mathlib.Core.Path.{refl, sym, subst}
+use mathlib.Core.Path.{sym, subst}
 use Prim.Native.Nat.{ℕ}
 use Rattle.signed.specs.RangeLaws.{back}
-use Rattle.cut_forced.specs.Forcing.{LowAsked, AddAsked, Added, leaf, forced}
+use Rattle.cut_forced.specs.Forcing.{Added, forced}
 use Rattle.cut_forced.specs.ForcedPinLaws.{low_same}
-use Rattle.std.proofs.Common.{rules}
 use Rattle.cut_forced.proofs.force_pin.Goals as goal
 
 pub returns : goal.returns

@@ -1,13 +1,10 @@
 use mathlib.Core.Path.{subst}
-use mathlib.Core.List.{[]}
-use Prim.Native.Nat.{ℕ, ◌+◌, ◌-◌, ◌≤◌}
+use Prim.Native.Nat.{ℕ}
 use native.Mathlib.Omega.{arith}
 use Rattle.cut_circuit.specs.CircuitLaws.{wide-positive}
-use Rattle.cut_circuit.specs.Packed.{packed_of}
-use Rattle.cut_forced.specs.ForcedPinLaws.{gate-asked, source-asked, feeder-below}
-use Rattle.cut_forced.specs.Outside.{OneMore, PinsOutside}
-use Rattle.cut_forced.specs.OutsideLaws.{asked-few, one-more-bound, pins-outside-none, pins-outside-all, pins-outside-more}
-use Rattle.std.proofs.Common.{rules}
+use Rattle.cut_forced.specs.ForcedPinLaws.{source-asked, feeder-below}
+use Rattle.cut_forced.specs.Outside.{OneMore}
+use Rattle.cut_forced.specs.OutsideLaws.{asked-few, one-more-bound, pins-outside-more}
 use Rattle.cut_forced.proofs.outside.Goals as goal
 
 pub source-y-requires : goal.source-y-requires
@@ -32,16 +29,14 @@ one_more-out-requires c = let pins-of = c.pins_of-n in
         held = c.requires.outside_asked.held;
       };
       c_bound = omega
-          (arith, c.loop-j.invariant.2, c.requires.c_le_most_k, asked-few c.requires.outside_asked, c.loop-j-test.true, pins-of.ensures);
+          (arith, c.loop-j.invariant.1, c.requires.c_le_most_k, asked-few c.requires.outside_asked, c.loop-j-test.true, pins-of.ensures);
     }
 
 pub loop-j-preserved : goal.loop-j-preserved
 loop-j-preserved c =
     let loop = c.loop-j in
-    let start = c in
     let s = c.args.s in (
-      omega (arith, c.loop-j-test.true),
-      pins-outside-more loop.invariant.1 (subst (λ (y : ℕ). OneMore s.inputs s.gates s.width s.border c.args.slots.now y loop.out
+      pins-outside-more loop.invariant.0 (subst (λ (y : ℕ). OneMore s.inputs s.gates s.width s.border c.args.slots.now y loop.out
           c.one_more-out.result) c.source-y.ensures c.one_more-out.ensures),
-      omega (arith, one-more-bound s.inputs s.gates s.width s.border c.args.slots.now c.source-y.result c.one_more-out.ensures loop.invariant.2),
+      omega (arith, one-more-bound s.inputs s.gates s.width s.border c.args.slots.now c.source-y.result c.one_more-out.ensures loop.invariant.1),
     )
