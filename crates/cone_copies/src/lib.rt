@@ -7,6 +7,14 @@ ghost use Rattle.net_model.specs.Copies.{copy};
 ghost use Rattle.net_model.specs.Arrays.{copy_at};
 ghost use Rattle.sequences.specs.Tests.{Tells};
 
+// A list of copies: those in the first len places.
+#[derive(Clone, Copy)]
+pub struct CopyList<'a> {
+    pub nodes: &'a [usize],
+    pub backs: &'a [usize],
+    pub len: usize,
+}
+
 // Whether the copy at place j is this one.
 pub fn is_copy(
     cone_nodes: &[usize],

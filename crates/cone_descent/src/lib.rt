@@ -14,7 +14,7 @@ ghost use Rattle.cone_descent.specs.Descent.{place, seat_mark, Clear, Denied, Pl
 ghost use Rattle.cone_descent.specs.Descent as descent;
 ghost use Rattle.cone_descent.specs.DescentSteps.{Meet, Leaves, TopPin, Advances, Turn, Ran, Asked};
 
-use cone_copies::is_copy;
+use cone_copies::{CopyList, is_copy};
 use cone_leaves::seek;
 use cone_walk::Cone;
 use limits::{BEYOND, COPIES, PINS, REACH};
@@ -83,8 +83,7 @@ fn leave(
 // One copy met by a pin, with its place in the table.
 fn meet(
     q: CutQuery,
-    leaf_nodes: &[usize],
-    leaf_backs: &[usize],
+    leaves: CopyList,
     seen: &mut [usize],
     marks: &[u8],
     at: usize,
@@ -92,10 +91,10 @@ fn meet(
     node: usize,
     back: usize,
 ) -> Met
-    requires { Leaves leaf_nodes.now leaf_backs.now q.leaves seen.old × (at < length marks.now) }
-    ensures { Meet q.inputs q.border q.room size (copies_in leaf_nodes.now leaf_backs.now q.leaves) (copy node back) (get_or marks.now at 0) seen.old result seen.new }
+    requires { Leaves leaves.nodes.now leaves.backs.now leaves.len seen.old × (at < length marks.now) }
+    ensures { Meet q.inputs q.border q.room size (copies_in leaves.entry.nodes.now leaves.entry.backs.now leaves.entry.len) (copy node back) (get_or marks.now at 0) seen.old result seen.new }
 {
-    if let Some(leaf) = seek(leaf_nodes, leaf_backs, q.leaves, node, back) {
+    if let Some(leaf) = seek(leaves.nodes, leaves.backs, leaves.len, node, back) {
         seen[leaf] = 1;
         return Met::Known;
     }
@@ -118,8 +117,7 @@ fn meet(
 fn advance(
     q: CutQuery,
     net: &[usize],
-    leaf_nodes: &[usize],
-    leaf_backs: &[usize],
+    leaves: CopyList,
     seen: &mut [usize],
     len: usize,
     stack_nodes: &mut [usize],
@@ -128,8 +126,8 @@ fn advance(
     top: usize,
     marks: &mut [u8],
 ) -> Option<usize>
-    requires { Leaves leaf_nodes.now leaf_backs.now q.leaves seen.old × TopPin q.inputs q.width q.room len (drop (sources_at q.gates) net.now) (drop (counts_at q.gates) net.now) stack_nodes.old stack_backs.old turns.old top marks.old }
-    ensures { Advances q.inputs q.width q.border q.room (drop (sources_at q.gates) net.now) (drop (counts_at q.gates) net.now) (copies_in leaf_nodes.now leaf_backs.now q.leaves) len stack_nodes.old stack_backs.old turns.old top marks.old seen.old result stack_nodes.new stack_backs.new turns.new marks.new seen.new }
+    requires { Leaves leaves.nodes.now leaves.backs.now leaves.len seen.old × TopPin q.inputs q.width q.room len (drop (sources_at q.gates) net.now) (drop (counts_at q.gates) net.now) stack_nodes.old stack_backs.old turns.old top marks.old }
+    ensures { Advances q.inputs q.width q.border q.room (drop (sources_at q.gates) net.now) (drop (counts_at q.gates) net.now) (copies_in leaves.entry.nodes.now leaves.entry.backs.now leaves.entry.len) len stack_nodes.old stack_backs.old turns.old top marks.old seen.old result stack_nodes.new stack_backs.new turns.new marks.new seen.new }
 {
     let j = turns[top];
     let next = j + 1;
@@ -138,17 +136,7 @@ fn advance(
     let back = stack_backs[top] + net[(2 + PINS) * q.gates + pin];
     let at = node * q.width + back;
     let depth = top + 1;
-    let met = meet(
-        q,
-        leaf_nodes,
-        leaf_backs,
-        seen,
-        marks,
-        at,
-        len + depth,
-        node,
-        back,
-    );
+    let met = meet(q, leaves, seen, marks, at, len + depth, node, back);
     match met {
         Met::NoCut => None,
         Met::Known => {
@@ -176,8 +164,7 @@ fn advance(
 fn run(
     q: CutQuery,
     net: &[usize],
-    leaf_nodes: &[usize],
-    leaf_backs: &[usize],
+    leaves: CopyList,
     seen: &mut [usize],
     nodes: &mut [usize],
     backs: &mut [usize],
@@ -186,8 +173,8 @@ fn run(
     turns: &mut [usize],
     marks: &mut [u8],
 ) -> Option<usize>
-    requires { Turn q.inputs q.gates q.width q.border q.room net.now (drop (sources_at q.gates) net.now) (drop (counts_at q.gates) net.now) leaf_nodes.now leaf_backs.now q.leaves (q.inputs + q.gate) nodes.old backs.old 0 stack_nodes.old stack_backs.old turns.old 1 seen.old marks.old }
-    ensures { MatchOption result (Clear marks.new × Denied q.inputs q.gates q.border net.now (drop (sources_at q.gates) net.now) (drop (counts_at q.gates) net.now) (copies_in leaf_nodes.now leaf_backs.now q.leaves) (q.inputs + q.gate)) (λ len. Ran q.inputs q.gates q.width q.border q.room net.now (drop (sources_at q.gates) net.now) (drop (counts_at q.gates) net.now) leaf_nodes.now leaf_backs.now q.leaves (q.inputs + q.gate) nodes.new backs.new len stack_nodes.new stack_backs.new turns.new 0 seen.new marks.new) }
+    requires { Turn q.inputs q.gates q.width q.border q.room net.now (drop (sources_at q.gates) net.now) (drop (counts_at q.gates) net.now) leaves.nodes.now leaves.backs.now leaves.len (q.inputs + q.gate) nodes.old backs.old 0 stack_nodes.old stack_backs.old turns.old 1 seen.old marks.old }
+    ensures { MatchOption result (Clear marks.new × Denied q.inputs q.gates q.border net.now (drop (sources_at q.gates) net.now) (drop (counts_at q.gates) net.now) (copies_in leaves.entry.nodes.now leaves.entry.backs.now leaves.entry.len) (q.inputs + q.gate)) (λ len. Ran q.inputs q.gates q.width q.border q.room net.now (drop (sources_at q.gates) net.now) (drop (counts_at q.gates) net.now) leaves.entry.nodes.now leaves.entry.backs.now leaves.entry.len (q.inputs + q.gate) nodes.new backs.new len stack_nodes.new stack_backs.new turns.new 0 seen.new marks.new) }
 {
     let mut len = 0;
     let mut depth = 1;
@@ -198,8 +185,7 @@ fn run(
             let next = advance(
                 q,
                 net,
-                leaf_nodes,
-                leaf_backs,
+                leaves,
                 seen,
                 len,
                 stack_nodes,
@@ -275,11 +261,15 @@ pub fn descend(
         root,
         0,
     );
+    let leaves = CopyList {
+        nodes: leaf_nodes,
+        backs: leaf_backs,
+        len: q.leaves,
+    };
     let len = run(
         q,
         net,
-        leaf_nodes,
-        leaf_backs,
+        leaves,
         seen,
         nodes,
         backs,
@@ -358,12 +348,10 @@ pub fn seat(
     if mark < 2 {
         return None;
     }
-    let mut p = mark - 2;
-    while p < len {
+    for p in (mark - 2..len).step_by(ROUND) {
         if is_copy(nodes, backs, p, node, back) {
             return Some(p);
         }
-        p += ROUND;
     }
     None
 }

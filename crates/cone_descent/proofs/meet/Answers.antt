@@ -8,37 +8,37 @@ pub returns-in-Some : goal.returns-in-Some
 returns-in-Some c =
     let a = c.args in
     let y = copy a.node a.back in
-    let first = array_first a.leaf_nodes.now a.leaf_backs.now a.q.leaves y c.requires.0.rising (sym c.in-Some.ensures.1) in
-    meet-leaf a.q.inputs a.q.border a.q.room a.size a.leaf_nodes.now a.leaf_backs.now a.q.leaves y (get_or a.marks.now a.at 0) a.seen.now c.in-Some.leaf first c.in-Some.ensures.0
+    let first = array_first a.leaves.nodes.now a.leaves.backs.now a.leaves.len y c.requires.0.rising (sym c.in-Some.ensures.1) in
+    meet-leaf a.q.inputs a.q.border a.q.room a.size a.leaves.nodes.now a.leaves.backs.now a.leaves.len y (get_or a.marks.now a.at 0) a.seen.now c.in-Some.leaf first c.in-Some.ensures.0
 
 pub returns-then-node-q : goal.returns-then-node-q
 returns-then-node-q c =
     let a = c.args in
     let y = copy a.node a.back in
-    let first = array_first a.leaf_nodes.now a.leaf_backs.now a.q.leaves y c.requires.0.rising (sym c.in_default.ensures) in
-    meet-input a.q.inputs a.q.border a.q.room a.size a.leaf_nodes.now a.leaf_backs.now a.q.leaves y (get_or a.marks.now a.at 0) a.seen.now a.q.leaves first
+    let first = array_first a.leaves.nodes.now a.leaves.backs.now a.leaves.len y c.requires.0.rising (sym c.in_default.ensures) in
+    meet-input a.q.inputs a.q.border a.q.room a.size a.leaves.nodes.now a.leaves.backs.now a.leaves.len y (get_or a.marks.now a.at 0) a.seen.now a.leaves.len first
     (omega arith) (omega arith)
 
 pub returns-then-q-back : goal.returns-then-q-back
 returns-then-q-back c =
     let a = c.args in
     let y = copy a.node a.back in
-    let first = array_first a.leaf_nodes.now a.leaf_backs.now a.q.leaves y c.requires.0.rising (sym c.in_default.ensures) in
-    meet-beyond a.q.inputs a.q.border a.q.room a.size a.leaf_nodes.now a.leaf_backs.now a.q.leaves y (get_or a.marks.now a.at 0) a.seen.now a.q.leaves first
+    let first = array_first a.leaves.nodes.now a.leaves.backs.now a.leaves.len y c.requires.0.rising (sym c.in_default.ensures) in
+    meet-beyond a.q.inputs a.q.border a.q.room a.size a.leaves.nodes.now a.leaves.backs.now a.leaves.len y (get_or a.marks.now a.at 0) a.seen.now a.leaves.len first
     (omega arith) (omega arith) (omega arith)
 
 pub returns-then-q-size : goal.returns-then-q-size
 returns-then-q-size c =
     let a = c.args in
     let y = copy a.node a.back in
-    let first = array_first a.leaf_nodes.now a.leaf_backs.now a.q.leaves y c.requires.0.rising (sym c.in_default.ensures) in
-    meet-full a.q.inputs a.q.border a.q.room a.size a.leaf_nodes.now a.leaf_backs.now a.q.leaves y (get_or a.marks.now a.at 0) a.seen.now a.q.leaves first
+    let first = array_first a.leaves.nodes.now a.leaves.backs.now a.leaves.len y c.requires.0.rising (sym c.in_default.ensures) in
+    meet-full a.q.inputs a.q.border a.q.room a.size a.leaves.nodes.now a.leaves.backs.now a.leaves.len y (get_or a.marks.now a.at 0) a.seen.now a.leaves.len first
     (omega arith) (omega arith) c.if-marks-at-ne0.false (omega arith)
 
 pub returns : goal.returns
 returns c =
     let a = c.args in
     let y = copy a.node a.back in
-    let first = array_first a.leaf_nodes.now a.leaf_backs.now a.q.leaves y c.requires.0.rising (sym c.in_default.ensures) in
-    meet-fresh a.q.inputs a.q.border a.q.room a.size a.leaf_nodes.now a.leaf_backs.now a.q.leaves y (get_or a.marks.now a.at 0) a.seen.now a.q.leaves first
+    let first = array_first a.leaves.nodes.now a.leaves.backs.now a.leaves.len y c.requires.0.rising (sym c.in_default.ensures) in
+    meet-fresh a.q.inputs a.q.border a.q.room a.size a.leaves.nodes.now a.leaves.backs.now a.leaves.len y (get_or a.marks.now a.at 0) a.seen.now a.leaves.len first
     (omega arith) (omega arith) (omega arith) c.if-marks-at-ne0.false (omega arith)

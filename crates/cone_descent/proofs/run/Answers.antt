@@ -52,7 +52,7 @@ overflow_add-node c =
       arith,
       top-table t (omega arith),
       loop.invariant.2,
-      c.well_formed.1.1.1.1.1.1.1.1.1.1.0.1,
+      c.well_formed.1.1.1.1.1.1.1.1.1.0.1,
     )
 
 pub leave-requires : goal.leave-requires
