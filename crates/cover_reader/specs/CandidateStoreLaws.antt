@@ -1,5 +1,5 @@
 -- Laws of storing LUTs in the arrays, one after the other.
-use Rattle.std.specs.Prelude.{◌≡◌, refl, Bool, ℤ, pos, length, drop}
+use Rattle.std.specs.Prelude.{◌≡◌, refl, Bool, ℤ, pos, length, drop, Ok, Err}
 use Rattle.std.proofs.Common.{sym, ◌∙◌, zero-add, get_or-drop}
 use Rattle.std.proofs.Math.Path.{ap, ap₂}
 use mathlib.Core.List.{List, [], ◌∷◌, ◌++◌}
@@ -11,6 +11,8 @@ use Rattle.std.proofs.Math.ListN.{get_or, set, length-set}
 use Rattle.std.proofs.Math.Seq.{get_or-set_same, get_or-set_other}
 use borrow.Author.Count.{below_more}
 use Rattle.limits.specs.Limits.{most_pins, depth_room}
+use Rattle.refusals.specs.declared.Refusal.{Refusal}
+use Rattle.refusals.specs.Refusals.{number_of}
 use Rattle.sequences.specs.Listed.{listed_same}
 use Rattle.sequences.specs.Stored.{Stored}
 use Rattle.net_model.specs.Arrays.{stride, copy_at, copies_from}
@@ -26,8 +28,7 @@ use Rattle.cover_rows.specs.declared.Row.{Row}
 use Rattle.cover_rows.specs.LutParts.{row_entry, Shallow, LutRead}
 use Rattle.cover_reader.specs.Reads.{held_in}
 use Rattle.cover_reader.specs.LutsStored.{nodes_of, backs_of, RowStored, Narrow, Flat, LutStored}
-use Rattle.net_fields.specs.declared.Verdict.TheVariants.{Read, Refused}
-use Rattle.net_fields.specs.FieldLaws.{went, stopped}
+use Rattle.net_fields.specs.declared.Read.{Read}
 
 -- ---- the places of a LUT in the slice
 
@@ -194,20 +195,22 @@ module _ (two : Bool) (s : List ℕ) (at nodes k I n : ℕ) where
         let left : n - i ≡ suc (n - (i + 1)) = omega arith in
         so.result ∙ ap (λ (m : ℕ). behind done (luts_reader two nodes k m least (drop next s))) left ∙ ap (behind done) (luts-more two nodes k (n - (i + 1)) least (drop next s))
 
-    pub luts-one : (row : Row) (y : Held) (after : ℕ) → i < n → LutRead two s next nodes k least row → row.verdict ≡ Read → LutStored i row z y → after ≡ row.root + 1
-        → LutsSoFar two s at nodes k I n y row.at after (i + 1)
+    pub luts-one : (r : Read Row) (y : Held) (after : ℕ) → i < n → LutRead two s next nodes k least (Ok r) → LutStored i r.value z y → after ≡ r.value.root + 1
+        → LutsSoFar two s at nodes k I n y r.at after (i + 1)
     unfolding done
-    luts-one row y after h e r st is = record {
-      result = one_more h ∙ ap (behind done) (then-goes _ (went (row_entry row) (drop row.at s) e.result r))
-          ∙ behind-one done (row_entry row) (luts_reader two nodes k (n - (i + 1)) (suc row.root) (drop row.at s))
-          ∙ ap₂ (λ (l : List Entry) (b : ℕ). behind l (luts_reader two nodes k (n - (i + 1)) b (drop row.at s))) (sym st.luts) (sym (is ∙ add-one row.root));
-      most = omega arith;
-      few = st.few;
-      small = st.small so.small (e.keeps.small r);
-    }
+    luts-one r y after h e st is =
+        let row = r.value in
+        record {
+          result = one_more h ∙ ap (behind done) (then-goes _ e.result)
+              ∙ behind-one done (row_entry row) (luts_reader two nodes k (n - (i + 1)) (suc row.root) (drop r.at s))
+              ∙ ap₂ (λ (l : List Entry) (b : ℕ). behind l (luts_reader two nodes k (n - (i + 1)) b (drop r.at s))) (sym st.luts) (sym (is ∙ add-one row.root));
+          most = omega arith;
+          few = st.few;
+          small = st.small so.small e.keeps.small;
+        }
 
-    pub luts-stop : {j : ℕ} (row : Row) → i < n → LutRead two s next nodes k least row → row.verdict ≡ Refused j → luts_reader two nodes k n I (drop at s) ≡ refused j
-    luts-stop {j} row h e r = one_more h ∙ ap (behind done) (then-stops _ (stopped (row_entry row) (drop row.at s) e.result r)) ∙ behind-stops done j
+    pub luts-stop : {j : Refusal} → i < n → LutRead two s next nodes k least (Err j) → luts_reader two nodes k n I (drop at s) ≡ refused (number_of j)
+    luts-stop {j} h e = one_more h ∙ ap (behind done) (then-stops _ e.result) ∙ behind-stops done (number_of j)
 
     pub luts-all : n ≤ i → luts_reader two nodes k n I (drop at s) ≡ got (luts_in z n) (drop next s)
     unfolding done

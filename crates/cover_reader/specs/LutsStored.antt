@@ -1,14 +1,14 @@
 -- Definitions: what the functions of the walk promise.
-use Rattle.std.specs.Prelude.{◌≡◌, Bool, List, [], ◌∷◌, ◌++◌, ℕ, ◌+◌, ◌*◌, ◌≤◌, ◌<◌, length, get_or, drop}
+use Rattle.std.specs.Prelude.{◌≡◌, Bool, List, [], ◌∷◌, ◌++◌, ℕ, ◌+◌, ◌*◌, ◌≤◌, ◌<◌, length, get_or, drop, Result, IfOk}
 use Rattle.limits.specs.Limits.{depth_room, most_pins}
+use Rattle.refusals.specs.declared.Refusal.{Refusal}
 use Rattle.net_model.specs.Arrays.{stride}
 use Rattle.cover_records.specs.CoverBytes.{luts_reader}
 use Rattle.cover_records.specs.Held.{Held, luts_in}
 use Rattle.cover_rows.specs.declared.Row.{Row}
 use Rattle.cover_rows.specs.LutParts.{Shallow, row_entry}
-use Rattle.net_fields.specs.declared.Verdict.TheVariants.{Read}
-use Rattle.net_fields.specs.Verdicts.{outcome}
-use Rattle.cover_reader.specs.declared.Part.{Part}
+use Rattle.net_bytes.specs.Reading.{got}
+use Rattle.net_fields.specs.Outcomes.{onward}
 
 -- the places of LUT i of n: its leaves' nodes and their d
 abbrev pub nodes_of : ℕ → ℕ → ℕ
@@ -44,6 +44,6 @@ pub record LutStored (i : ℕ) (row : Row) (old new : Held) : Type 0 where
   pub small : Flat old i → Shallow row.backs → Flat new (i + 1)
 
 -- all n LUTs are read and stored
-pub record LutsRead (two : Bool) (s : List ℕ) (at nodes k I n : ℕ) (a : Held) (r : Part) : Type 0 where
-  pub result : luts_reader two nodes k n I (drop at s) ≡ outcome r.verdict (luts_in a n) (drop r.at s)
-  pub small : r.verdict ≡ Read → Flat a n
+pub record LutsRead (two : Bool) (s : List ℕ) (at nodes k I n : ℕ) (a : Held) (r : Result ℕ Refusal) : Type 0 where
+  pub result : luts_reader two nodes k n I (drop at s) ≡ onward (λ end. got (luts_in a n) (drop end s)) r
+  pub small : IfOk r (λ end. Flat a n)

@@ -1,6 +1,8 @@
 -- Definitions: a candidate's record as read: the LUTs that it holds, and what the walk promises.
-use Rattle.std.specs.Prelude.{◌≡◌, true, false, List, [], ℕ, ◌+◌, ◌≤◌, ℤ, length}
+use Rattle.std.specs.Prelude.{◌≡◌, List, [], ℕ, ◌+◌, ◌≤◌, ℤ, length, Result, MatchResult}
 use Rattle.limits.specs.declared.Rules.{Rules}
+use Rattle.refusals.specs.declared.Refusal.{Refusal}
+use Rattle.refusals.specs.Refusals.{number_of}
 use Rattle.net_model.specs.Net.{Net, size}
 use Rattle.net_bytes.specs.Reading.{got, refused}
 use Rattle.cover_records.specs.CoverBytes.{Record, cover_reader}
@@ -22,11 +24,19 @@ pub record Spacious (n : ℕ) (rows : List ℕ) (lags : List ℤ) (tables : List
 abbrev pub record_of : Candidate → Held → Record
 record_of c a = record { period = c.period; entries = luts_in a c.luts }
 
--- The bytes are read as check 13 reads them, for each net with I inputs and G gates; and what the arrays keep where they are fine.
-pub record CoverRead (R : Rules) (bytes : List ℕ) (I G k : ℕ) (c : Candidate) (a : Held) : Type 0 where
-  pub read : c.fine ≡ true → (N : Net) → N.inputs ≡ I → size N ≡ I + G → cover_reader R N k bytes ≡ got (record_of c a) []
-  pub broken : c.fine ≡ false → (N : Net) → N.inputs ≡ I → size N ≡ I + G → cover_reader R N k bytes ≡ refused 13
-  pub well : c.fine ≡ true → WellHeld I G k c.luts a
-  pub low_period : c.fine ≡ true → 1 ≤ c.period
-  pub high_period : c.fine ≡ true → c.period ≤ R.period
-  pub few : c.fine ≡ true → c.luts ≤ R.luts
+-- The bytes are read as check 13 reads them, for each net with I inputs and G gates; and what the arrays keep.
+pub record CoverKept (R : Rules) (bytes : List ℕ) (I G k : ℕ) (c : Candidate) (a : Held) : Type 0 where
+  pub read : (N : Net) → N.inputs ≡ I → size N ≡ I + G → cover_reader R N k bytes ≡ got (record_of c a) []
+  pub well : WellHeld I G k c.luts a
+  pub low_period : 1 ≤ c.period
+  pub high_period : c.period ≤ R.period
+  pub few : c.luts ≤ R.luts
+
+-- check 13 refuses the bytes for each such net, and 13 is told
+pub record CoverBroken (R : Rules) (bytes : List ℕ) (I G k : ℕ) (e : Refusal) : Type 0 where
+  pub told : number_of e ≡ 13
+  pub broken : (N : Net) → N.inputs ≡ I → size N ≡ I + G → cover_reader R N k bytes ≡ refused 13
+
+-- either, where the arrays are known for each number of LUTs
+abbrev pub CoverRead : Rules → List ℕ → ℕ → ℕ → ℕ → Result Candidate Refusal → (ℕ → Held) → Type 0
+CoverRead R bytes I G k r a = MatchResult r (λ c. CoverKept R bytes I G k c (a c.luts)) (CoverBroken R bytes I G k)

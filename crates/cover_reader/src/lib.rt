@@ -10,34 +10,15 @@ ghost use Rattle.cover_reader.specs.Reads.{Spacious, held_in, CoverRead};
 ghost use Rattle.cover_reader.specs.LutsStored.{RowStored, LutStored, LutsRead, Narrow};
 
 use cover_rows::{Row, read_front, read_lut};
-use limits::{ITEMS, PINS, Rules};
-use net_fields::Verdict;
+use limits::{PINS, Rules};
+use net_marks::store;
+use refusals::Refusal;
 
-// A candidate's record as read: fine says that it keeps the layout; its period and number of LUTs.
-#[derive(Drop)]
+// A candidate's record as read: its period and number of LUTs.
+#[derive(Clone, Copy, Debug, PartialEq, Eq)]
 pub struct Candidate {
-    pub fine: bool,
     pub period: usize,
     pub luts: usize,
-}
-
-// Whether all LUTs were read, and the place behind what was read.
-#[derive(Drop)]
-struct Part {
-    verdict: Verdict,
-    at: usize,
-}
-
-// The first six numbers are stored from a place on.
-fn store_six(rows: &mut [usize], at: usize, values: [usize; ITEMS])
-    requires { at + most_pins ≤ length rows.old }
-    ensures { Stored rows.old at values most_pins rows.new }
-{
-    let mut j = 0;
-    while j < PINS {
-        rows[at + j] = values[j];
-        j += 1;
-    }
 }
 
 // Root, number of leaves and leaves of LUT i of n.
@@ -49,8 +30,8 @@ fn store_row(rows: &mut [usize], n: usize, i: usize, row: Row)
     let backs = row.backs;
     rows[i] = row.root;
     rows[n + i] = row.size;
-    store_six(rows, 2 * n + PINS * i, nodes);
-    store_six(rows, (2 + PINS) * n + PINS * i, backs);
+    store(&nodes, PINS, rows, 2 * n + PINS * i);
+    store(&backs, PINS, rows, (2 + PINS) * n + PINS * i);
 }
 
 // A row is stored as LUT i of n.
@@ -60,13 +41,12 @@ fn store_lut(rows: &mut [usize], lags: &mut [i64], tables: &mut [u64], n: usize,
     requires narrow { Narrow (held_in n rows.old lags.old tables.old) i }
     ensures { LutStored i row (held_in n rows.old lags.old tables.old) (held_in n rows.new lags.new tables.new) }
 {
-    let lag = row.lag;
     store_row(rows, n, i, row);
-    lags[i] = lag;
+    lags[i] = row.lag;
     tables[i] = row.table;
 }
 
-// n LUTs, each stored as it is read; each root is above the one before.
+// The place behind n LUTs, each stored as it is read; each root is above the one before.
 fn read_luts(
     bytes: &[u8],
     at: usize,
@@ -78,42 +58,19 @@ fn read_luts(
     rows: &mut [usize],
     lags: &mut [i64],
     tables: &mut [u64],
-) -> Part
+) -> Result<usize, Refusal>
     requires { (k ≤ most_k) × (n ≤ most_luts) × Spacious n rows.old lags.old tables.old }
     ensures { LutsRead two bytes.now at nodes k inputs n (held_in n rows.new lags.new tables.new) result }
 {
     let mut next = at;
     let mut least = inputs;
-    let mut i: usize = 0;
-    while i < n {
-        let row = read_lut(bytes, next, nodes, k, least, two);
-        let v = row.verdict;
-        if let Verdict::Refused(m) = v {
-            return Part {
-                verdict: Verdict::Refused(m),
-                at: next,
-            };
-        }
+    for i in 0..n {
+        let row = read_lut(bytes, next, nodes, k, least, two)?;
         next = row.at;
-        least = row.root + 1;
-        store_lut(rows, lags, tables, n, i, row);
-        i += 1;
+        least = row.value.root + 1;
+        store_lut(rows, lags, tables, n, i, row.value);
     }
-    Part {
-        verdict: Verdict::Read,
-        at: next,
-    }
-}
-
-// A record that breaks the layout.
-fn broken() -> Candidate
-    ensures { result ≡ record { fine = false; period = 0; luts = 0 } }
-{
-    Candidate {
-        fine: false,
-        period: 0,
-        luts: 0,
-    }
+    Ok(next)
 }
 
 // The walk: the LUTs of the record, or that it breaks the layout.
@@ -126,18 +83,14 @@ pub fn read_cover(
     rows: &mut [usize],
     lags: &mut [i64],
     tables: &mut [u64],
-) -> Candidate
+) -> Result<Candidate, Refusal>
     requires inputs_le_most_inputs { (inputs ≤ most_inputs) × (gates ≤ most_gates) × (k ≤ most_k) × Offered rules }
     requires spacious { Spacious most_luts rows.old lags.old tables.old }
-    ensures { CoverRead rules bytes.now inputs gates k result (held_in result.luts rows.new lags.new tables.new) }
+    ensures { CoverRead rules bytes.now inputs gates k result (λ n. held_in n rows.new lags.new tables.new) }
 {
-    let front = read_front(bytes, rules);
-    let v = front.verdict;
-    if let Verdict::Refused(_) = v {
-        return broken();
-    }
-    let n = front.luts;
-    let part = read_luts(
+    let front = read_front(bytes, rules)?;
+    let n = front.value.luts;
+    let end = read_luts(
         bytes,
         front.at,
         inputs + gates,
@@ -148,17 +101,12 @@ pub fn read_cover(
         rows,
         lags,
         tables,
-    );
-    let w = part.verdict;
-    if let Verdict::Refused(_) = w {
-        return broken();
+    )?;
+    if end < bytes.len() {
+        return Err(Refusal::Layout);
     }
-    if part.at < bytes.len() {
-        return broken();
-    }
-    Candidate {
-        fine: true,
-        period: front.period,
+    Ok(Candidate {
+        period: front.value.period,
         luts: n,
-    }
+    })
 }
