@@ -27,10 +27,8 @@ fn write_numbers(marks: &[usize], luts: &[u64], gates: usize, area: &mut [u8]) -
     ensures { Wrote (numbers_to marks.now luts.now gates) area.old area.new result }
 {
     let mut at = 0;
-    let mut g = 0;
-    while g < gates {
+    for g in 0..gates {
         at += write_number(marks, luts, g, &mut area[at..]);
-        g += 1;
     }
     at
 }

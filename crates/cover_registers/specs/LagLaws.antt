@@ -3,7 +3,7 @@ use Rattle.std.specs.Prelude.{◌≡◌, Bool, true, false, cond, eqb, ℤ, pos,
 use Rattle.std.proofs.Math.Path.{refl, sym, ap, ap₂}
 use Rattle.std.proofs.Common.{◌∙◌, subst, zero-add, add-zero, add-suc, suc-add, add-one, arith, eq-eqb, ne_eqb}
 use mathlib.Core.List.{List, [], ◌∷◌, ◌++◌, append_assoc, append-nil}
-use Prim.Native.Nat.{ℕ, zero, suc, ◌+◌, ◌-◌, ◌*◌, ◌≤◌, ◌<◌}
+use Prim.Native.Nat.{ℕ, zero, suc, ◌+◌, ◌*◌, ◌≤◌, ◌<◌}
 use Rattle.integers.specs.Lag.{lag}
 use Rattle.net_model.specs.Arrays.{stride, copies_from, pins_in}
 use Rattle.net_model.specs.Copies.{Copy}
@@ -91,6 +91,12 @@ pub leaf-more : (es : List Entry) (r : ℤ) (nodes backs : List ℕ) (p j : ℕ)
     → leaf_taps es r (copies_from nodes backs p j) ++ (tap (get_or nodes (p + j) 0) ((pos (get_or backs (p + j) 0) +ℤ r) -ℤ lag_in es (get_or nodes (p + j) 0)) ∷ [])
     ≡ leaf_taps es r (copies_from nodes backs p (j + 1))
 leaf-more es r nodes backs p j = sym (rw (add-one j) (leaf_last es r nodes backs p j))
+
+-- outputs are leaves of lag 0
+pub outputs-leaves : (es : List Entry) (os oc : List ℕ) (i n : ℕ) → leaf_taps es (pos 0) (copies_from os oc i n) ≡ output_taps es (pins_in os oc i n)
+unfolding pins_in copies_from output_taps leaf_taps
+outputs-leaves es os oc i zero = refl
+outputs-leaves es os oc i (suc n) = rw (add-zero (get_or oc i 0)) (ap (λ (l : List Tap). tap (get_or os i 0) (pos (get_or oc i 0) -ℤ lag_in es (get_or os i 0)) ∷ l) (outputs-leaves es os oc (suc i) n))
 
 pub output-none : (es : List Entry) (os oc : List ℕ) → output_taps es (pins_in os oc 0 0) ≡ []
 unfolding pins_in output_taps

@@ -32,7 +32,7 @@ pub fn counted(z: i64) -> u32
     requires { Within 65792 z }
     ensures { result ≡ up z }
 {
-    if z < 0 { 0 } else { z as u32 }
+    z.max(0) as u32
 }
 
 // The lag of a node: 0 for an input.
@@ -72,33 +72,27 @@ fn take_reader(
     tally.take(u, number)
 }
 
-// n leaves, from place p on, of the LUT with this root.
+// n leaves, from place p on, of a LUT with this lag, or with lag 0 n outputs.
 fn take_leaves(
-    tally: Tally,
+    mut tally: Tally,
     s: CoverHead,
     labels: &[i64],
     rows: &[usize],
     nodes: &[usize],
     backs: &[usize],
-    root: usize,
+    own: i64,
     p: usize,
     n: usize,
 ) -> Tally
     requires lags_held { LagsHeld (marking s.inputs s.gates s.period labels.now rows.now) }
     requires n_in_bounds { (p + n ≤ length nodes.now) × (p + n ≤ length backs.now) }
-    requires below { Below depth_room backs.now p n }
-    ensures { Took (leaf_taps (entries_in (marking s.inputs s.gates s.period labels.now rows.now)) (lag_in (entries_in (marking s.inputs s.gates s.period labels.now rows.now)) root) (copies_from nodes.now backs.now p n)) tally.places result.places }
+    requires below { Below depth_room backs.now p n × Within 128 own }
+    ensures { Took (leaf_taps (entries_in (marking s.inputs s.gates s.period labels.now rows.now)) own (copies_from nodes.now backs.now p n)) tally.places result.places }
 {
-    let own = lag_at(s, labels, rows, root);
-    let mut t = tally;
-    let mut j = 0;
-    while j < n {
-        let u = nodes[p + j];
-        let d = backs[p + j];
-        t = take_reader(t, s, labels, rows, own, u, d);
-        j += 1;
+    for j in 0..n {
+        tally = take_reader(tally, s, labels, rows, own, nodes[p + j], backs[p + j]);
     }
-    t
+    tally
 }
 
 // The leaves of the LUT of gate g, where it has one.
@@ -110,6 +104,7 @@ fn take_gate(tally: Tally, s: CoverHead, labels: &[i64], rows: &[usize], g: usiz
     if rows[g] == 0 {
         return tally;
     }
+    let own = lag_at(s, labels, rows, s.inputs + g);
     let a = 2 * s.gates;
     let b = (2 + PINS) * s.gates;
     take_leaves(
@@ -119,52 +114,22 @@ fn take_gate(tally: Tally, s: CoverHead, labels: &[i64], rows: &[usize], g: usiz
         rows,
         &rows[a..],
         &rows[b..],
-        s.inputs + g,
+        own,
         PINS * g,
         rows[s.gates + g],
     )
 }
 
 // The leaves of all LUTs.
-fn take_luts(tally: Tally, s: CoverHead, labels: &[i64], rows: &[usize]) -> Tally
+fn take_luts(mut tally: Tally, s: CoverHead, labels: &[i64], rows: &[usize]) -> Tally
     requires leaves_held { LeavesHeld (kept_in s.inputs s.gates s.period labels.now rows.now []) }
     requires gates_in_bounds { row_room s.gates ≤ length rows.now }
     ensures { Took (lut_taps (entries_in (marking s.inputs s.gates s.period labels.now rows.now)) (entries_from (kept_in s.inputs s.gates s.period labels.now rows.now []) 0 s.gates)) tally.places result.places }
 {
-    let gates = s.gates;
-    let mut t = tally;
-    let mut g = 0;
-    while g < gates {
-        t = take_gate(t, s, labels, rows, g);
-        g += 1;
+    for g in 0..s.gates {
+        tally = take_gate(tally, s, labels, rows, g);
     }
-    t
-}
-
-// n outputs.
-fn take_outputs(
-    tally: Tally,
-    s: CoverHead,
-    labels: &[i64],
-    rows: &[usize],
-    outs: &[usize],
-    delays: &[usize],
-    n: usize,
-) -> Tally
-    requires lags_held { LagsHeld (marking s.inputs s.gates s.period labels.now rows.now) }
-    requires n_in_bounds { (n ≤ length outs.now) × (n ≤ length delays.now) }
-    requires below { Below depth_room delays.now 0 n }
-    ensures { Took (output_taps (entries_in (marking s.inputs s.gates s.period labels.now rows.now)) (pins_in outs.now delays.now 0 n)) tally.places result.places }
-{
-    let mut t = tally;
-    let mut o = 0;
-    while o < n {
-        let u = outs[o];
-        let d = delays[o];
-        t = take_reader(t, s, labels, rows, 0, u, d);
-        o += 1;
-    }
-    t
+    tally
 }
 
 // The register count.
@@ -184,6 +149,6 @@ pub fn count_registers(
 {
     let empty = Tally::new();
     let luts = take_luts(empty, s, labels, rows);
-    let all = take_outputs(luts, s, labels, rows, outs, delays, n);
+    let all = take_leaves(luts, s, labels, rows, outs, delays, 0, 0, n);
     all.total()
 }

@@ -1,5 +1,4 @@
 use Rattle.cover_image.proofs.ImageLaws.{imaged_none, imaged_lent}
-use Rattle.std.proofs.Common.{rules}
 use Rattle.cover_image.proofs.write_image.Goals as goal
 
 pub returns-then-loader-eq0 : goal.returns-then-loader-eq0

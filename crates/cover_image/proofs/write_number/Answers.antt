@@ -3,7 +3,6 @@ use lib.ListN.{get_or}
 use Rattle.cover_records.specs.RoundTrip.{length_to_bytes}
 use Rattle.cover_writer.specs.BytesBehind.{wrote_none}
 use Rattle.cover_image.proofs.ImageLaws.{number-none, number-some}
-use Rattle.std.proofs.Common.{rules}
 use Rattle.cover_image.proofs.write_number.Goals as goal
 
 pub returns-then-marks-g-eq0 : goal.returns-then-marks-g-eq0

@@ -10,9 +10,8 @@ use Rattle.cover_records.specs.Kept.{Kept, entries_in, label_at}
 use Rattle.cover_records.specs.Listing.{lag_in}
 use Rattle.signed.specs.Range.{Small}
 use Rattle.cover_registers.specs.Counting.{Counted, LagsHeld, marking}
-use Rattle.cover_registers.specs.RegisterCountLaws.{counted_none, counted_back, within-lag, lag-asked, lag-told}
+use Rattle.cover_registers.specs.RegisterCountLaws.{counted_none, counted_back, within-lag, lag-told}
 use Rattle.cover_registers.specs.LagLaws.{lag-input, lag-beyond, lag-unmarked, lag-marked}
-use Rattle.std.proofs.Common.{rules}
 use Rattle.cover_registers.proofs.lag_at.Goals as goal
 
 -- `cover_registers::lag_at` meets its contract, by the kind of node.

@@ -1,19 +1,16 @@
 use mathlib.Core.Path.{sym}
 use mathlib.Core.List.{List, []}
-use Prim.Native.Nat.{ℕ, ◌+◌, ◌*◌, ◌≤◌}
+use Prim.Native.Nat.{ℕ, ◌+◌, ◌*◌}
 use native.Mathlib.Omega.{arith}
-use lib.ListN.{length}
-use Rattle.limits.specs.Limits.{depth_room}
+use Rattle.cover_registers.specs.RegisterCountLaws.{told}
 use Rattle.net_model.specs.Arrays.{stride, copies_from}
 use Rattle.cover_records.specs.Listing.{lag_in, leaf_taps}
 use Rattle.cover_records.specs.Rows.{kept_in}
-use Rattle.cover_records.specs.RowLaws.{row-lent, row-whole}
-use Rattle.cover_writer.specs.Writing.{Below}
+use Rattle.cover_records.specs.RowLaws.{row-whole}
 use Rattle.cover_tally.specs.Tallies.{Took}
 use Rattle.cover_tally.specs.TallyLaws.{took_none, took_same}
 use Rattle.cover_registers.specs.Counting.{lags_of}
 use Rattle.cover_registers.specs.LagLaws.{gate-none, gate-some}
-use Rattle.std.proofs.Common.{rules}
 use Rattle.cover_registers.proofs.take_gate.Goals as goal
 
 pub returns-then-rows-g-eq0 : goal.returns-then-rows-g-eq0
@@ -24,9 +21,9 @@ returns-then-rows-g-eq0 c =
 
 pub returns : goal.returns
 returns c =
-    let start = c in
     let s = c.args in
+    let e = told (omega arith) c.lag_at-own.ensures in
     let a = kept_in s.s.inputs s.s.gates s.s.period s.labels.now s.rows.now [] in
     took_same (gate-some a s.g c.requires.g_lt_gates.0 c.if-rows-g-eq0.false)
     (row-whole s.s.gates s.rows.now (λ (no ba : List ℕ) (n : ℕ). Took (leaf_taps (lags_of a) (lag_in (lags_of a) (s.s.inputs + s.g)) (copies_from no ba (stride * s.g) n)) s.tally.places c.take_leaves.result.places) s.g
-    c.take_leaves.ensures)
+    (rw e at c.take_leaves.ensures))

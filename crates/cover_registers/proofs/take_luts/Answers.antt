@@ -1,26 +1,20 @@
-use mathlib.Core.Path.{◌≡◌, sym, ap}
+use mathlib.Core.Path.{sym}
 use mathlib.Core.List.{[]}
-use Prim.Native.Nat.{ℕ, ◌-◌, ◌≤◌}
-use native.Mathlib.Omega.{arith}
-use Rattle.cover_records.specs.Kept.{entries_from}
 use Rattle.cover_records.specs.Rows.{kept_in}
-use Rattle.cover_records.specs.Listing.{lut_taps}
-use Rattle.cover_tally.specs.Tallies.{Took}
 use Rattle.cover_tally.specs.TallyLaws.{took_none, took_then, took_same}
 use Rattle.cover_registers.specs.Counting.{lags_of}
 use Rattle.cover_registers.specs.LagLaws.{luts-none, luts-more}
-use Rattle.std.proofs.Common.{rules}
 use Rattle.cover_registers.proofs.take_luts.Goals as goal
 
 pub loop-g-init : goal.loop-g-init
 loop-g-init c =
     let s = c.args in
     let a = kept_in s.s.inputs s.s.gates s.s.period s.labels.now s.rows.now [] in
-    (omega arith, took_same (sym (luts-none (lags_of a) a)) (took_none s.tally.places))
+    took_same (sym (luts-none (lags_of a) a)) (took_none s.tally.places)
 
 pub loop-g-preserved : goal.loop-g-preserved
 loop-g-preserved c =
     let s = c.args in
     let a = kept_in s.s.inputs s.s.gates s.s.period s.labels.now s.rows.now [] in
     let l = c.loop-g in
-    (search rules, took_same (luts-more (lags_of a) a l.g) (took_then l.invariant.1 c.take_gate-t.ensures))
+    took_same (luts-more (lags_of a) a l.g) (took_then l.invariant c.take_gate-tally.ensures)

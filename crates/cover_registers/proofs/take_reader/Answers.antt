@@ -1,11 +1,9 @@
-use native.Mathlib.Omega.{arith}
 use lib.IntN.{pos, ◌+ℤ◌, ◌-ℤ◌}
 use Rattle.cover_records.specs.Kept.{entries_in}
 use Rattle.cover_records.specs.Listing.{lag_in}
 use Rattle.cover_tally.specs.TallyLaws.{took_up}
 use Rattle.cover_registers.specs.Counting.{marking}
-use Rattle.cover_registers.specs.RegisterCountLaws.{moved-within, moved-counted, within-back}
-use Rattle.std.proofs.Common.{rules}
+use Rattle.cover_registers.specs.RegisterCountLaws.{moved-counted}
 use Rattle.cover_registers.proofs.take_reader.Goals as goal
 
 pub returns : goal.returns
