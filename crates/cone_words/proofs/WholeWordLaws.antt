@@ -1,12 +1,12 @@
 -- Laws of tables composed by whole words: bits of the operations on words, and the halving pin by pin.
-use Rattle.std.specs.Prelude.{◌≡◌, refl, Bool, true, false, cond, List, [], ◌∷◌, map, ◌⊎◌, ℕ, zero, suc, ◌+◌, ◌-◌, ◌*◌, ◌/◌, ◌%◌, ◌^◌, ◌≤◌, ◌<◌, eqb, length, get_or, set, take}
-use Rattle.std.proofs.Common.{sym, ap, ap₂, subst, ◌∙◌, inl, inr, not-suc-le-zero, le_of_suc-le-suc, pow-suc, mul_assoc, mul_comm, arith, length-set, get_or-set_same, get_or-set_other}
+use Rattle.std.specs.Prelude.{◌≡◌, refl, Bool, true, false, cond, List, [], ◌∷◌, ℕ, zero, suc, ◌+◌, ◌-◌, ◌*◌, ◌/◌, ◌%◌, ◌^◌, ◌≤◌, ◌<◌, eqb, length, get_or, set}
+use Rattle.std.proofs.Common.{sym, ap, ap₂, subst, ◌∙◌, not-suc-le-zero, le_of_suc-le-suc, pow-suc, mul_assoc, mul_comm, arith, length-set, get_or-set_same, get_or-set_other}
 use Rattle.std.proofs.Math.Decide.{ℕ_discrete}
 use Rattle.std.proofs.Math.Nat.{zero-div, pow-le-pow_right}
 use Rattle.std.specs.Int.Bits.{bit_and, bit_xor}
 use Rattle.std.proofs.lemmas.Nat.{and_mask, and_shr, and_mod, xor_shr, xor_mod}
 use Rattle.limits.specs.Limits.{most_pins}
-use Rattle.net_model.specs.Tables.{bit, as_number, index, pack}
+use Rattle.net_model.specs.Tables.{bit, as_number, index}
 use Rattle.cone_values.specs.Words.{bit_mod, pack-low, pack-small}
 use Rattle.cone_words.specs.LeafWords.{values_at, Composed}
 use Rattle.cone_words.proofs.LeafWordLaws.{ones-bits}

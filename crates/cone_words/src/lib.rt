@@ -66,10 +66,8 @@ fn spread(table: u64, n: usize, words: &mut [u64])
     requires { (n ≤ 64) × (n ≤ length words.old) }
     ensures { Spread table words.new n }
 {
-    let mut i = 0;
-    while i < n {
+    for i in 0..n {
         words[i] = repeated(table, i);
-        i += 1;
     }
 }
 
@@ -86,10 +84,8 @@ fn halve(s: u64, n: usize, words: &mut [u64])
     requires { 2 * n ≤ length words.old }
     ensures { Halved s n words.old words.new }
 {
-    let mut i = 0;
-    while i < n {
+    for i in 0..n {
         words[i] = neighbours(s, words, i);
-        i += 1;
     }
 }
 
@@ -99,20 +95,10 @@ fn fold(table: u64, pins: [u64; PINS], m: usize, words: &mut [u64])
     ensures { Folded table pins m 1 words.new }
 {
     let mut n: usize = 1 << m;
-    let mut j = 0;
-    while j < m {
+    for j in 0..m {
         n /= 2;
         halve(pins[j], n, words);
-        j += 1;
     }
-}
-
-// A word of a slice.
-fn word_of(words: &[u64], i: usize) -> u64
-    requires { i < length words.now }
-    ensures { result ≡ get_or words.now i 0 }
-{
-    words[i]
 }
 
 // The table applied to the first m words, in each of the 64 choices.
@@ -123,7 +109,7 @@ pub fn compose(table: u64, words: [u64; PINS], m: usize) -> u64
     let mut all = [0u64; CHOICES];
     spread(table, 1 << m, &mut all);
     fold(table, words, m, &mut all);
-    word_of(&all, 0)
+    all[0]
 }
 
 // The lowest 2^n bits of a word.
@@ -149,10 +135,8 @@ pub fn whole(table: u64, n: usize) -> u64
     ensures { result ≡ repeated_table n table }
 {
     let mut word = low(table, n);
-    let mut j = n;
-    while j < PINS {
+    for j in n..PINS {
         word = twice(word, j);
-        j += 1;
     }
     word
 }

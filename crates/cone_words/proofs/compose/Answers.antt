@@ -1,9 +1,7 @@
-use mathlib.Core.Path.{sym, subst, ◌∙◌}
-use Prim.Native.Nat.{ℕ, ◌*◌, ◌%◌, ◌^◌}
+use mathlib.Core.Path.{subst}
 use native.Mathlib.Omega.{arith}
 use Rattle.cone_words.specs.WholeWords.{Spread}
-use Rattle.cone_words.proofs.WholeWordLaws.{fold_start, fold_end, few_choices, one_shifted}
-use Rattle.std.proofs.Common.{rules}
+use Rattle.cone_words.proofs.WholeWordLaws.{fold_start, few_choices, one_shifted}
 use Rattle.cone_words.proofs.compose.Goals as goal
 
 pub spread-requires : goal.spread-requires

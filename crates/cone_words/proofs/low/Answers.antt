@@ -1,5 +1,4 @@
 use Rattle.cone_words.proofs.WholeWordLaws.{masked}
-use Rattle.std.proofs.Common.{rules}
 use Rattle.cone_words.proofs.low.Goals as goal
 
 pub returns : goal.returns

@@ -1,5 +1,4 @@
 use Rattle.cone_words.proofs.WholeWordLaws.{mux_bits}
-use Rattle.std.proofs.Common.{rules}
 use Rattle.cone_words.proofs.mux.Goals as goal
 
 pub returns : goal.returns

@@ -1,7 +1,5 @@
 use mathlib.Core.Path.{sym, ◌∙◌}
-use native.Mathlib.Omega.{arith}
-use Rattle.cone_words.proofs.WholeWordLaws.{repeated-one, repeated-zero}
-use Rattle.std.proofs.Common.{rules}
+use Rattle.cone_words.proofs.WholeWordLaws.{repeated-one}
 use Rattle.cone_words.proofs.repeated.Goals as goal
 
 pub returns-then-value_at-eq1 : goal.returns-then-value_at-eq1

@@ -1,7 +1,6 @@
 use native.Mathlib.Omega.{arith}
 use Rattle.cone_words.proofs.WholeWordLaws.{one_shifted}
 use Rattle.cone_words.specs.RepeatLaws.{twice-small, twice_word}
-use Rattle.std.proofs.Common.{rules}
 use Rattle.cone_words.proofs.twice.Goals as goal
 
 pub overflow_shl-result : goal.overflow_shl-result
