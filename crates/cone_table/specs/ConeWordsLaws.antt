@@ -1,5 +1,5 @@
 -- Laws of the words of a cone's copies.
-use Rattle.std.specs.Prelude.{◌≡◌, refl, List, [], ◌∷◌, map, ◌⊎◌, ℕ, zero, suc, ◌+◌, ◌-◌, ◌*◌, ◌/◌, ◌%◌, ◌^◌, ◌≤◌, ◌<◌, length, get_or, set, take}
+use Rattle.std.specs.Prelude.{◌≡◌, refl, List, [], ◌∷◌, map, ◌⊎◌, ℕ, zero, suc, ◌+◌, ◌-◌, ◌*◌, ◌/◌, ◌^◌, ◌≤◌, ◌<◌, length, get_or, set, take}
 use Rattle.std.proofs.Common.{sym, ap, ap₂, ◌∙◌, subst, inl, inr, not-suc-le-zero, le_of_suc-le-suc, add-zero, add-suc, suc-add, arith}
 use mathlib.Core.Bool.{Bool, true, false, cond}
 use Rattle.limits.specs.Limits.{most_pins, most_table}
@@ -21,7 +21,7 @@ use Rattle.sequences.specs.Tests.{First}
 use Rattle.cone_copies.specs.CopyLists.{copies_in, source_at, SmallWires, Bounded, SourcesFirst}
 use Rattle.cone_copies.specs.CopyListLaws.{length-copies_in, get_or_copies_in, in_copies_in, found_in, missing, each_set, member}
 use Rattle.cone_copies.specs.CopyPinLaws.{pin-feeds}
-use Rattle.cone_walk.specs.WalkTold.{number_of, Walk}
+use Rattle.cone_walk.specs.WalkTold.{WalkCut}
 use Rattle.cone_walk.specs.declared.Cone.{Cone}
 use Rattle.cone_descent.specs.Descent.{Placed}
 use Rattle.cone_table.specs.ConeWords.{Given, Tabled, Carries, CopyWord, WordAt, Right, WordsSettled, TableOver}
@@ -193,9 +193,9 @@ table-last L nodes backs len words v some s e N w tabled cone leaves first =
 
 -- ---- for callers
 
-module _ {I G : ℕ} {ps sources counts ln lb : List ℕ} {n g : ℕ} {r : Cone} (t : Walk I G ps sources counts ln lb n g r) (e : number_of r.verdict ≡ 0) where
+module _ {I G : ℕ} {ps sources counts ln lb : List ℕ} {n g : ℕ} {r : Cone} (t : WalkCut I G ps sources counts ln lb n g r) where
   -- what a table over the cone asks
   pub cone-given : {tables marks : List ℕ} → SmallWires I G ps sources counts → G ≤ length tables → n ≤ most_pins → n ≤ length ln → n ≤ length lb → Rising (copies_in ln lb n)
       → most_table ≤ length marks → Placed I g r marks → Given I G ps sources counts tables ln lb n r.nodes r.backs r.len marks
   cone-given w h k a b u s p =
-      record { wires = w; tables = h; few = k; leaf_nodes = a; leaf_backs = b; rising = u; room = t.room e; bounded = t.bounded e; space = s; marked = p.seated.byte }
+      record { wires = w; tables = h; few = k; leaf_nodes = a; leaf_backs = b; rising = u; room = t.room; bounded = t.bounded; space = s; marked = p.seated.byte }

@@ -1,12 +1,11 @@
 use native.Mathlib.Omega.{arith}
 use Rattle.cone_copies.specs.CopyListLaws.{place, member}
-use Rattle.std.proofs.Common.{rules}
 use Rattle.cone_table.proofs.copy_word.Goals as goal
 
 pub overflow_sub-g : goal.overflow_sub-g
 overflow_sub-g c =
     let start = c in
-    let m = member c.args.cone_nodes.now c.args.cone_backs.now c.args.s.copies c.args.p c.requires.0.bounded c.requires.2 in
+    let m = member c.args.cone.nodes.now c.args.cone.backs.now c.args.cone.len c.args.p c.requires.0.bounded c.requires.2 in
     m.low
 
 pub gather-fed-requires : goal.gather-fed-requires
@@ -14,7 +13,7 @@ gather-fed-requires c =
     let start = c in
     let w = c.requires.0.wires in
     let r = c.requires.0.room in
-    let m = member c.args.cone_nodes.now c.args.cone_backs.now c.args.s.copies c.args.p c.requires.0.bounded c.requires.2 in
+    let m = member c.args.cone.nodes.now c.args.cone.backs.now c.args.cone.len c.args.p c.requires.0.bounded c.requires.2 in
     let g = m.gate in
     let d = w.gates in
     let n = m.near in
@@ -38,23 +37,23 @@ gather-fed-requires c =
       omega arith,
     )
 
-pub bounds-tables-g : goal.bounds-tables-g
-bounds-tables-g c =
+pub bounds-s-g : goal.bounds-s-g
+bounds-s-g c =
     let start = c in
     let w = c.requires.0.wires in
     let r = c.requires.0.room in
-    let m = member c.args.cone_nodes.now c.args.cone_backs.now c.args.s.copies c.args.p c.requires.0.bounded c.requires.2 in
+    let m = member c.args.cone.nodes.now c.args.cone.backs.now c.args.cone.len c.args.p c.requires.0.bounded c.requires.2 in
     let g = m.gate in
     let d = w.gates in
     let s = c.requires.0.tables in
     omega arith
 
-pub bounds-net-g : goal.bounds-net-g
-bounds-net-g c =
+pub bounds-s-g-2 : goal.bounds-s-g-2
+bounds-s-g-2 c =
     let start = c in
     let w = c.requires.0.wires in
     let r = c.requires.0.room in
-    let m = member c.args.cone_nodes.now c.args.cone_backs.now c.args.s.copies c.args.p c.requires.0.bounded c.requires.2 in
+    let m = member c.args.cone.nodes.now c.args.cone.backs.now c.args.cone.len c.args.p c.requires.0.bounded c.requires.2 in
     let g = m.gate in
     let s = w.wires.sizes in
     omega arith

@@ -1,7 +1,5 @@
-use native.Mathlib.Omega.{arith}
 use Rattle.cone_copies.specs.CopyLists.{copies_in}
 use Rattle.cone_table.specs.ConeWordsLaws.{table-last}
-use Rattle.std.proofs.Common.{rules}
 use Rattle.cone_table.proofs.table.Goals as goal
 
 pub returns : goal.returns
