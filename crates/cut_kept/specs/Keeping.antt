@@ -1,5 +1,5 @@
 -- Definitions: what the functions that write and read a row ask and tell.
-use Rattle.std.specs.Prelude.{◌≡◌, List, ◌⊎◌, ℕ, suc, ◌+◌, ◌*◌, ◌/◌, ◌%◌, ◌^◌, ◌≤◌, ◌<◌, ℤ, length, get_or, set}
+use Rattle.std.specs.Prelude.{◌≡◌, Option, None, Some, IfSome, List, ◌⊎◌, ℕ, ◌+◌, ◌*◌, ◌/◌, ◌%◌, ◌^◌, ◌≤◌, ◌<◌, ℤ, length, get_or, set}
 use Rattle.limits.specs.Limits.{most_k}
 use Rattle.net_model.specs.Copies.{copy}
 use Rattle.label_theory.specs.Labels.{Low}
@@ -14,13 +14,13 @@ abbrev pub SameBeside : ℕ → ℕ → List ℕ → List ℕ → Type 0
 SameBeside at n l l' = (j : ℕ) → (j < at) ⊎ (at + n ≤ j) → get_or l' j 0 ≡ get_or l j 0
 
 -- How c was written behind m numbers: there is no place for it, or it is the next.
-pub data TakeTold (l : List ℕ) (at m c : ℕ) (l' : List ℕ) (r : ℕ) : Type 0 where
-  full : r ≡ suc most_k → l' ≡ l → TakeTold l at m c l' r
-  taken : r ≡ m + 1 → l' ≡ set l (at + m) c → m < most_k → TakeTold l at m c l' r
+pub data TakeTold (l : List ℕ) (at m c : ℕ) (l' : List ℕ) (r : Option ℕ) : Type 0 where
+  full : r ≡ None → l' ≡ l → TakeTold l at m c l' r
+  taken : r ≡ Some (m + 1) → l' ≡ set l (at + m) c → m < most_k → TakeTold l at m c l' r
 
 -- How c was dealt with that is to be written where P holds.
-pub data DueTold (P : Type 0) (l : List ℕ) (at m c : ℕ) (l' : List ℕ) (r : ℕ) : Type 0 where
-  passed : r ≡ m → l' ≡ l → ¬ P → DueTold P l at m c l' r
+pub data DueTold (P : Type 0) (l : List ℕ) (at m c : ℕ) (l' : List ℕ) (r : Option ℕ) : Type 0 where
+  passed : r ≡ Some m → l' ≡ l → ¬ P → DueTold P l at m c l' r
   due : TakeTold l at m c l' r → DueTold P l at m c l' r
 
 -- What is due stands in the first r places from `at` on; the first m are as they were.
@@ -31,8 +31,8 @@ pub record Gathered (most : ℕ) (Due : ℕ → Type 0) (l : List ℕ) (at m : �
   pub all : (y : ℕ) → Due y → (j : ℕ) × (j < r) × (get_or l' (at + j) 0 ≡ y)
 
 -- The same, unless there are too many for the places.
-pub record Gathers (most : ℕ) (Due : ℕ → Type 0) (l : List ℕ) (at m : ℕ) (l' : List ℕ) (r : ℕ) : Type 0 where
-  pub fits : r ≤ most_k → Gathered most Due l at m l' r
+pub record Gathers (most : ℕ) (Due : ℕ → Type 0) (l : List ℕ) (at m : ℕ) (l' : List ℕ) (r : Option ℕ) : Type 0 where
+  pub fits : IfSome r (λ n. (n ≤ most_k) × Gathered most Due l at m l' n)
   pub same : SameBeside at most_k l l'
   pub long : length l' ≡ length l
 
@@ -54,10 +54,10 @@ pub record RowTold (gates most : ℕ) (Due : ℕ → Type 0) (l₀ l : List ℕ)
   pub all : 0 < (row_in gates l g).count → (y : ℕ) → Due y → InRow (row_in gates l g) y
   pub same : SameBeside (row_at gates g) row_places l₀ l
 
--- How m numbers became a row.
-pub data CloseTold (gates : ℕ) (l : List ℕ) (g border m : ℕ) (l' : List ℕ) : Type 0 where
-  dropped : most_k < m → l' ≡ set l (row_at gates g) 0 → CloseTold gates l g border m l'
-  closed : m ≤ most_k → l' ≡ set (set l (row_at gates g) m) (row_at gates g + 1) border → CloseTold gates l g border m l'
+-- How m numbers became a row, or too many of them an empty one.
+pub data CloseTold (gates : ℕ) (l : List ℕ) (g border : ℕ) (m : Option ℕ) (l' : List ℕ) : Type 0 where
+  dropped : m ≡ None → l' ≡ set l (row_at gates g) 0 → CloseTold gates l g border m l'
+  closed : (n : ℕ) → m ≡ Some n → l' ≡ set (set l (row_at gates g) n) (row_at gates g + 1) border → CloseTold gates l g border m l'
 
 pub record CloseAsked (gates : ℕ) (l : List ℕ) (g border : ℕ) : Type 0 where
   pub gate : g < gates
@@ -88,10 +88,14 @@ pub record ServeAsked (inputs gates width : ℕ) (l : List ℕ) (ls : List ℤ) 
 abbrev pub LowFrom : ℕ → List ℕ → ℕ → ℕ → ℕ → (ℕ → ℤ) → ℤ → Type 0
 LowFrom width l at n φ lab h = (i : ℕ) → i < n → Low φ lab h (copy (get_or l (at + i) 0 / width) (get_or l (at + i) 0 % width))
 
-pub record LowFromAsked (width : ℕ) (l : List ℕ) (ls : List ℤ) (φ at n : ℕ) : Type 0 where
-  pub places : at + n ≤ length l
+-- the numbers are copies low enough for leaves
+abbrev pub AllLow : ℕ → List ℕ → ℕ → (ℕ → ℤ) → ℤ → Type 0
+AllLow width l φ lab h = (i : ℕ) → i < length l → Low φ lab h (copy (get_or l i 0 / width) (get_or l i 0 % width))
+
+-- the numbers are copies that have labels
+pub record AllLowAsked (width : ℕ) (l : List ℕ) (ls : List ℤ) (φ : ℕ) : Type 0 where
   pub wide : 0 < width
-  pub label : (i : ℕ) → i < n → get_or l (at + i) 0 / width < length ls
+  pub label : (i : ℕ) → i < length l → get_or l i 0 / width < length ls
   pub small : (u : ℕ) → Small (label_in ls u)
   pub shift : φ * width ≤ room
 
