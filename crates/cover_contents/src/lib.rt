@@ -22,7 +22,7 @@ ghost use Rattle.cover_contents.specs.Traces.{samples_to, Sampled, Tracing, Most
 
 use cover_registers::{counted, lag_at, moved};
 use cover_writer::CoverHead;
-use inputs::{narrow, word};
+use inputs::narrow;
 use limits::{COUNT, NODES, PINS};
 use net_reader::{NetSizes, delays_at, outs_at};
 use run_step::{run, step};
@@ -36,11 +36,9 @@ fn take_sample(z: NetSizes, kept: &[u8], known: &[usize], at: usize, trace: &mut
     requires gates_in_bounds { at + (z.inputs + z.gates) ≤ length trace.old }
     ensures { Sampled kept.now trace.old at (z.inputs + z.gates) trace.new }
 {
-    let mut v = 0;
-    while v < z.inputs + z.gates {
+    for v in 0..z.inputs + z.gates {
         let told = told_value(z, kept, 0, known, v, COUNT);
         trace[at + v] = narrow(told - 1);
-        v += 1;
     }
 }
 
@@ -58,11 +56,9 @@ fn take_trace(
     requires gates_bound { (z.inputs + z.gates ≤ most_nodes) × (most_nodes * n ≤ length trace.old) }
     ensures { Tracing z net.now tables.now kept.old known.old trace.old kept.new known.new trace.new n }
 {
-    let mut t = 0;
-    while t < n {
+    for t in 0..n {
         take_sample(z, kept, known, NODES * t, trace);
         step(z, net, tables, 0, kept, known);
-        t += 1;
     }
 }
 
@@ -71,7 +67,7 @@ fn samples_to(lag: i64) -> usize
     requires { Within 128 lag }
     ensures { result ≡ samples_to lag }
 {
-    word(counted(moved(COUNT, 0, lag)))
+    counted(moved(COUNT, 0, lag)) as usize
 }
 
 // Those of any node.
@@ -79,15 +75,9 @@ fn most_samples(s: CoverHead, labels: &[i64], rows: &[usize]) -> usize
     requires { LagsHeld (marking s.inputs s.gates s.period labels.now rows.now) }
     ensures { MostSamples (marking s.inputs s.gates s.period labels.now rows.now) s.gates result }
 {
-    let gates = s.gates;
     let mut most = COUNT;
-    let mut g = 0;
-    while g < gates {
-        let n = samples_to(lag_at(s, labels, rows, s.inputs + g));
-        if most < n {
-            most = n;
-        }
-        g += 1;
+    for g in 0..s.gates {
+        most = most.max(samples_to(lag_at(s, labels, rows, s.inputs + g)));
     }
     most
 }
@@ -100,10 +90,8 @@ fn write_cells(trace: &[u8], u: usize, top: usize, n: usize, area: &mut [u8]) ->
     requires n_in_bounds { n ≤ length area.old }
     ensures { Wrote (cells_back trace.now u top n) area.old area.new result }
 {
-    let mut j = 0;
-    while j < n {
+    for j in 0..n {
         area[j] = trace[NODES * (top - (j + 1)) + u];
-        j += 1;
     }
     n
 }
@@ -125,18 +113,18 @@ fn write_connection(
     ensures { Wrote (tap_cells trace.now (entries_in (marking s.inputs s.gates s.period labels.now rows.now)) (tap u ((pos d +ℤ own) -ℤ lag_in (entries_in (marking s.inputs s.gates s.period labels.now rows.now)) u) ∷ [])) area.old area.new result }
 {
     let other = lag_at(s, labels, rows, u);
-    let n = word(counted(moved(d, own, other)));
+    let n = counted(moved(d, own, other)) as usize;
     write_cells(trace, u, samples_to(other), n, area)
 }
 
-// n leaves, from place p on, of the LUT with this root.
+// n leaves, from place p on, of a LUT with this lag, or with lag 0 n outputs.
 fn write_leaves(
     s: CoverHead,
     labels: &[i64],
     rows: &[usize],
     nodes: &[usize],
     backs: &[usize],
-    root: usize,
+    own: i64,
     p: usize,
     n: usize,
     trace: &[u8],
@@ -144,18 +132,15 @@ fn write_leaves(
 ) -> usize
     requires lags_held { LagsHeld (marking s.inputs s.gates s.period labels.now rows.now) }
     requires n_in_bounds { (p + n ≤ length nodes.now) × (p + n ≤ length backs.now) }
-    requires below { Below depth_room backs.now p n }
-    requires cells_asked { CellsAsked trace.now (entries_in (marking s.inputs s.gates s.period labels.now rows.now)) (leaf_taps (entries_in (marking s.inputs s.gates s.period labels.now rows.now)) (lag_in (entries_in (marking s.inputs s.gates s.period labels.now rows.now)) root) (copies_from nodes.now backs.now p n)) area.old }
-    ensures { Wrote (tap_cells trace.now (entries_in (marking s.inputs s.gates s.period labels.now rows.now)) (leaf_taps (entries_in (marking s.inputs s.gates s.period labels.now rows.now)) (lag_in (entries_in (marking s.inputs s.gates s.period labels.now rows.now)) root) (copies_from nodes.now backs.now p n))) area.old area.new result }
+    requires below { Below depth_room backs.now p n × Within 128 own }
+    requires cells_asked { CellsAsked trace.now (entries_in (marking s.inputs s.gates s.period labels.now rows.now)) (leaf_taps (entries_in (marking s.inputs s.gates s.period labels.now rows.now)) own (copies_from nodes.now backs.now p n)) area.old }
+    ensures { Wrote (tap_cells trace.now (entries_in (marking s.inputs s.gates s.period labels.now rows.now)) (leaf_taps (entries_in (marking s.inputs s.gates s.period labels.now rows.now)) own (copies_from nodes.now backs.now p n))) area.old area.new result }
 {
-    let own = lag_at(s, labels, rows, root);
     let mut at = 0;
-    let mut j = 0;
-    while j < n {
+    for j in 0..n {
         let u = nodes[p + j];
         let d = backs[p + j];
         at += write_connection(s, labels, rows, own, u, d, trace, &mut area[at..]);
-        j += 1;
     }
     at
 }
@@ -177,6 +162,7 @@ fn write_gate(
     if rows[g] == 0 {
         return 0;
     }
+    let own = lag_at(s, labels, rows, s.inputs + g);
     let a = 2 * s.gates;
     let b = (2 + PINS) * s.gates;
     write_leaves(
@@ -185,7 +171,7 @@ fn write_gate(
         rows,
         &rows[a..],
         &rows[b..],
-        s.inputs + g,
+        own,
         PINS * g,
         rows[s.gates + g],
         trace,
@@ -200,40 +186,9 @@ fn write_luts(s: CoverHead, labels: &[i64], rows: &[usize], trace: &[u8], area: 
     requires cells_asked { CellsAsked trace.now (entries_in (marking s.inputs s.gates s.period labels.now rows.now)) (lut_taps (entries_in (marking s.inputs s.gates s.period labels.now rows.now)) (entries_from (kept_in s.inputs s.gates s.period labels.now rows.now []) 0 s.gates)) area.old }
     ensures { Wrote (tap_cells trace.now (entries_in (marking s.inputs s.gates s.period labels.now rows.now)) (lut_taps (entries_in (marking s.inputs s.gates s.period labels.now rows.now)) (entries_from (kept_in s.inputs s.gates s.period labels.now rows.now []) 0 s.gates))) area.old area.new result }
 {
-    let gates = s.gates;
     let mut at = 0;
-    let mut g = 0;
-    while g < gates {
+    for g in 0..s.gates {
         at += write_gate(s, labels, rows, g, trace, &mut area[at..]);
-        g += 1;
-    }
-    at
-}
-
-// n outputs.
-fn write_outputs(
-    s: CoverHead,
-    labels: &[i64],
-    rows: &[usize],
-    outs: &[usize],
-    delays: &[usize],
-    n: usize,
-    trace: &[u8],
-    area: &mut [u8],
-) -> usize
-    requires lags_held { LagsHeld (marking s.inputs s.gates s.period labels.now rows.now) }
-    requires n_in_bounds { (n ≤ length outs.now) × (n ≤ length delays.now) }
-    requires below { Below depth_room delays.now 0 n }
-    requires cells_asked { CellsAsked trace.now (entries_in (marking s.inputs s.gates s.period labels.now rows.now)) (output_taps (entries_in (marking s.inputs s.gates s.period labels.now rows.now)) (pins_in outs.now delays.now 0 n)) area.old }
-    ensures { Wrote (tap_cells trace.now (entries_in (marking s.inputs s.gates s.period labels.now rows.now)) (output_taps (entries_in (marking s.inputs s.gates s.period labels.now rows.now)) (pins_in outs.now delays.now 0 n))) area.old area.new result }
-{
-    let mut at = 0;
-    let mut o = 0;
-    while o < n {
-        let u = outs[o];
-        let d = delays[o];
-        at += write_connection(s, labels, rows, 0, u, d, trace, &mut area[at..]);
-        o += 1;
     }
     at
 }
@@ -255,12 +210,14 @@ fn write_registers(
     let a = outs_at(z, net);
     let b = delays_at(z, net);
     let at = write_luts(s, labels, rows, trace, area);
-    write_outputs(
+    write_leaves(
         s,
         labels,
         rows,
         &net[a..],
         &net[b..],
+        0,
+        0,
         z.outputs,
         trace,
         &mut area[at..],

@@ -4,33 +4,30 @@ use lib.IntN.{pos, ◌+ℤ◌, ◌-ℤ◌}
 use Rattle.cover_records.specs.Kept.{entries_in}
 use Rattle.cover_records.specs.Listing.{lag_in}
 use Rattle.cover_registers.specs.Counting.{marking}
-use Rattle.cover_registers.specs.RegisterCountLaws.{told, moved-within, moved-counted, within-back}
+use Rattle.cover_registers.specs.RegisterCountLaws.{told, moved-counted}
 use Rattle.cover_contents.specs.Traces.{samples_to}
 use Rattle.cover_contents.specs.CellLaws.{connection-asks, connection-wrote}
-use Rattle.std.proofs.Common.{rules}
 use Rattle.cover_contents.proofs.write_connection.Goals as goal
 
 pub write_cells-requires : goal.write_cells-requires
 write_cells-requires c =
-    let counted = c.counted in
+    let counted = c.counted-n in
     let lag-at = c.lag_at-other in
-    let start = c in
     let s = c.args in
     let p = c.requires in
     let es = entries_in (marking s.s.inputs s.s.gates s.s.period s.labels.now s.rows.now) in
     let parts = connection-asks s.trace.now es s.u ((pos s.d +ℤ s.own) -ℤ lag_in es s.u)
-    (c.word-n.ensures ∙ moved-counted s.d p.d_lt_depth_room.1 lag-at.ensures c.moved.ensures p.d_lt_depth_room.0 counted.result counted.ensures)
+    (moved-counted s.d p.d_lt_depth_room.1 lag-at.ensures c.moved.ensures p.d_lt_depth_room.0 counted.result counted.ensures)
     (c.samples_to.ensures ∙ ap samples_to (told (omega arith) lag-at.ensures)) {area = s.area.now} p.cells_asked in
     record { u_lt_most_nodes = parts.0; n_in_bounds = parts.1 }
 
 pub returns : goal.returns
 returns c =
-    let counted = c.counted in
+    let counted = c.counted-n in
     let lag-at = c.lag_at-other in
-    let start = c in
     let s = c.args in
     let p = c.requires in
     let es = entries_in (marking s.s.inputs s.s.gates s.s.period s.labels.now s.rows.now) in
     connection-wrote s.trace.now es s.u ((pos s.d +ℤ s.own) -ℤ lag_in es s.u)
-    (c.word-n.ensures ∙ moved-counted s.d p.d_lt_depth_room.1 lag-at.ensures c.moved.ensures p.d_lt_depth_room.0 counted.result counted.ensures)
+    (moved-counted s.d p.d_lt_depth_room.1 lag-at.ensures c.moved.ensures p.d_lt_depth_room.0 counted.result counted.ensures)
     (c.samples_to.ensures ∙ ap samples_to (told (omega arith) lag-at.ensures)) c.write_cells.ensures

@@ -1,11 +1,8 @@
 use mathlib.Core.Path.{◌∙◌, ap}
 use mathlib.Core.List.{List}
 use Prim.Native.Nat.{ℕ}
-use native.Mathlib.Omega.{arith}
 use Rattle.cover_records.specs.Outcomes.{written}
-use Rattle.run_step.specs.SteppingLaws.{step-asks}
 use Rattle.cover_contents.specs.ContentsWritten.{rows-room, contents_are, registers-asked}
-use Rattle.std.proofs.Common.{rules}
 use Rattle.cover_contents.proofs.write_contents.Goals as goal
 
 pub write_registers-requires : goal.write_registers-requires

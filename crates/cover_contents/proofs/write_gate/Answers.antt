@@ -2,6 +2,7 @@ use mathlib.Core.Path.{sym}
 use mathlib.Core.List.{List, []}
 use Prim.Native.Nat.{ℕ, ◌+◌, ◌*◌, ◌≤◌}
 use native.Mathlib.Omega.{arith}
+use Rattle.cover_registers.specs.RegisterCountLaws.{told, within-back}
 use lib.ListN.{length}
 use Rattle.limits.specs.Limits.{depth_room}
 use Rattle.net_model.specs.Arrays.{stride, copies_from}
@@ -14,7 +15,6 @@ use Rattle.cover_registers.specs.Counting.{lags_of}
 use Rattle.cover_registers.specs.LagLaws.{gate-none, gate-some}
 use Rattle.cover_contents.specs.Traces.{tap_cells, CellsAsked}
 use Rattle.cover_contents.specs.CellLaws.{taps_none, asked-same, wrote-same}
-use Rattle.std.proofs.Common.{rules}
 use Rattle.cover_contents.proofs.write_gate.Goals as goal
 
 pub returns-then-rows-g-eq0 : goal.returns-then-rows-g-eq0
@@ -26,7 +26,6 @@ returns-then-rows-g-eq0 c =
 
 pub write_leaves-requires : goal.write_leaves-requires
 write_leaves-requires c =
-    let start = c in
     let s = c.args in
     let a = kept_in s.s.inputs s.s.gates s.s.period s.labels.now s.rows.now [] in
     let es = lags_of a in
@@ -39,14 +38,13 @@ write_leaves-requires c =
     let leaves = row-lent s.s.gates s.rows.now
     (λ (no ba : List ℕ) (n : ℕ). ((stride * s.g + n ≤ length no) × (stride * s.g + n ≤ length ba)) × (Below depth_room ba (stride * s.g) n × CellsAsked s.trace.now es (leaf_taps es (lag_in es (s.s.inputs + s.g)) (copies_from no ba (stride * s.g) n)) s.area.now)) s.g
     ((omega arith, omega arith), (p.small s.g h m, asked-same s.trace.now es (sym (gate-some a s.g h m)) c.requires.cells_asked)) in
-    record { lags_held = p.lags; n_in_bounds = leaves.0; below = leaves.1.0; cells_asked = leaves.1.1 }
+    record { lags_held = p.lags; n_in_bounds = leaves.0; below = (leaves.1.0, within-back c.lag_at-own.result (omega arith) c.lag_at-own.ensures.within); cells_asked = rw (told (omega arith) c.lag_at-own.ensures) leaves.1.1 }
 
 pub returns : goal.returns
 returns c =
-    let start = c in
     let s = c.args in
     let a = kept_in s.s.inputs s.s.gates s.s.period s.labels.now s.rows.now [] in
     let es = lags_of a in
     wrote-same s.trace.now es (gate-some a s.g c.requires.g_lt_gates.0 c.if-rows-g-eq0.false)
     (row-whole s.s.gates s.rows.now (λ (no ba : List ℕ) (n : ℕ). Wrote (tap_cells s.trace.now es (leaf_taps es (lag_in es (s.s.inputs + s.g)) (copies_from no ba (stride * s.g) n))) s.area.now c.write_leaves.new.area c.write_leaves.result) s.g
-    c.write_leaves.ensures)
+    (rw (told (omega arith) c.lag_at-own.ensures) at c.write_leaves.ensures))

@@ -1,18 +1,14 @@
-use mathlib.Core.Path.{◌≡◌}
 use mathlib.Core.List.{List, []}
-use Prim.Native.Nat.{ℕ, ◌-◌, ◌≤◌}
+use Prim.Native.Nat.{ℕ, ◌<◌}
 use native.Mathlib.Omega.{arith}
 use Rattle.cover_theory.specs.SharedRegisters.{Tap}
 use Rattle.cover_records.specs.Kept.{Kept, entries_from}
 use Rattle.cover_records.specs.Rows.{kept_in}
 use Rattle.cover_records.specs.Listing.{lut_taps}
-use Rattle.cover_writer.specs.Writing.{Wrote}
 use Rattle.cover_writer.specs.BytesBehind.{wrote_none}
 use Rattle.cover_registers.specs.Counting.{lags_of}
 use Rattle.cover_registers.specs.LagLaws.{luts-none, luts-more}
-use Rattle.cover_contents.specs.Traces.{tap_cells}
-use Rattle.cover_contents.specs.CellLaws.{taps_none, part-fits, part-long, part-asks, part-within, part-wrote}
-use Rattle.std.proofs.Common.{rules}
+use Rattle.cover_contents.specs.CellLaws.{taps_none, part-asks, part-wrote}
 use Rattle.cover_contents.proofs.write_luts.Goals as goal
 
 -- `cover_contents::write_luts` meets its contract. The loop's invariant: the registers of the leaves of the gates passed are written. The measure is the number of gates left.
@@ -28,10 +24,10 @@ pub loop-g-init : goal.loop-g-init
 loop-g-init c =
     let s = c.args in
     let a = kept_in s.s.inputs s.s.gates s.s.period s.labels.now s.rows.now [] in
-    (omega arith, rw (luts-none (lags_of a) a) (rw (taps_none s.trace.now (lags_of a)) (wrote_none s.area.now)))
+    rw (luts-none (lags_of a) a) (rw (taps_none s.trace.now (lags_of a)) (wrote_none s.area.now))
 
 pub write_gate-at-requires : goal.write_gate-at-requires
-write_gate-at-requires c = let start = c in
+write_gate-at-requires c =
     let s = c.args in
     let a = kept_in s.s.inputs s.s.gates s.s.period s.labels.now s.rows.now [] in
     let es = lags_of a in
@@ -39,13 +35,11 @@ write_gate-at-requires c = let start = c in
     let next = one a in
     let q = c.requires.cells_asked in
     let l = c.loop-g in
-    let h = c.loop-g-test.true in
-    record { leaves_held = c.requires.leaves_held; g_lt_gates = (h, c.requires.gates_in_bounds); cells_asked = part-asks s.trace.now es taken next (luts-more es a) q l.invariant.1 h }
+    let h : l.g < s.s.gates = omega arith in
+    record { leaves_held = c.requires.leaves_held; g_lt_gates = (h, c.requires.gates_in_bounds); cells_asked = part-asks s.trace.now es taken next (luts-more es a) q l.invariant h }
 
 pub loop-g-preserved : goal.loop-g-preserved
 loop-g-preserved c =
-    let loop-test = c.loop-g-test in
-    let start = c in
     let s = c.args in
     let a = kept_in s.s.inputs s.s.gates s.s.period s.labels.now s.rows.now [] in
     let es = lags_of a in
@@ -53,4 +47,4 @@ loop-g-preserved c =
     let next = one a in
     let q = c.requires.cells_asked in
     let l = c.loop-g in
-    (omega (arith, loop-test.true), part-wrote s.trace.now es taken next (luts-more es a) q l.invariant.1 loop-test.true c.write_gate-at.ensures)
+    part-wrote s.trace.now es taken next (luts-more es a) q l.invariant (omega arith) c.write_gate-at.ensures
