@@ -1,20 +1,16 @@
 -- Laws of the reader's lines and of the places of cases.
-use Rattle.std.specs.Prelude.{◌≡◌, refl, List, [], ◌++◌, ℕ, ◌+◌, ◌-◌, ◌≤◌, ◌<◌, get_or, take, drop}
+use Rattle.std.specs.Prelude.{◌≡◌, List, ◌++◌, ℕ, ◌-◌, ◌<◌, take, drop, Ok}
 use Rattle.std.proofs.Common.{sym, ◌∙◌, append_assoc, arith, length-take, length-drop, take_all}
 use Rattle.std.proofs.Math.Path.{ap, ap₂}
 use Rattle.std.proofs.Math.ListN.{length}
-use Rattle.net_model.specs.Net.{Net}
 use Rattle.net_model.specs.Arrays.{net_in}
 use Rattle.net_model.specs.ArrayLaws.{gates-net_in, inputs-net_in, outputs-net_in, length-pins_in}
 use Rattle.limits.specs.Courses.{long}
-use Rattle.net_bytes.specs.Reading.{Result, got, refused}
+use Rattle.net_bytes.specs.Reading.{refused}
 use Rattle.net_bytes.specs.Walk.{net_reader}
 use Rattle.cover_records.specs.Listing.{decimal, newline, refusal_text}
-use Rattle.net_fields.specs.Verdicts.{outcome}
-use Rattle.net_fields.specs.declared.Verdict.{Verdict}
-use Rattle.net_fields.specs.declared.Verdict.TheVariants.{Read, Refused}
 use Rattle.net_reader.specs.ReadAnswer.{arrays_of, result_of}
-use Rattle.net_reader.specs.declared.NetRead.{NetRead}
+use Rattle.net_reader.specs.declared.NetSizes.{NetSizes}
 use Rattle.cover_writer.specs.Writing.{Wrote}
 use Rattle.text_digits.specs.PutLaws.{wrote_as}
 use Rattle.inputs.specs.InputParts.{Behind}
@@ -27,19 +23,18 @@ pub sizes-text : (inputs gates outputs : ℕ) → (((read_word ++ decimal inputs
 unfolding sizes_text
 sizes-text inputs gates outputs = pairs read_word (decimal inputs) gap (decimal gates) gap (decimal outputs) newline
 
-module _ (k : ℕ) (net : List ℕ) (r : NetRead) (packed ts : List ℕ) (e : net_reader long k net ≡ result_of r packed ts) where
-  pub reading_refused : {n m c : ℕ} {before after : List ℕ} → r.verdict ≡ Refused n → m ≡ n → Wrote (refusal_text m) before after c → Wrote (reading_text (net_reader long k net)) before after c
+module _ (k : ℕ) (net : List ℕ) where
+  pub reading_refused : {n m c : ℕ} {before after : List ℕ} → net_reader long k net ≡ refused n → m ≡ n → Wrote (refusal_text m) before after c → Wrote (reading_text (net_reader long k net)) before after c
   unfolding reading_text
-  reading_refused v d t =
-      wrote_as (ap reading_text (e ∙ ap (λ (x : Verdict). outcome x (net_in (arrays_of r.sizes packed ts)) []) v) ∙ ap refusal_text (sym d)) t
+  reading_refused e d t = wrote_as (ap reading_text e ∙ ap refusal_text (sym d)) t
 
-  pub reading_read : {c : ℕ} {before after : List ℕ} → r.verdict ≡ Read → Wrote (sizes_text r.sizes.inputs r.sizes.gates r.sizes.outputs) before after c
-      → Wrote (reading_text (net_reader long k net)) before after c
+  pub reading_read : {c : ℕ} {before after : List ℕ} (z : NetSizes) (packed ts : List ℕ) → net_reader long k net ≡ result_of (Ok z) packed ts
+      → Wrote (sizes_text z.inputs z.gates z.outputs) before after c → Wrote (reading_text (net_reader long k net)) before after c
   unfolding reading_text
-  reading_read v t =
-      let a = arrays_of r.sizes packed ts in
+  reading_read z packed ts e t =
+      let a = arrays_of z packed ts in
       let o : length (net_in a).outputs ≡ a.outputs = ap length (outputs-net_in a) ∙ length-pins_in a.out_sources a.out_counts 0 a.outputs in
-      wrote_as (ap reading_text (e ∙ ap (λ (x : Verdict). outcome x (net_in a) []) v)
+      wrote_as (ap reading_text e
       ∙ ap (λ (x : ℕ). sizes_text x (length (net_in a).gates) (length (net_in a).outputs)) (inputs-net_in a)
       ∙ ap₂ (sizes_text a.inputs) (gates-net_in a) o) t
 

@@ -8,9 +8,8 @@ ghost use Rattle.limits.specs.Courses.{long};
 ghost use Rattle.limits.specs.Limits.{line_room};
 ghost use Rattle.text_readings.specs.ReadingText.{sizes_text, reading_text};
 
-use inputs::{byte_at, net_length, place_behind, wide};
+use inputs::{byte_at, net_length, place_behind};
 use limits::{GATES, PACKED, long_course};
-use net_fields::Verdict;
 use net_reader::read_net;
 use text_digits::{put_byte, put_field, write_refusal};
 
@@ -32,13 +31,10 @@ fn write_reading(net: &[u8], k: u32, out: &mut [u8]) -> usize
 {
     let mut packed = [0usize; PACKED];
     let mut tables = [0u64; GATES];
-    let read = read_net(net, k, long_course(), &mut packed, &mut tables);
-    let v = read.verdict;
-    if let Verdict::Refused(n) = v {
-        return write_refusal(wide(n), out);
+    match read_net(net, k, long_course(), &mut packed, &mut tables) {
+        Ok(z) => write_sizes(z.inputs, z.gates, z.outputs, out),
+        Err(refusal) => write_refusal(usize::from(u8::from(refusal)), out),
     }
-    let z = read.sizes;
-    write_sizes(z.inputs, z.gates, z.outputs, out)
 }
 
 // The line for a case, in front of out; a missing k reads as 0.

@@ -1,6 +1,5 @@
 use Rattle.text_digits.specs.PutLaws.{put_then, put_same, put-wrote}
 use Rattle.text_readings.specs.ReadingTextLaws.{sizes-text}
-use Rattle.std.proofs.Common.{rules}
 use Rattle.text_readings.proofs.write_sizes.Goals as goal
 
 pub returns : goal.returns
