@@ -2,41 +2,49 @@
 #![tactic(auto)]
 
 ghost use Rattle.std.specs.Prelude.{◌≡◌};
+ghost use Rattle.refusals.specs.Refusals.{number_of, code_of};
 ghost use Rattle.job_sizes.specs.Sizes.{sizes_of, lent_size};
 
 use limits::{LEAST_K, Rules};
+use refusals::Refusal;
 
-// 0, or the number of the first that fails.
-pub fn check_sizes(k: u32, target: u32, area: usize, scratch: usize, rules: Rules) -> u8
-    ensures { result ≡ sizes_of rules k target area scratch }
+// The first that fails.
+pub fn check_sizes(
+    k: u32,
+    target: u32,
+    area: usize,
+    scratch: usize,
+    rules: Rules,
+) -> Result<(), Refusal>
+    ensures { code_of result ≡ sizes_of rules k target area scratch }
 {
     if k < LEAST_K {
-        return 1;
+        return Err(Refusal::LeafLimit);
     }
     if rules.most < k {
-        return 1;
+        return Err(Refusal::LeafLimit);
     }
     if rules.period < target {
-        return 2;
+        return Err(Refusal::Target);
     }
     if area < rules.area {
-        return 3;
+        return Err(Refusal::Areas);
     }
     if scratch < rules.scratch {
-        return 3;
+        return Err(Refusal::Areas);
     }
-    0
+    Ok(())
 }
 
-// The number of a refusal where an area of this length is lent and has fewer than `least` bytes, else 0. An area of length 0 is not lent.
-pub fn check_lent(n: usize, least: usize, number: u8) -> u8
-    ensures { result ≡ lent_size least number n }
+// The refusal where an area of this length is lent and has fewer than `least` bytes. An area of length 0 is not lent.
+pub fn check_lent(n: usize, least: usize, refusal: Refusal) -> Result<(), Refusal>
+    ensures { code_of result ≡ lent_size least (number_of refusal) n }
 {
     if n == 0 {
-        return 0;
+        return Ok(());
     }
     if n < least {
-        return number;
+        return Err(refusal);
     }
-    0
+    Ok(())
 }

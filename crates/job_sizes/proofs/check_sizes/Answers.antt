@@ -1,6 +1,5 @@
 use native.Mathlib.Omega.{arith}
 use Rattle.job_sizes.specs.SizeLaws.{size_low, size-high, size-target, size-area, size-scratch, size_none}
-use Rattle.std.proofs.Common.{rules}
 use Rattle.job_sizes.proofs.check_sizes.Goals as goal
 
 pub returns-then-k-lt-LEAST_K : goal.returns-then-k-lt-LEAST_K
