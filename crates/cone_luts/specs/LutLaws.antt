@@ -1,8 +1,7 @@
 -- Laws of LUTs' full tables: the walk's cone gives the table of the cut, and one gate after the other is tabulated.
-use Rattle.std.specs.Prelude.{◌≡◌, refl, Bool, true, false, List, ℕ, ◌+◌, ◌-◌, ◌*◌, ◌≤◌, ◌<◌, length, get_or, set, take, drop}
+use Rattle.std.specs.Prelude.{◌≡◌, List, ℕ, ◌+◌, ◌-◌, ◌*◌, ◌≤◌, ◌<◌, length, get_or, set, take, drop, Option, Some, None, unwrap_or}
 use Rattle.std.proofs.Math.Path.{sym, ap}
-use Rattle.std.proofs.Common.{ap₂, subst, ◌∙◌, true≢false, zero-add, not-suc-le-zero, arith, get_or-set_same, get_or-set_other, get_or-drop}
-use Rattle.std.proofs.lemmas.Bool.{false≢true}
+use Rattle.std.proofs.Common.{ap₂, subst, ◌∙◌, zero-add, not-suc-le-zero, arith, get_or-set_same, get_or-set_other, get_or-drop}
 use Rattle.std.proofs.Math.Decide.{ℕ_discrete}
 use Rattle.std.proofs.Math.Seq.{ext_get_or}
 use Rattle.sequences.specs.Behind.{behind}
@@ -15,46 +14,37 @@ use Rattle.cone_theory.specs.CopyOrder.{levels}
 use Rattle.cone_theory.specs.Part.{cone_determined}
 use Rattle.cone_theory.specs.Reach.{reach_of, reach}
 use Rattle.cone_values.specs.FullTableLaws.{full-same}
-use Rattle.cone_copies.specs.CopyLists.{SmallWires, copies_in}
+use Rattle.cone_copies.specs.CopyLists.{copies_in}
 use Rattle.cone_copies.specs.CopyListLaws.{length-copies_in}
-use Rattle.cone_walk.specs.WalkTold.{number_of, Walk}
+use Rattle.cone_walk.specs.WalkTold.{WalkCut, WalkNone}
 use Rattle.cone_walk.specs.WalkToldLaws.{cone-cut}
 use Rattle.cone_table.specs.ConeWords.{TableOver}
 use Rattle.cone_walk.specs.declared.Cone.{Cone}
-use Rattle.cone_luts.specs.Luts.{LutTable, LutTried, Row, GateTable, Tabulates, Tabulated}
-use Rattle.cone_luts.specs.declared.Tried.{Tried}
+use Rattle.cone_luts.specs.Luts.{LutTable, LutCut, LutNone, LutTried, Row, GateTable, Tabulates, Tabulated}
 
-module _ {I G : ℕ} {ps so co ts ln lb : List ℕ} {n g : ℕ} {c : Cone} (w : Walk I G ps so co ln lb n g c) where
+module _ {I G : ℕ} {ps so co ts ln lb : List ℕ} {n g : ℕ} {c : Cone} (w : WalkCut I G ps so co ln lb n g c) where
   -- the walk's cone gives the table
-  lut-cut : {r : ℕ} → number_of c.verdict ≡ 0 → TableOver I G ps so co ts (copies_in ln lb n) (copies_in c.nodes c.backs c.len) (I + g) r → LutTable I G ps so co ts (copies_in ln lb n) g r
-  lut-cut e t = record {
+  lut-cut : {r : ℕ} → TableOver I G ps so co ts (copies_in ln lb n) (copies_in c.nodes c.backs c.len) (I + g) r → LutTable I G ps so co ts (copies_in ln lb n) g r
+  lut-cut t = record {
     table = λ N d b R A k J.
-        let i = w.cone e N d in
-        let l = w.leaves e N d in
-        t N d b i l (w.order e N d A)
+        let i = w.cone N d in
+        let l = w.leaves N d in
+        t N d b i l (w.order N d A)
         ∙ full-same (levels A) i l (length (copies_in ln lb n) * reach_of N) (λ x m. let a = reach R i l x m in omega arith) J.cone (cone_determined i J.is_cone l J.is_leaves);
   }
 
-  -- no cut has these leaves
-  pub tried_none : {t : ℕ} → number_of c.verdict ≡ 14 → LutTried I G ps so co ts (copies_in ln lb n) g (record { none = true; table = t })
-  tried_none e = record { cut = λ q. absurd (true≢false q); table = λ q. absurd (true≢false q); none = λ q N d R k. w.none e N d R k }
+  -- its leaves are a cut
+  pub tried_cut : {t : ℕ} → TableOver I G ps so co ts (copies_in ln lb n) (copies_in c.nodes c.backs c.len) (I + g) t → LutCut I G ps so co ts (copies_in ln lb n) g t
+  tried_cut t = record { cut = λ N d k h. cone-cut w N k d (let l = length-copies_in ln lb n in omega arith); table = lut-cut t }
 
-  -- they are one
-  pub tried_cut : {t : ℕ} → number_of c.verdict ≡ 0 → TableOver I G ps so co ts (copies_in ln lb n) (copies_in c.nodes c.backs c.len) (I + g) t
-      → LutTried I G ps so co ts (copies_in ln lb n) g (record { none = false; table = t })
-  tried_cut e t = record {
-    cut = λ q N d k h. cone-cut w e N k d (let l = length-copies_in ln lb n in omega arith);
-    table = λ q. lut-cut e t;
-    none = λ q. absurd (false≢true q);
-  }
+-- no cut has these leaves
+pub tried_none : (I G : ℕ) (ps so co ln lb : List ℕ) (n g : ℕ) → WalkNone I G ps so co ln lb n g → LutNone I G ps so co (copies_in ln lb n) g
+tried_none I G ps so co ln lb n g w = w
 
 -- a table that is right where the leaves are a cut
-pub tried_table : {I G : ℕ} {ps so co ts : List ℕ} {L : List Copy} {g : ℕ} {r : Tried} → LutTried I G ps so co ts L g r → LutTable I G ps so co ts L g r.table
-tried_table {I} {G} {ps} {so} {co} {ts} {L} {g} {r} t = go r.none refl
-  where
-    go : (b : Bool) → r.none ≡ b → LutTable I G ps so co ts L g r.table
-    go false e = t.table e
-    go true e = record { table = λ N d b R A k J. absurd (t.none e N d R k J) }
+pub tried_table : {I G : ℕ} {ps so co ts : List ℕ} {L : List Copy} {g : ℕ} (r : Option ℕ) → LutTried I G ps so co ts L g r → LutTable I G ps so co ts L g (unwrap_or r 0)
+tried_table (Some r) t = t.table
+tried_table None t = record { table = λ N d b R A k J. absurd (t N d R k J) }
 
 -- row i of n: the numbers from the places of its leaves on
 module _ (rows : List ℕ) (n i : ℕ) where
@@ -97,9 +87,9 @@ module _ (rows : List ℕ) (n i : ℕ) where
   pub row-few : Row (sizes_in n rows) (nodes_in n rows) (backs_in n rows) i → leaf_count ≤ stride
   row-few r = let f = r.few in omega (arith, f, get_or-drop n rows i 0)
 
-  pub tried_row : {I G : ℕ} {ps so co ts : List ℕ} {g : ℕ} {r : Tried} → LutTried I G ps so co ts lent_leaves g r
+  pub tried_row : (I G : ℕ) (ps so co ts : List ℕ) (g : ℕ) (r : Option ℕ) → LutTried I G ps so co ts lent_leaves g r
       → LutTried I G ps so co ts (copies_from (nodes_in n rows) (backs_in n rows) (stride * i) (get_or (sizes_in n rows) i 0)) g r
-  tried_row {I} {G} {ps} {so} {co} {ts} {g} {r} = subst (λ (L : List Copy). LutTried I G ps so co ts L g r) row-part
+  tried_row I G ps so co ts g r = subst (λ (L : List Copy). LutTried I G ps so co ts L g r) row-part
 
 module _ {I G : ℕ} {ps so co ts marks sizes nodes backs : List ℕ} where
   -- a gate with a mark has its row
@@ -113,8 +103,8 @@ module _ {I G : ℕ} {ps so co ts marks sizes nodes backs : List ℕ} where
   pub gate-none : (g r : ℕ) → get_or marks g 0 ≡ 0 → GateTable I G ps so co ts marks sizes nodes backs g r
   gate-none g r z = record { marked = λ n. absurd (n z) }
 
-  pub gate-lut : (g : ℕ) {r : Tried} → LutTried I G ps so co ts (copies_from nodes backs (stride * g) (get_or sizes g 0)) g r → GateTable I G ps so co ts marks sizes nodes backs g r.table
-  gate-lut g t = record { marked = λ n. tried_table t }
+  pub gate-lut : (g : ℕ) (r : Option ℕ) → LutTried I G ps so co ts (copies_from nodes backs (stride * g) (get_or sizes g 0)) g r → GateTable I G ps so co ts marks sizes nodes backs g (unwrap_or r 0)
+  gate-lut g r t = record { marked = λ n. tried_table r t }
 
   pub tabulated_none : (luts : List ℕ) → Tabulated I G ps so co ts marks sizes nodes backs luts 0
   tabulated_none luts = record { each = λ g h. absurd (not-suc-le-zero h) }

@@ -1,5 +1,5 @@
 -- Definitions: the full tables of LUTs kept in arrays, and what a program that computes them asks and tells. Gate g has its leaves from place stride·g on.
-use Rattle.std.specs.Prelude.{◌≡◌, true, false, List, ℕ, suc, ◌+◌, ◌*◌, ◌≤◌, ◌<◌, length, get_or}
+use Rattle.std.specs.Prelude.{◌≡◌, List, ℕ, suc, ◌+◌, ◌*◌, ◌≤◌, ◌<◌, length, get_or, Option, MatchOption}
 use Rattle.net_model.specs.Net.{Net}
 use Rattle.net_model.specs.Checks.{Loopless}
 use Rattle.net_model.specs.Copies.{Copy, IsCut, Rising}
@@ -9,17 +9,23 @@ use Rattle.net_model.specs.FullTables.{full_of}
 use Rattle.cone_theory.specs.Ranks.{Ranked}
 use Rattle.cone_copies.specs.CopyLists.{SmallWires}
 use Rattle.cone_table.specs.ConeWords.{Tabled}
-use Rattle.cone_luts.specs.declared.Tried.{Tried}
 
 -- r is the full table of the LUT of gate g with leaves L, for every net with this wiring and these tables where L is a cut.
 pub record LutTable (I G : ℕ) (ps so co ts : List ℕ) (L : List Copy) (g r : ℕ) : Type 0 where
   pub table : (N : Net) → Wired N I G ps so co → Tabled N I G ts → Ranked N → Loopless N → (k : ℕ) (J : IsCut N k (I + g) L) → r ≡ full_of N (I + g) J.cone L
 
--- whether the leaves L are a cut of gate g, and then the LUT's full table, for every net with this wiring and these tables
-pub record LutTried (I G : ℕ) (ps so co ts : List ℕ) (L : List Copy) (g : ℕ) (r : Tried) : Type 0 where
-  pub cut : r.none ≡ false → (N : Net) → Wired N I G ps so co → (k : ℕ) → length L ≤ k → IsCut N k (I + g) L
-  pub table : r.none ≡ false → LutTable I G ps so co ts L g r.table
-  pub none : r.none ≡ true → (N : Net) → Wired N I G ps so co → Ranked N → (k : ℕ) → ¬ IsCut N k (I + g) L
+-- the leaves L are a cut of gate g, and r is the LUT's full table, for every net with this wiring and these tables
+pub record LutCut (I G : ℕ) (ps so co ts : List ℕ) (L : List Copy) (g r : ℕ) : Type 0 where
+  pub cut : (N : Net) → Wired N I G ps so co → (k : ℕ) → length L ≤ k → IsCut N k (I + g) L
+  pub table : LutTable I G ps so co ts L g r
+
+-- they are no cut
+abbrev pub LutNone : ℕ → ℕ → List ℕ → List ℕ → List ℕ → List Copy → ℕ → Type 0
+LutNone I G ps so co L g = (N : Net) → Wired N I G ps so co → Ranked N → (k : ℕ) → ¬ IsCut N k (I + g) L
+
+-- whether they are a cut, and then the full table
+abbrev pub LutTried : ℕ → ℕ → List ℕ → List ℕ → List ℕ → List ℕ → List Copy → ℕ → Option ℕ → Type 0
+LutTried I G ps so co ts L g r = MatchOption r (LutNone I G ps so co L g) (LutCut I G ps so co ts L g)
 
 -- row i of the arrays has its leaves from place stride·i on, and they rise
 pub record Row (sizes nodes backs : List ℕ) (i : ℕ) : Type 0 where

@@ -12,56 +12,52 @@ ghost use Rattle.cover_records.specs.Rows.{sizes_in, nodes_in, backs_in, row_roo
 ghost use Rattle.cone_descent.specs.Descent.{Clear};
 ghost use Rattle.cone_luts.specs.Luts.{Row, LutTried, GateTable, Tabulates, Tabulated};
 
+use cone_copies::CopyList;
 use cone_descent::{clear, walk};
 use cone_table::table;
-use cone_walk::Told;
 use limits::{BEYOND, PINS, REACH};
 
-// Whether leaves are no cut, and the full table where they are one.
-#[derive(Drop)]
-pub struct Tried {
-    pub none: bool,
-    pub table: u64,
-}
-
-// The n leaves of gate g.
+// The full table of the LUT of gate g over these leaves, or none where they are no cut.
 fn try_lut(
     inputs: usize,
     gates: usize,
     net: &[usize],
     tables: &[u64],
-    leaf_nodes: &[usize],
-    leaf_backs: &[usize],
-    n: usize,
+    leaves: CopyList,
     g: usize,
     work: &mut [u8],
-) -> Tried
-    requires small_wires { SmallWires inputs gates net.now (drop (sources_at gates) net.now) (drop (counts_at gates) net.now) × (gates ≤ length tables.now) × (n ≤ most_pins) × (n ≤ length leaf_nodes.now) × (n ≤ length leaf_backs.now) × (g < gates) × Rising (copies_in leaf_nodes.now leaf_backs.now n) }
+) -> Option<u64>
+    requires small_wires { SmallWires inputs gates net.now (drop (sources_at gates) net.now) (drop (counts_at gates) net.now) × (gates ≤ length tables.now) × (leaves.len ≤ most_pins) × (leaves.len ≤ length leaves.nodes.now) × (leaves.len ≤ length leaves.backs.now) × (g < gates) × Rising (copies_in leaves.nodes.now leaves.backs.now leaves.len) }
     requires most_table_in_bounds { (most_table ≤ length work.old) × Clear work.old }
-    ensures lut_tried { LutTried inputs gates net.now (drop (sources_at gates) net.now) (drop (counts_at gates) net.now) tables.now (copies_in leaf_nodes.now leaf_backs.now n) g result }
+    ensures lut_tried { LutTried inputs gates net.now (drop (sources_at gates) net.now) (drop (counts_at gates) net.now) tables.now (copies_in leaves.entry.nodes.now leaves.entry.backs.now leaves.entry.len) g result }
     ensures clear { Clear work.new }
 {
-    let cone = walk(inputs, gates, net, leaf_nodes, leaf_backs, n, g, work);
-    let verdict = cone.verdict;
-    if let Told::NoCut = verdict {
-        return Tried {
-            none: true,
-            table: 0,
-        };
-    }
+    let cone = walk(
+        inputs,
+        gates,
+        net,
+        leaves.nodes,
+        leaves.backs,
+        leaves.len,
+        g,
+        work,
+    )?;
     let t = table(
-        inputs, gates, net, tables, leaf_nodes, leaf_backs, n, cone, work,
+        inputs,
+        gates,
+        net,
+        tables,
+        leaves.nodes,
+        leaves.backs,
+        leaves.len,
+        cone,
+        work,
     );
-    let nodes = cone.nodes;
-    let backs = cone.backs;
-    clear(&nodes, &backs, cone.len, REACH + BEYOND, work);
-    Tried {
-        none: false,
-        table: t,
-    }
+    clear(&cone.nodes, &cone.backs, cone.len, REACH + BEYOND, work);
+    Some(t)
 }
 
-// The leaves in row i of n, as those of gate g.
+// The same for the leaves in row i of n.
 pub fn try_row(
     inputs: usize,
     gates: usize,
@@ -72,7 +68,7 @@ pub fn try_row(
     i: usize,
     g: usize,
     work: &mut [u8],
-) -> Tried
+) -> Option<u64>
     requires small_wires { SmallWires inputs gates net.now (drop (sources_at gates) net.now) (drop (counts_at gates) net.now) × (gates ≤ length tables.now) × Row (sizes_in n rows.now) (nodes_in n rows.now) (backs_in n rows.now) i × (g < gates) }
     requires gates_in_bounds { (nexts_at gates ≤ length net.now) × (i < n) × (row_room n ≤ length rows.now) }
     requires most_table_in_bounds { (most_table ≤ length work.old) × Clear work.old }
@@ -81,18 +77,12 @@ pub fn try_row(
 {
     let a = 2 * n + PINS * i;
     let b = (2 + PINS) * n + PINS * i;
-    let m = rows[n + i];
-    try_lut(
-        inputs,
-        gates,
-        net,
-        tables,
-        &rows[a..],
-        &rows[b..],
-        m,
-        g,
-        work,
-    )
+    let leaves = CopyList {
+        nodes: &rows[a..],
+        backs: &rows[b..],
+        len: rows[n + i],
+    };
+    try_lut(inputs, gates, net, tables, leaves, g, work)
 }
 
 // The full table of the LUT of gate g, 0 where it has no mark.
@@ -115,7 +105,7 @@ fn gate_table(
         return 0;
     }
     let t = try_row(inputs, gates, net, tables, rows, gates, g, g, work);
-    t.table
+    t.unwrap_or(0)
 }
 
 // The full tables of all gates with a mark.
@@ -134,9 +124,7 @@ pub fn tabulate(
     ensures tabulated { Tabulated inputs gates net.now (drop (sources_at gates) net.now) (drop (counts_at gates) net.now) tables.now rows.now (sizes_in gates rows.now) (nodes_in gates rows.now) (backs_in gates rows.now) luts.new gates }
     ensures clear { Clear work.new }
 {
-    let mut g = 0;
-    while g < gates {
+    for g in 0..gates {
         luts[g] = gate_table(inputs, gates, net, tables, rows, g, work);
-        g += 1;
     }
 }

@@ -1,7 +1,6 @@
 use native.Mathlib.Omega.{arith}
 use Rattle.sequences.specs.Behind.{length-behind}
 use Rattle.cone_luts.specs.LutLaws.{nodes_from, backs_from, leaf_count, row-few, rising-row, tried_row}
-use Rattle.std.proofs.Common.{rules}
 use Rattle.cone_luts.proofs.try_row.Goals as goal
 
 pub try_lut-requires : goal.try_lut-requires
@@ -25,4 +24,4 @@ try_lut-requires c = let start = c in
 
 pub returns : goal.returns
 returns c = let a = c.args in
-    record { lut_tried = tried_row a.rows.now a.n a.i c.try_lut.ensures.lut_tried; clear = c.try_lut.ensures.clear }
+    record { lut_tried = tried_row a.rows.now a.n a.i _ _ _ _ _ _ _ _ c.try_lut.ensures.lut_tried; clear = c.try_lut.ensures.clear }
