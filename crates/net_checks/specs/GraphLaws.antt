@@ -1,20 +1,18 @@
 -- Laws of checks 9, 10 and 11: each with what it stores, and all together.
-use Rattle.std.specs.Prelude.{◌≡◌, refl, List, Bool, true, false, not, ℕ, ◌+◌, ◌-◌, ◌*◌, ◌≤◌, ◌<◌, length, get_or, drop}
-use Rattle.std.proofs.Common.{sym, ap, ◌∙◌, true≢false, arith}
+use Rattle.std.specs.Prelude.{◌≡◌, refl, List, Bool, true, false, not, ℕ, ◌+◌, ◌*◌, ◌≤◌, ◌<◌, length, get_or, drop}
+use Rattle.std.proofs.Common.{sym, ◌∙◌, true≢false, arith}
 use Rattle.std.proofs.lemmas.Bool.{false≢true}
-use Rattle.limits.specs.Limits.{most_count}
 use Rattle.sequences.specs.Stored.{Stored}
 use Rattle.net_model.specs.Net.{Net}
 use Rattle.net_model.specs.Arrays.{stride}
-use Rattle.net_model.specs.Checks.{Loopless, AllReached, AllLeading}
-use Rattle.net_model.specs.PackedNet.{first_at, sources_at, counts_at, order_at, tops_at, outs_at, delays_at, Apart, NetKept}
+use Rattle.net_model.specs.PackedNet.{first_at, sources_at, counts_at, order_at, tops_at, outs_at, delays_at, NetKept}
 use Rattle.net_model.specs.PackedNetLaws.{length_part, apart-refl, stored-apart, kept-first, kept-between, kept_trans, kept-source, kept-count, kept_out, kept-outputs, kept-wired}
 use Rattle.net_reader.specs.ReadAnswer.{arrays_of}
 use Rattle.net_reader.specs.Rooms.{NetRoom}
 use Rattle.net_reader.specs.ReadWires.{read-wires}
 use Rattle.net_reader.specs.WalkFacts.{WalkFacts}
 use Rattle.net_reader.specs.declared.NetSizes.{NetSizes}
-use Rattle.net_checks.specs.Graphs.{Checkable, NetOf, Placed, Reached, Headed, Ordered, Firsts, Topped, Paths, NineTold, TenTold, ElevenTold, Graph, Says, passed, loop, unreached, unled, GraphTold}
+use Rattle.net_checks.specs.Graphs.{Checkable, NetOf, Placed, Reached, Headed, NineTold, TenTold, ElevenTold, passed, loop, unreached, unled, GraphTold}
 use Rattle.net_checks.specs.Lowering.{Counting, Lowered}
 
 -- a test turned round

@@ -2,6 +2,7 @@
 #![tactic(auto)]
 
 ghost use Rattle.std.specs.Prelude.{◌≡◌, length};
+ghost use Rattle.refusals.specs.Refusals.{code_of};
 ghost use Rattle.net_checks.specs.Graphs.{Checkable, Lent, Placed, Reached, Headed, NineTold, TenTold, ElevenTold, GraphTold};
 ghost use Rattle.net_checks.specs.Lowering.{Counting, Lowered};
 
@@ -11,6 +12,7 @@ use net_loops::check_loops;
 use net_marks::store;
 use net_reached::check_reached;
 use net_reader::{NetSizes, delays_at, order_at, outs_at, tops_at};
+use refusals::Refusal;
 
 // Check 9.
 fn check_nine(s: NetSizes, net: &[usize], seen: &mut [usize], order: &mut [usize]) -> bool
@@ -59,10 +61,8 @@ fn lower(marks: &mut [usize])
     requires { Counting marks.old }
     ensures { Lowered marks.old marks.new (length marks.old) }
 {
-    let mut g = 0;
-    while g < marks.len() {
-        marks[g] -= 1;
-        g += 1;
+    for m in marks.iter_mut() {
+        *m -= 1;
     }
 }
 
@@ -105,19 +105,24 @@ fn store_eleven(s: NetSizes, net: &mut [usize], seen: &mut [usize]) -> bool
     true
 }
 
-// Checks 9, 10 and 11 in this order: 0, or the number of the first that fails.
-pub fn check_graph(s: NetSizes, net: &mut [usize], seen: &mut [usize], noted: &mut [usize]) -> usize
+// Checks 9, 10 and 11 in this order: what is wrong is told of the first that fails.
+pub fn check_graph(
+    s: NetSizes,
+    net: &mut [usize],
+    seen: &mut [usize],
+    noted: &mut [usize],
+) -> Result<(), Refusal>
     requires { Checkable s net.old × Lent s seen.old noted.old }
-    ensures { GraphTold s net.old net.new result }
+    ensures { GraphTold s net.old net.new (code_of result) }
 {
     if !store_nine(s, net, seen, noted) {
-        return 9;
+        return Err(Refusal::OpenLoop);
     }
     if !store_ten(s, net, seen, noted) {
-        return 10;
+        return Err(Refusal::Unreached);
     }
     if !store_eleven(s, net, seen) {
-        return 11;
+        return Err(Refusal::LeadsNowhere);
     }
-    0
+    Ok(())
 }

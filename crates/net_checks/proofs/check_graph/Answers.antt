@@ -1,7 +1,6 @@
-use mathlib.Core.Path.{◌≡◌, subst, ◌∙◌}
+use mathlib.Core.Path.{subst, ◌∙◌}
 use Rattle.net_checks.specs.Graphs.{NineTold, TenTold, ElevenTold}
-use Rattle.net_checks.specs.GraphLaws.{not-true, not-false, nine_kept, ten_kept, kept_checkable, told-loop, told-unreached, told-unled, told-passed}
-use Rattle.std.proofs.Common.{rules}
+use Rattle.net_checks.specs.GraphLaws.{ten_kept, kept_checkable, told-unreached, told-unled, told-passed}
 use Rattle.net_checks.proofs.check_graph.Goals as goal
 
 pub returns-then-not-store_ten : goal.returns-then-not-store_ten

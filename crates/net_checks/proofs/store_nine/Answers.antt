@@ -1,7 +1,6 @@
-use mathlib.Core.Path.{◌≡◌, subst}
+use mathlib.Core.Path.{subst}
 use Rattle.net_checks.specs.Graphs.{Placed}
-use Rattle.net_checks.specs.GraphLaws.{not-true, not-false, nine_fails, nine_holds}
-use Rattle.std.proofs.Common.{rules}
+use Rattle.net_checks.specs.GraphLaws.{nine_holds}
 use Rattle.net_checks.proofs.store_nine.Goals as goal
 
 pub returns : goal.returns
