@@ -1,9 +1,10 @@
 -- A forced set whose pins read few copies outside it is a cut by itself: its leaves are among the copies read.
-use Rattle.std.specs.Prelude.{◌≡◌, refl, List, [], map, ◌⊎◌, ℕ, ◌+◌, ◌*◌, ◌<◌, ℤ, get_or, take}
+use Rattle.std.specs.Prelude.{true, ◌≡◌, refl, List, [], map, ◌⊎◌, ℕ, ◌+◌, ◌<◌, ℤ, get_or, take}
 use Rattle.std.proofs.Common.{sym, ap, subst, ◌∙◌, inl, inr, arith}
 use Rattle.std.proofs.lemmas.List.{length-map}
 use Rattle.sequences.specs.Member.{◌∈◌, in_equal, in_map}
 use Rattle.sequences.specs.Distinct.{pigeonhole}
+use Rattle.std.proofs.lemmas.Bool.{false≢true}
 use Rattle.net_model.specs.Net.{Net, IsGate}
 use Rattle.net_model.specs.Copies.{Copy, copy, Feeds, Leaf}
 use Rattle.cone_theory.specs.Basics.{leaves_of, leaves-distinct}
@@ -81,9 +82,9 @@ module _ {C : Circuit} {ls : List ℤ} {φ k g : ℕ} {h : ℤ} {members₀ : Li
       }
 
     -- **A forced set that reads at most k copies outside it is a k-cut.**
-    pub decides_few : Decides C ls φ k g h k
+    pub decides_few : Decides C ls φ k g h true
     decides_few = record {
-      none = λ N H R loopless M b near p. absurd (omega (arith, p));
+      none = λ N H R loopless M b near p. absurd (false≢true (sym p));
       some = λ N H R loopless p.
           let L = leaves_of N (copies_of G) in
           record {

@@ -1,7 +1,8 @@
 -- From the forced set and its minimum cut to the answer: what `min_cut` found is a separation of the forced set of each net with this wiring.
-use Rattle.std.specs.Prelude.{◌≡◌, refl, List, [], ℕ, ◌+◌, ◌*◌, ◌≤◌, ◌<◌, ℤ, length, take}
+use Rattle.std.specs.Prelude.{◌≡◌, refl, Bool, true, false, Option, None, Some, IfSome, is_some, unwrap_or, List, [], ℕ, ◌+◌, ◌*◌, ◌≤◌, ◌<◌, ℤ, length, take}
 use Rattle.std.proofs.Common.{sym, subst, ◌∙◌, inl, mul-le-mul_right, arith}
 use Rattle.std.proofs.Math.Decide.{dec_lt}
+use Rattle.std.proofs.lemmas.Bool.{false≢true}
 use Rattle.limits.specs.Limits.{most_k}
 use Rattle.sequences.specs.Member.{in_equal}
 use Rattle.net_model.specs.Net.{Net}
@@ -26,7 +27,7 @@ use Rattle.cut_forced.specs.Forcing.{filled, wires_of, Target, target, LowOf, Gr
 use Rattle.cut_forced.specs.AddLaws.{copies_of, copies_in_lem}
 use Rattle.cut_forced.specs.GrowLaws.{part-inside, part_length, part_at, growing-same}
 use Rattle.cut_forced.specs.ForcedLaws.{in_copies, forced-set, forced-leads}
-use Rattle.cut_kept.specs.KeptCuts.{row_at, ConeAmong, unbordered, KeptCuts}
+use Rattle.cut_kept.specs.KeptCuts.{ConeAmong, unbordered, KeptCuts}
 use Rattle.cut_kept.specs.Keeping.{RowAsked, RowKept}
 use Rattle.cut_kept.specs.KeptLaws.{kept_same, kept_row}
 use Rattle.cut_question.specs.Question.{Resting, Asks, Separated, Decides, Takes, Written}
@@ -105,6 +106,15 @@ members_kept {W} {T} {slots} {members} {members'} {t} {k} {g} {b} {m} {r} long o
     go (no n) =
         growing-same (omega (arith, long, G.space))
         (λ i h. (o.row (omega (arith, n))).same i (inl (let z = mul-le-mul_right {m = k} {n = most_k} W.gates G.slotted.limit in omega (arith, h, z)))) G
+
+-- ---- a number of leaves, where they are at most k
+pub count-few : {k : ℕ} (r : Option ℕ) → IfSome r (λ n. n ≤ k) → is_some r ≡ true → unwrap_or r (k + 1) ≤ k
+count-few None f e = absurd (false≢true e)
+count-few (Some n) f e = f
+
+pub count-many : {k : ℕ} (r : Option ℕ) → is_some r ≡ false → k < unwrap_or r (k + 1)
+count-many None e = omega arith
+count-many (Some n) e = absurd (false≢true (sym e))
 
 -- ---- the answer
 module _ {C : Circuit} {ls : List ℤ} {φ k g : ℕ} {h : ℤ} {members₀ : List ℕ} (a : Resting C members₀) (q : Asks C ls φ k g) {slots members : List ℕ} {m : ℕ}
@@ -187,10 +197,10 @@ module _ {C : Circuit} {ls : List ℤ} {φ k g : ℕ} {h : ℤ} {members₀ : Li
       go (no n) = let few : r ≤ k = omega (arith, n) in kept_row members₂ w long q.gate room (p.row few) (found_among few)
 
   -- **What the result of `min_cut` on the forced set means.**
-  pub decides_found : Decides C ls φ k g h r
-  decides_found = record {
-    none = none_of;
-    some = λ N H R loopless p. (separated_by N H R loopless p (leaves_of N (cone_of (filled C slots) t)).1).0.parted;
+  pub decides_found : (answer : Bool) → (answer ≡ true → r ≤ k) → (answer ≡ false → k < r) → Decides C ls φ k g h answer
+  decides_found answer few many = record {
+    none = λ N H R loopless M b near p. none_of N H R loopless M b near (many p);
+    some = λ N H R loopless p. (separated_by N H R loopless (few p) (leaves_of N (cone_of (filled C slots) t)).1).0.parted;
   }
 
   -- **What the leaves written are.**
@@ -202,3 +212,7 @@ module _ {C : Circuit} {ls : List ℤ} {φ k g : ℕ} {h : ℤ} {members₀ : Li
         separated_by N H R loopless p
         (subst (λ (n : ℕ). IsLeaves N (cone_of (filled C slots) t) (copies_from nodes backs 0 n)) e (collected-leaves slotted-layout (holds-filled slots H) R loopless room o p w.1));
   }
+
+pub written-some : {C : Circuit} {ls : List ℤ} {φ k g : ℕ} {h : ℤ} {nodes backs : List ℕ} (r : Option ℕ) → Written C ls φ k g h nodes backs (unwrap_or r (k + 1)) → IfSome r (λ n. Written C ls φ k g h nodes backs n)
+written-some None w = tt
+written-some (Some n) w = w

@@ -1,6 +1,7 @@
 -- What is asked of the forced set, and the circuit with its slots.
-use Rattle.std.specs.Prelude.{◌≡◌, List, ℕ, suc, ◌+◌, ◌*◌, ◌≤◌, ◌<◌, ℤ, length, get_or}
+use Rattle.std.specs.Prelude.{◌≡◌, false, List, ℕ, suc, ◌+◌, ◌*◌, ◌≤◌, ◌<◌, ℤ, length, get_or}
 use Rattle.std.proofs.Common.{le_trans, mul-le-mul_right, arith}
+use Rattle.std.proofs.lemmas.Bool.{false≢true}
 use Rattle.limits.specs.Limits.{most_k}
 use Rattle.net_model.specs.Net.{Net}
 use Rattle.cut_circuit.specs.Circuit.{Circuit, Layout}
@@ -8,7 +9,7 @@ use Rattle.cut_circuit.specs.Chains.{Chains}
 use Rattle.cut_circuit.specs.Bridge.{Holds}
 use Rattle.cut_forced.specs.Slots.{Slotted, Unmarked}
 use Rattle.cut_forced.specs.Forcing.{filled, wires_of, target, Refuted, Ground, ForceAsked}
-use Rattle.cut_question.specs.Question.{Resting, Asks, Decides, Takes, Written}
+use Rattle.cut_question.specs.Question.{Resting, Asks, Decides, Takes}
 
 -- ---- other slots
 pub holds-filled : {C : Circuit} {N : Net} (slots : List ℕ) → Holds C N → Holds (filled C slots) N
@@ -72,11 +73,8 @@ resting-again {C} {slots = slots} a p z f = record {
 }
 
 -- ---- every cut is refuted
-pub decides_none : {C : Circuit} {ls : List ℤ} {φ k g : ℕ} {h : ℤ} → Refuted (wires_of C) (target ls φ (C.inputs + g) h) k → Decides C ls φ k g h (k + 1)
+pub decides_none : {C : Circuit} {ls : List ℤ} {φ k g : ℕ} {h : ℤ} → Refuted (wires_of C) (target ls φ (C.inputs + g) h) k → Decides C ls φ k g h false
 decides_none {k} f = record {
   none = λ N H R loopless M b near p. f N (holds-filled _ H) R M b near;
-  some = λ N H R loopless p. absurd (omega (arith, p));
+  some = λ N H R loopless p. absurd (false≢true p);
 }
-
-pub written_none : {C : Circuit} {ls : List ℤ} {φ k g : ℕ} {h : ℤ} {nodes backs : List ℕ} → Written C ls φ k g h nodes backs (k + 1)
-written_none = record { leaves = λ N H R loopless p. absurd (omega (arith, p)) }

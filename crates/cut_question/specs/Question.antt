@@ -1,5 +1,5 @@
 -- Definitions: the cut question asked of the engine for gate g and a threshold, and what its answer means.
-use Rattle.std.specs.Prelude.{◌≡◌, List, ℕ, ◌+◌, ◌*◌, ◌^◌, ◌≤◌, ◌<◌, ℤ, length}
+use Rattle.std.specs.Prelude.{◌≡◌, Bool, true, false, List, ℕ, ◌+◌, ◌*◌, ◌^◌, ◌≤◌, ◌<◌, ℤ, length}
 use Rattle.limits.specs.Limits.{most_k}
 use Rattle.sequences.specs.Member.{Within}
 use Rattle.net_model.specs.Net.{Net}
@@ -51,13 +51,13 @@ pub record Separated (N : Net) (v φ : ℕ) (lab : ℕ → ℤ) (h : ℤ) (borde
   pub fewest : (D L : List Copy) → Separation N v parted.set border D → IsLeaves N D L → r ≤ length L
   pub smallest : (D L : List Copy) → Separation N v parted.set border D → IsLeaves N D L → length L ≡ r → Within parted.cone D
 
--- What an answer r means, for any net with this wiring. Above k, gate g has no k-cut so low whose members stand inside the border; they need not be asked to where the border is
+-- What an answer means, for any net with this wiring. Where it is no, gate g has no k-cut so low whose members stand inside the border; they need not be asked to where the border is
 -- k·M or more (`bordered-plain`). Else there is a separation.
-pub record Decides (C : Circuit) (ls : List ℤ) (φ k g : ℕ) (h : ℤ) (r : ℕ) : Type 0 where
+pub record Decides (C : Circuit) (ls : List ℤ) (φ k g : ℕ) (h : ℤ) (found : Bool) : Type 0 where
   pub none :
-      (N : Net) → Holds C N → Ranked N → Loopless N → (M : Mode) (b : ℤ) → Bordered (Inside M φ b) (k * reach_of N) C.border → k < r
+      (N : Net) → Holds C N → Ranked N → Loopless N → (M : Mode) (b : ℤ) → Bordered (Inside M φ b) (k * reach_of N) C.border → found ≡ false
       → ¬ Cut N k (C.inputs + g) (Low φ (label_in ls) h) (Inside M φ b)
-  pub some : (N : Net) → Holds C N → Ranked N → Loopless N → r ≤ k → Parted N (C.inputs + g) φ (label_in ls) h C.border k
+  pub some : (N : Net) → Holds C N → Ranked N → Loopless N → found ≡ true → Parted N (C.inputs + g) φ (label_in ls) h C.border k
 
 -- Two arrays with room for k leaves, and a net that has this wiring, without loops and with ranks.
 pub record Takes (C : Circuit) (k : ℕ) (nodes backs : List ℕ) : Type 0 where

@@ -1,5 +1,5 @@
 -- Definitions: what the functions around `min_cut` ask and tell. Its table is cleared before they return.
-use Rattle.std.specs.Prelude.{◌≡◌, List, ℕ, ◌≤◌, ◌<◌, length, take}
+use Rattle.std.specs.Prelude.{◌≡◌, Bool, true, false, List, ℕ, ◌≤◌, ◌<◌, length, take}
 use Rattle.cut_circuit.specs.Circuit.{Circuit, total}
 use Rattle.cut_least.specs.CutRounds.{Cleared, Sized, CutAsked, CutTold}
 use Rattle.cut_least.specs.Collect.{CollectAsked, CollectTold}
@@ -28,10 +28,13 @@ pub record SeparateAsked (C : Circuit) (members : List ℕ) (f : ℕ) (t l stk c
   pub gate : g < C.gates
   pub rows : row_at C.gates C.gates ≤ length members
 
--- The same, and the row of gate g is written from that table where r is at most k.
-pub record SeenKept (C : Circuit) (k g : ℕ) (members members' : List ℕ) (r : ℕ) : Type 0 where
-  pub seen : CutSeen C k r
-  pub row : RowKept C.gates seen.table members members' g C.border k r
+-- The same of a number that is at most k where a cut was found: then the row of gate g is written from that table.
+pub record SeenKept (C : Circuit) (k g : ℕ) (members members' : List ℕ) (found : Bool) : Type 0 where
+  pub count : ℕ
+  pub few : found ≡ true → count ≤ k
+  pub many : found ≡ false → k < count
+  pub seen : CutSeen C k count
+  pub row : RowKept C.gates seen.table members members' g C.border k count
 
 -- ---- leaves, where there are few
 abbrev pub LeavesAsked : ℕ → ℕ → ℕ → List ℕ → List ℕ → List ℕ → List ℕ → Type 0
