@@ -1,9 +1,8 @@
 -- Definitions: what the functions that write the bench's text ask and tell.
-use Rattle.std.specs.Prelude.{◌≡◌, List, map, ℕ, ◌+◌, ◌≤◌, length}
+use Rattle.std.specs.Prelude.{List, map, ℕ, ◌+◌, ◌≤◌, length}
 use Rattle.limits.specs.Limits.{most_outputs, bench_room}
 use Rattle.net_model.specs.Net.{Pin}
-use Rattle.net_model.specs.Arrays.{net_in, pins_in}
-use Rattle.net_reader.specs.ReadAnswer.{arrays_of}
+use Rattle.net_model.specs.Arrays.{pins_in}
 use Rattle.net_reader.specs.declared.NetSizes.{NetSizes}
 use Rattle.net_checks.specs.Graphs.{outs_of, delays_of}
 use Rattle.run_theory.specs.BenchBytes.{section_in}

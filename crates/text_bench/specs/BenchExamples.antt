@@ -1,6 +1,6 @@
 -- Worked examples of the bench's text, computed by the prover.
-use Rattle.std.specs.Prelude.{◌≡◌, refl, List, [], ◌∷◌, ℕ}
-use Rattle.net_model.specs.Net.{Net, Pin, Gate, gate}
+use Rattle.std.specs.Prelude.{◌≡◌, refl, [], ◌∷◌, ℕ}
+use Rattle.net_model.specs.Net.{Net, Pin, gate}
 use Rattle.run_theory.specs.Bench.{ago, repeated, value_at}
 use Rattle.text_bench.specs.BenchText.{bench_digits, bench_lines, bench_text}
 

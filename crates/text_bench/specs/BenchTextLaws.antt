@@ -1,5 +1,5 @@
 -- Laws of the bench's text: digit by digit, line by line.
-use Rattle.std.specs.Prelude.{◌≡◌, Bool, ◌⊎◌, ℕ, zero, suc, ◌+◌, ◌-◌, ◌*◌, ◌≤◌, ◌<◌, length, get_or}
+use Rattle.std.specs.Prelude.{◌≡◌, Bool, ◌⊎◌, ℕ, zero, suc, ◌+◌, ◌*◌, ◌≤◌, ◌<◌, length, get_or}
 use Rattle.std.proofs.Math.Path.{refl, sym, ap, ap₂}
 use Rattle.std.proofs.Common.{◌∙◌, inl, inr, add-one, arith, length-append, get_or-drop}
 use mathlib.Core.List.{List, [], ◌∷◌, ◌++◌, map}
@@ -17,7 +17,7 @@ use Rattle.cover_records.specs.Listing.{newline}
 use Rattle.net_reader.specs.ReadAnswer.{arrays_of}
 use Rattle.net_reader.specs.declared.NetSizes.{NetSizes}
 use Rattle.net_checks.specs.Graphs.{outs_of, delays_of}
-use Rattle.run_theory.specs.Bench.{ago, pin_from, value_at}
+use Rattle.run_theory.specs.Bench.{pin_from, value_at}
 use Rattle.run_theory.specs.BenchBytes.{section_in, pair_at, pairs_in}
 use Rattle.run_theory.proofs.AgoLaws.{ago-agree}
 use Rattle.run_theory.proofs.BenchLaws.{bench, value_before}

@@ -9,7 +9,6 @@ ghost use Rattle.cover_writer.specs.Writing.{Wrote};
 ghost use Rattle.text_bench.specs.BenchText.{steps_shown, bench_text};
 ghost use Rattle.text_bench.specs.BenchAsked.{DigitsAsked, DigitsTold, LineAsked, LineTold, BenchAsked};
 
-use inputs::narrow;
 use limits::STEPS;
 use net_reader::{NetSizes, delays_at, outs_at};
 use run_step::{advance, pair_at, steps_of, value_all};
@@ -21,7 +20,7 @@ fn bit_digit(value: usize) -> u8
     requires { value < 2 }
     ensures { result ≡ 48 + value }
 {
-    narrow(48 + value)
+    b'0' + value as u8
 }
 
 // The digits of the outputs in a step.
@@ -32,7 +31,7 @@ fn put_outputs(
     kept: &[u8],
     word: u64,
     known: &mut [usize],
-    at: usize,
+    mut at: usize,
     out: &mut [u8],
 ) -> usize
     requires { DigitsAsked (sheet z net.now tables.now kept.now word) known.old at out.old }
@@ -40,15 +39,11 @@ fn put_outputs(
 {
     let a = outs_at(z, net);
     let b = delays_at(z, net);
-    let mut next = at;
-    let mut o = 0;
-    while o < z.outputs {
+    for o in 0..z.outputs {
         let value = node_value(z, net, tables, kept, word, known, net[a + o], net[b + o]);
-        let digit = bit_digit(value);
-        next = put_byte(digit, next, out);
-        o += 1;
+        at = put_byte(bit_digit(value), at, out);
     }
-    next
+    at
 }
 
 // A step: its line, and what is kept, one step on.
@@ -68,18 +63,14 @@ fn put_step(
     value_all(z, net, tables, kept, word, known);
     let a = put_outputs(z, net, tables, kept, word, known, at, out);
     advance(z, word, known, kept);
-    put_byte(10, a, out)
+    put_byte(b'\n', a, out)
 }
 
 // The number of steps shown.
 fn steps_shown(pairs: &[u8]) -> usize
     ensures { result ≡ steps_shown pairs.now }
 {
-    let n = steps_of(pairs);
-    if STEPS < n {
-        return STEPS;
-    }
-    n
+    steps_of(pairs).min(STEPS)
 }
 
 // The whole text in front of out; the bytes behind it are kept. What is kept starts as the net's section.
@@ -97,11 +88,9 @@ pub fn write_bench(
 {
     let n = steps_shown(pairs);
     let mut at = 0;
-    let mut t = 0;
-    while t < n {
+    for t in 0..n {
         let word = pair_at(pairs, t);
         at = put_step(z, net, tables, word, kept, known, at, out);
-        t += 1;
     }
     at
 }

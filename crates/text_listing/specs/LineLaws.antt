@@ -1,7 +1,7 @@
 -- The lines of the text, by their parts.
 use Rattle.std.specs.Prelude.{◌≡◌, List, [], ◌∷◌, ◌++◌, ℕ, zero, suc, ◌+◌, ◌-◌, ◌*◌, ◌<◌, ℤ, length, get_or}
 use Rattle.std.proofs.Math.Path.{refl, ap}
-use Rattle.std.proofs.Common.{sym, ap₂, ◌∙◌, append_assoc, append-nil, add-one, arith, ne_eqb}
+use Rattle.std.proofs.Common.{sym, ap₂, ◌∙◌, append_assoc, append-nil, add-one, add-zero, zero-add, arith, ne_eqb}
 use Rattle.integers.specs.Lag.{lag}
 use Rattle.net_model.specs.Arrays.{stride, copies_from}
 use Rattle.net_model.specs.ArrayLaws.{length-copies_from}
@@ -25,6 +25,21 @@ pub leaves-more : (nodes backs : List ℕ) (p n : ℕ) → (n ≡ 0 → ⊥)
 unfolding copies_from leaf_text
 leaves-more nodes backs p zero h = absurd (h refl)
 leaves-more nodes backs p (suc n) h = let e : suc n - 1 ≡ n = omega arith in rw (e, add-one p) refl
+
+-- the last leaf behind the others
+pub leaves-last : (nodes backs : List ℕ) (p j : ℕ)
+    → leaf_text (copies_from nodes backs p j) ++ (((32 ∷ []) ++ decimal (get_or nodes (p + j) 0)) ++ ((58 ∷ []) ++ decimal (get_or backs (p + j) 0))) ≡ leaf_text (copies_from nodes backs p (j + 1))
+unfolding copies_from leaf_text
+leaves-last nodes backs p j = rw (add-one j) (go p j)
+  where
+    leaf : ℕ → List ℕ
+    leaf i = ((32 ∷ []) ++ decimal (get_or nodes i 0)) ++ ((58 ∷ []) ++ decimal (get_or backs i 0))
+
+    go : (p j : ℕ) → leaf_text (copies_from nodes backs p j) ++ leaf (p + j) ≡ leaf_text (copies_from nodes backs p (suc j))
+    go p zero = rw (add-zero p) (sym (append-nil (leaf p)))
+    go p (suc j) =
+        let e : suc p + j ≡ p + suc j = omega arith in
+        append_assoc (leaf p) (leaf_text (copies_from nodes backs (suc p) j)) (leaf (p + suc j)) ∙ ap (λ (l : List ℕ). leaf p ++ l) (rw e at (go (suc p) j))
 
 -- ---- a line
 
@@ -77,6 +92,21 @@ lines_more a g h =
     let e : a.gates - g ≡ 1 + (a.gates - (g + 1)) = omega arith in
     ap (λ (n : ℕ). lut_lines (label_at a) (entries_from a g n)) e ∙ ap (lut_lines (label_at a)) (entries-split a g 1 (a.gates - (g + 1)))
     ∙ lines_append (label_at a) (entries_from a g 1) (entries_from a (g + 1) (a.gates - (g + 1)))
+
+-- the lines of the gates below g, and that of gate g
+pub lines_next : (a : Kept) (g : ℕ) → lut_lines (label_at a) (entries_from a 0 g) ++ line_at a g ≡ lut_lines (label_at a) (entries_from a 0 (g + 1))
+unfolding line_at
+lines_next a g =
+    let e = ap (λ (i : ℕ). lut_lines (label_at a) (entries_from a 0 g) ++ lut_lines (label_at a) (entries_from a i 1)) (sym (zero-add g)) in
+    e ∙ sym (lines_append (label_at a) (entries_from a 0 g) (entries_from a (0 + g) 1)) ∙ ap (lut_lines (label_at a)) (sym (entries-split a 0 g 1))
+
+pub lines_start : (a : Kept) → lut_lines (label_at a) (entries_from a 0 0) ≡ []
+unfolding entries_from lut_lines
+lines_start a = refl
+
+pub lines_whole : (a : Kept) → lut_lines (label_at a) (entries_from a 0 a.gates) ≡ lines_from a 0
+unfolding lines_from
+lines_whole a = let g : a.gates ≡ a.gates - 0 = omega arith in ap (λ (n : ℕ). lut_lines (label_at a) (entries_from a 0 n)) g
 
 -- ---- the text
 

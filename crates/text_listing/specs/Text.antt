@@ -1,6 +1,5 @@
 -- Definitions: what the listing's text asks of a cover kept in arrays, and what is told of it.
 use Rattle.std.specs.Prelude.{◌≡◌, List, ◌++◌, ℕ, ◌+◌, ◌-◌, ◌*◌, ◌≤◌, ◌<◌, ℤ, length}
-use Rattle.integers.specs.Parts.{up}
 use Rattle.integers.specs.Lag.{lag}
 use Rattle.net_model.specs.Arrays.{pins_in, copies_from}
 use Rattle.sequences.specs.Member.{◌∈◌}
@@ -8,7 +7,7 @@ use Rattle.net_model.specs.Net.{Net, IsNode, size}
 use Rattle.limits.specs.Limits.{most_gates, most_nodes, text_room, depth_room}
 use Rattle.cover_theory.specs.Key.{Entry}
 use Rattle.cover_theory.specs.SharedRegisters.{Tap}
-use Rattle.cover_records.specs.Kept.{Kept, kept, entries_from, entries_in, label_at}
+use Rattle.cover_records.specs.Kept.{Kept, entries_from, entries_in, label_at}
 use Rattle.cover_records.specs.Listing.{cover_text, decimal, signed, table_text, leaf_text, lut_word, label_word, lag_word, table_word, leaves_word, newline, period_word, luts_word, registers_word, lut_lines, entry_taps}
 use Rattle.cover_writer.specs.Writing.{ArraysHeld, LutsHeld, Below, Wrote}
 

@@ -1,7 +1,7 @@
 // The listing's text of the cover kept.
 #![tactic(auto)]
 
-ghost use Rattle.std.specs.Prelude.{◌+◌, ◌*◌, ◌-◌, ◌≤◌, length};
+ghost use Rattle.std.specs.Prelude.{◌+◌, ◌*◌, ◌≤◌, length};
 ghost use Rattle.net_model.specs.Arrays.{copies_from};
 ghost use Rattle.cover_records.specs.Rows.{kept_in, row_room};
 ghost use Rattle.cover_records.specs.Listing.{leaf_text};
@@ -25,19 +25,18 @@ fn put_leaves(
     backs: &[usize],
     p: usize,
     n: usize,
-    at: usize,
+    mut at: usize,
     out: &mut [u8],
 ) -> usize
     requires n_in_bounds { (p + n ≤ length nodes.now) × (p + n ≤ length backs.now) }
     requires n_in_bounds_2 { at + 42 * n ≤ length out.old }
     ensures { Put (42 * n) at (leaf_text (copies_from nodes.now backs.now p n)) out.old out.new result }
 {
-    if n == 0 {
-        return at;
+    for j in 0..n {
+        let a = put_field(b" ", nodes[p + j], at, out);
+        at = put_field(b":", backs[p + j], a, out);
     }
-    let a = put_field(b" ", nodes[p], at, out);
-    let b = put_field(b":", backs[p], a, out);
-    put_leaves(nodes, backs, p + 1, n - 1, b, out)
+    at
 }
 
 // The line up to the lag.
@@ -69,7 +68,7 @@ fn put_back(
     let b = put_table(n, table, a, out);
     let c = put_word(b" leaves", b, out);
     let d = put_leaves(nodes, backs, p, n, c, out);
-    put_byte(10, d, out)
+    put_byte(b'\n', d, out)
 }
 
 // The line of gate g, where it has a LUT, with the short form of its table.
@@ -99,25 +98,23 @@ fn put_gate(
     put_back(n, table, &rows[a..], &rows[b..], PINS * g, c, out)
 }
 
-// The lines of the gates from gate g on.
+// The lines of all gates.
 fn put_lines(
     s: CoverHead,
     labels: &[i64],
     rows: &[usize],
     tables: &[u64],
-    g: usize,
-    at: usize,
+    mut at: usize,
     out: &mut [u8],
 ) -> usize
-    requires gates_asked { GatesAsked (kept_in s.inputs s.gates s.period labels.now rows.now tables.now) g at out.old }
+    requires gates_asked { GatesAsked (kept_in s.inputs s.gates s.period labels.now rows.now tables.now) 0 at out.old }
     requires gates_in_bounds { row_room s.gates ≤ length rows.now }
-    ensures { Put (361 * (s.gates - g)) at (lines_from (kept_in s.inputs s.gates s.period labels.now rows.now tables.now) g) out.old out.new result }
+    ensures { Put (361 * s.gates) at (lines_from (kept_in s.inputs s.gates s.period labels.now rows.now tables.now) 0) out.old out.new result }
 {
-    if g == s.gates {
-        return at;
+    for g in 0..s.gates {
+        at = put_gate(s, labels, rows, tables, g, at, out);
     }
-    let b = put_gate(s, labels, rows, tables, g, at, out);
-    put_lines(s, labels, rows, tables, g + 1, b, out)
+    at
 }
 
 // ---- the text
@@ -130,7 +127,7 @@ fn put_first(period: usize, count: usize, registers: usize, out: &mut [u8]) -> u
     let a = put_field(b"period ", period, 0, out);
     let b = put_field(b" luts ", count, a, out);
     let c = put_field(b" registers ", registers, b, out);
-    put_byte(10, c, out)
+    put_byte(b'\n', c, out)
 }
 
 // The text of the cover kept, in front of the area; the bytes behind it are kept. The register count is for n outputs.
@@ -151,5 +148,5 @@ pub fn write_text(
     let count = count_luts(rows, s.gates);
     let registers = count_registers(s, labels, rows, outs, delays, n);
     let a = put_first(s.period, count, registers, out);
-    put_lines(s, labels, rows, tables, 0, a, out)
+    put_lines(s, labels, rows, tables, a, out)
 }

@@ -1,11 +1,9 @@
-use mathlib.Core.Path.{◌∙◌}
 use Prim.Native.Nat.{◌+◌}
 use native.Mathlib.Omega.{arith}
 use Rattle.limits.specs.Limits.{most_outputs}
-use Rattle.run_step.specs.SteppingLaws.{valued_ready, valued_asks, valued_step}
-use Rattle.text_digits.specs.PutLaws.{put_then, put-room, put-held, put-more}
+use Rattle.run_step.specs.SteppingLaws.{valued_step}
+use Rattle.text_digits.specs.PutLaws.{put_then, put-more}
 use Rattle.text_bench.specs.BenchTextLaws.{valued_more}
-use Rattle.std.proofs.Common.{rules}
 use Rattle.text_bench.proofs.put_step.Goals as goal
 
 pub returns : goal.returns

@@ -1,7 +1,6 @@
 use native.Mathlib.Omega.{arith}
 use Rattle.text_digits.specs.PutLaws.{put_then, put-more, put_same}
 use Rattle.text_listing.specs.LineLaws.{back-text}
-use Rattle.std.proofs.Common.{rules}
 use Rattle.text_listing.proofs.put_back.Goals as goal
 
 pub returns : goal.returns

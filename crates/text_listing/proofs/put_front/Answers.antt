@@ -1,7 +1,6 @@
 use Rattle.cover_records.specs.Listing.{label_word, lag_word}
 use Rattle.text_digits.specs.PutLaws.{put_then, put_same, put-stored}
 use Rattle.text_listing.specs.LineLaws.{front-text}
-use Rattle.std.proofs.Common.{rules}
 use Rattle.text_listing.proofs.put_front.Goals as goal
 
 pub returns : goal.returns

@@ -1,25 +1,24 @@
 use mathlib.Core.Path.{◌≡◌, sym, ap, ap₂, ◌∙◌}
 use mathlib.Core.List.{List}
-use Prim.Native.Nat.{ℕ, ◌+◌, ◌*◌, ◌≤◌}
+use Prim.Native.Nat.{ℕ, ◌+◌, ◌*◌}
 use native.Mathlib.Omega.{arith}
 use lib.IntN.{ℤ}
-use lib.ListN.{length, get_or}
+use lib.ListN.{get_or}
 use mir.Syntax.{w64}
 use mir.Val.{to_z, of_z}
 use Rattle.integers.specs.Lag.{lag}
 use Rattle.cover_records.specs.Kept.{Kept, short_table, label_at}
 use Rattle.cover_records.specs.Rows.{kept_in}
-use Rattle.cover_records.specs.RowLaws.{size-at, row-lent, row-whole}
-use Rattle.signed.specs.Range.{Small, room}
+use Rattle.cover_records.specs.RowLaws.{row-whole}
+use Rattle.signed.specs.Range.{Small}
 use Rattle.signed.specs.RangeLaws.{back, small-fits}
 use Rattle.net_model.specs.Arrays.{stride}
 use Rattle.cover_writer.specs.Writing.{LutHeld}
 use Rattle.text_digits.specs.Put.{Put}
 use Rattle.text_listing.specs.Text.{GateAsked, line_front, line_back}
-use Rattle.cover_registers.specs.RegisterCountLaws.{lag-asked, lag-told, within-lag, within-small}
-use Rattle.text_digits.specs.PutLaws.{put-none, put_then, put-room, put-more, put_same}
+use Rattle.cover_registers.specs.RegisterCountLaws.{lag-told, within-lag, within-small}
+use Rattle.text_digits.specs.PutLaws.{put-none, put_then, put-more, put_same}
 use Rattle.text_listing.specs.LineLaws.{line-none, line-some}
-use Rattle.std.proofs.Common.{rules}
 use Rattle.text_listing.proofs.put_gate.Goals as goal
 
 -- `text_listing::put_gate` meets its contract, by the mark.

@@ -1,11 +1,9 @@
 use mathlib.Core.Path.{sym, ◌∙◌}
-use Prim.Native.Nat.{◌*◌, ◌-◌}
 use native.Mathlib.Omega.{arith}
 use Rattle.cover_records.specs.Rows.{sizes_in, nodes_in, backs_in, kept_in}
-use Rattle.text_digits.specs.PutLaws.{put_then, put-room, put-wrote, put_same}
-use Rattle.cover_registers.specs.LagLaws.{register_count_lem, leaves-held}
+use Rattle.text_digits.specs.PutLaws.{put_then, put-wrote, put_same}
+use Rattle.cover_registers.specs.LagLaws.{register_count_lem}
 use Rattle.text_listing.specs.LineLaws.{cover-text}
-use Rattle.std.proofs.Common.{rules}
 use Rattle.text_listing.proofs.write_text.Goals as goal
 
 pub returns : goal.returns
