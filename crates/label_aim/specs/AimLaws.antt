@@ -1,12 +1,12 @@
 -- Laws of a question's border.
-use Rattle.std.specs.Prelude.{◌≡◌, refl, Bool, true, false, cond, ◌⊎◌, ℕ, zero, suc, ◌+◌, ◌*◌, ◌/◌, ◌≤◌, ◌<◌, ℤ, pos, negsuc, ◌+ℤ◌, ◌-ℤ◌, ◌≤ℤ◌, ◌<ℤ◌}
+use Rattle.std.specs.Prelude.{◌≡◌, refl, Bool, true, false, cond, ℕ, zero, suc, ◌+◌, ◌*◌, ◌/◌, ◌≤◌, ◌<◌, ℤ, pos, negsuc, ◌-ℤ◌, ◌≤ℤ◌, ◌<ℤ◌}
 use Rattle.std.proofs.Common.{sym, ap, subst, ◌∙◌, inl, inr, mod-lt, mul-le-mul_left, arith, to_z, of_z}
 use Rattle.std.proofs.Math.Nat.{div-add-mod, lt_of_mul-lt-mul_left}
 use Rattle.std.specs.Int.Signed.{mag}
 use Rattle.std.specs.Int.{w64}
 use Rattle.integers.specs.Parts.{up, ints, +-parts, sub_parts, pos-up}
 use Rattle.label_theory.specs.Labels.{Mode, plain, forward}
-use Rattle.label_theory.specs.Modes.{Topped, bordered-plain, bordered-forward}
+use Rattle.label_theory.specs.Modes.{bordered-plain, bordered-forward}
 use Rattle.signed.specs.Range.{Small, room}
 use Rattle.signed.specs.RangeLaws.{mag-parts, other-zero, back, fits-of, small-fits, small-between, minus_mag}
 use Rattle.cut_circuit.specs.declared.Extent.{Extent}

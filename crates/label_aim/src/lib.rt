@@ -92,13 +92,8 @@ pub fn narrowed(s: Extent, a: Aim, p: i64) -> Extent
 {
     if a.forward {
         let h = lowered(s, a, p);
-        let b = farthest(s.border, a.phi, h);
-        return Extent {
-            inputs: s.inputs,
-            gates: s.gates,
-            width: s.width,
-            border: b,
-        };
+        let border = farthest(s.border, a.phi, h);
+        return Extent { border, ..s };
     }
     s
 }

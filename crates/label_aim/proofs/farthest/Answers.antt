@@ -1,4 +1,4 @@
-use mathlib.Core.Path.{◌≡◌, ap, sym, subst, ◌∙◌}
+use mathlib.Core.Path.{◌≡◌, ap, subst, ◌∙◌}
 use mathlib.Core.Bool.{Bool, true, false}
 use native.Mathlib.Omega.{arith}
 use Prim.Native.Nat.{ℕ, ◌*◌, ◌≤◌}
@@ -6,10 +6,9 @@ use mir.Syntax.{w64}
 use mir.Val.{SFits, to_z, of_z}
 use lib.IntN.{ℤ, pos, ◌-ℤ◌}
 use lib.Signed.{◌≤ℤ◌, ◌<ℤ◌}
-use Rattle.signed.specs.Range.{Small, room}
+use Rattle.signed.specs.Range.{room}
 use Rattle.signed.specs.RangeLaws.{told_of, back, fits-of}
-use Rattle.label_aim.specs.AimLaws.{border-all, border-none, border-some, some-positive, some-small, whole-small}
-use Rattle.std.proofs.Common.{rules}
+use Rattle.label_aim.specs.AimLaws.{border-some}
 use Rattle.label_aim.proofs.farthest.Goals as goal
 
 -- `label_aim::farthest` meets its contract: the whole border, none, or by division.
