@@ -1,13 +1,14 @@
 -- The question of a visit: asked with a border of its own, its answer is one about cuts that suit the mode, and the engine is at rest under either border.
-use Rattle.std.specs.Prelude.{◌≡◌, List, ℕ, ◌+◌, ◌*◌, ◌≤◌, ◌<◌, ℤ, pos, ◌-ℤ◌, get_or}
+use Rattle.std.specs.Prelude.{◌≡◌, Bool, true, false, List, ℕ, ◌+◌, ◌≤◌, ◌<◌, ℤ, pos, ◌-ℤ◌}
 use Rattle.std.proofs.Common.{sym, subst, arith}
+use Rattle.std.proofs.lemmas.Bool.{true≢false, false≢true}
 use Rattle.net_model.specs.Net.{Net}
 use Rattle.net_model.specs.Copies.{copy}
 use Rattle.label_theory.specs.Labels.{Mode}
 use Rattle.label_theory.specs.Modes.{Topped, inside-topped}
 use Rattle.label_theory.specs.Forced.{leaf-allowed}
 use Rattle.signed.specs.Range.{label_in}
-use Rattle.cut_circuit.specs.Circuit.{Circuit, Layout}
+use Rattle.cut_circuit.specs.Circuit.{Circuit}
 use Rattle.cut_circuit.specs.Bridge.{Holds}
 use Rattle.cut_circuit.specs.Packed.{packed_of}
 use Rattle.cut_circuit.specs.declared.Extent.{Extent}
@@ -80,18 +81,18 @@ rest-widen b o r =
 
 module _ {M : Mode} {δ : ℕ} {s : Extent} {net : List ℕ} {ls : List ℤ} {φ k g : ℕ} {p : ℤ} where
   -- **no cone suits the mode**
-  pub answered-high : (r : ℕ) → k < r → (Topped M φ (p -ℤ pos δ) → ⊥) → Answered M δ (wiring s net) k φ ls g p r
-  answered-high r many n = record {
+  pub answered-high : (Topped M φ (p -ℤ pos δ) → ⊥) → Answered M δ (wiring s net) k φ ls g p false
+  answered-high n = record {
     none = λ N S q K. n (inside-topped M φ (p -ℤ pos δ) (s.inputs + g) (K.inside (copy (s.inputs + g) 0) K.is_cone.root));
-    some = λ N S few. absurd (omega (arith, many, few));
+    some = λ N S few. absurd (false≢true few);
   }
 
   -- the engine's answer
-  answered-bordered : {slots : List ℕ} {e : Extent} {r : ℕ} → Bordering M φ (p -ℤ pos δ) s e → Topped M φ (p -ℤ pos δ) → Decides (packed_of (bordered s e.border) net slots) ls φ k g p r → Answered M δ (wiring s net) k φ ls g p r
-  answered-bordered {slots} {e} {r} B t d = record {
-    none = λ N S many. d.none N (holds N S) S.ranked S.loopless M (p -ℤ pos δ) (B.border.bordered _ S.border t) many;
-    some = λ N S few f.
-        let x = d.some N (holds N S) S.ranked S.loopless few in
+  answered-bordered : {slots : List ℕ} {e : Extent} {r : ℕ} {y : Bool} → (y ≡ false → k < r) → (y ≡ true → r ≤ k) → Bordering M φ (p -ℤ pos δ) s e → Topped M φ (p -ℤ pos δ) → Decides (packed_of (bordered s e.border) net slots) ls φ k g p r → Answered M δ (wiring s net) k φ ls g p y
+  answered-bordered {slots} {e} {r} many few B t d = record {
+    none = λ N S q. d.none N (holds N S) S.ranked S.loopless M (p -ℤ pos δ) (B.border.bordered _ S.border t) (many q);
+    some = λ N S q f.
+        let x = d.some N (holds N S) S.ranked S.loopless (few q) in
         let near = B.border.bordered _ S.border t in
         record {
           cone = x.cone;
@@ -109,9 +110,9 @@ module _ {M : Mode} {δ : ℕ} {s : Extent} {net : List ℕ} {ls : List ℤ} {φ
 
   -- the kept cut
   answered-kept : {slots t l stk cnt members : List ℕ} {e : Extent} → AtRest (packed_of s net slots) t l stk cnt members → Bordering M φ (p -ℤ pos δ) s e → Topped M φ (p -ℤ pos δ) → g < s.gates
-      → Serves (row_in s.gates members g) s.width e.border k φ (label_in ls) p → Answered M δ (wiring s net) k φ ls g p k
+      → Serves (row_in s.gates members g) s.width e.border k φ (label_in ls) p → Answered M δ (wiring s net) k φ ls g p true
   answered-kept {e = e} o B t h w = record {
-    none = λ N S q. absurd (omega (arith, q));
+    none = λ N S q. absurd (true≢false q);
     some = λ N S few f.
         serving_cut (o.kept.cut g h w.some N (record { inputs = S.holds.inputs; gates = S.holds.gates; lists = S.holds.lists }) S.ranked S.loopless) w (B.border.bordered _ S.border t).inside;
   }
@@ -143,16 +144,16 @@ module _ {M : Mode} {φ : ℕ} {h : ℤ} {s e : Extent} (B : Bordering M φ h s 
 
 -- **the kept cut**
 pub answered-served : {M : Mode} {δ φ k g : ℕ} {p : ℤ} {s e : Extent} {net slots t l stk cnt members : List ℕ} {ls : List ℤ} → AtRest (packed_of s net slots) t l stk cnt members
-    → Bordering M φ (p -ℤ pos δ) s e → Topped M φ (p -ℤ pos δ) → g < s.gates → Serves (row_in e.gates members g) e.width e.border k φ (label_in ls) p → Answered M δ (wiring s net) k φ ls g p k
+    → Bordering M φ (p -ℤ pos δ) s e → Topped M φ (p -ℤ pos δ) → g < s.gates → Serves (row_in e.gates members g) e.width e.border k φ (label_in ls) p → Answered M δ (wiring s net) k φ ls g p true
 answered-served {φ = φ} {k = k} {g = g} {p = p} {s = s} {e = e} {members = members} {ls = ls} o B t h w =
     answered-kept o B t h (subst (λ (x : Extent). Serves (row_in x.gates members g) x.width e.border k φ (label_in ls) p) (bordering_is B) w)
 
 -- **the engine's answer**
-pub answered : {M : Mode} {δ φ k g r : ℕ} {p : ℤ} {s e : Extent} {net slots : List ℕ} {ls : List ℤ} → Bordering M φ (p -ℤ pos δ) s e → Topped M φ (p -ℤ pos δ)
-    → Decides (packed_of e net slots) ls φ k g p r → Answered M δ (wiring s net) k φ ls g p r
-answered {M} {δ} {φ} {k} {g} {r} {p} {s} {e} {net} {slots} {ls} B t d =
-    answered-bordered B t (subst (λ (x : Extent). Decides (packed_of x net slots) ls φ k g p r) (bordering_is B) d)
+pub answered : {M : Mode} {δ φ k g r : ℕ} {y : Bool} {p : ℤ} {s e : Extent} {net slots : List ℕ} {ls : List ℤ} → (y ≡ false → k < r) → (y ≡ true → r ≤ k) → Bordering M φ (p -ℤ pos δ) s e → Topped M φ (p -ℤ pos δ)
+    → Decides (packed_of e net slots) ls φ k g p r → Answered M δ (wiring s net) k φ ls g p y
+answered {M} {δ} {φ} {k} {g} {r} {y} {p} {s} {e} {net} {slots} {ls} many few B t d =
+    answered-bordered many few B t (subst (λ (x : Extent). Decides (packed_of x net slots) ls φ k g p r) (bordering_is B) d)
 
 -- an equal height
-pub answered-at : {M : Mode} {δ : ℕ} {C : Circuit} {k φ g r : ℕ} {ls : List ℤ} {p q : ℤ} → p ≡ q → Answered M δ C k φ ls g p r → Answered M δ C k φ ls g q r
+pub answered-at : {M : Mode} {δ : ℕ} {C : Circuit} {k φ g : ℕ} {r : Bool} {ls : List ℤ} {p q : ℤ} → p ≡ q → Answered M δ C k φ ls g p r → Answered M δ C k φ ls g q r
 answered-at {M} {δ} {C} {k} {φ} {g} {r} {ls} e a = subst (λ (x : ℤ). Answered M δ C k φ ls g x r) e a

@@ -1,5 +1,5 @@
 -- Labels that no labelling is below: raised to what every labelling reaches, past a ceiling, and where all gates are quiet.
-use Rattle.std.specs.Prelude.{◌≡◌, refl, List, ℕ, suc, ◌+◌, ◌-◌, ◌*◌, ◌≤◌, ◌<◌, ℤ, pos, ◌+ℤ◌, ◌-ℤ◌, length, get_or, set, ◌≤ℤ◌, ◌<ℤ◌}
+use Rattle.std.specs.Prelude.{◌≡◌, refl, Bool, false, List, ℕ, suc, ◌+◌, ◌-◌, ◌*◌, ◌≤◌, ◌<◌, ℤ, pos, ◌+ℤ◌, ◌-ℤ◌, length, get_or, set, ◌≤ℤ◌, ◌<ℤ◌}
 use Rattle.std.proofs.Common.{sym, ap, ◌∙◌, subst, mul-le-mul_left, arith, get_or-set_same, get_or-set_other}
 use Rattle.std.proofs.Math.Path.{fun_ext}
 use Rattle.std.proofs.Math.Decide.{ℕ_discrete}
@@ -76,7 +76,7 @@ module _ {M : Mode} {δ : ℕ} {C : Circuit} {k φ : ℕ} where
       keeps-pin k φ S.sound δ (label_in ls) (C.inputs + g) (pin_at C.sources C.counts (stride * g + m.pin)) (gate-of S.holds g l) (is-pin S.holds g m.pin l m.is_pin) p m.attained)
 
   -- **and p + 1 where there is no cut of height p**
-  pub kept_more : (ls : List ℤ) (g q : ℕ) (p : ℤ) → g < C.gates → C.inputs + g < length ls → PinMax C ls φ g p → Answered M δ C k φ ls g p q → k < q
+  pub kept_more : (ls : List ℤ) (g : ℕ) (q : Bool) (p : ℤ) → g < C.gates → C.inputs + g < length ls → PinMax C ls φ g p → Answered M δ C k φ ls g p q → q ≡ false
       → Kept M δ C k φ ls (set ls (C.inputs + g) (p +ℤ pos 1))
   kept_more ls g q p l r m a few = kept_set ls g (p +ℤ pos 1) r (λ N S.
       keeps-more k φ S.sound δ (label_in ls) (C.inputs + g) (pin_at C.sources C.counts (stride * g + m.pin)) (gate-of S.holds g l) (is-pin S.holds g m.pin l m.is_pin) p m.attained

@@ -1,6 +1,6 @@
 -- The ways out of a visit.
-use Rattle.std.specs.Prelude.{◌≡◌, List, ◌⊎◌, ℤ, pos, ◌+ℤ◌, ◌-ℤ◌, length, set, ◌≤ℤ◌, ◌<ℤ◌}
-use Rattle.std.proofs.Common.{sym, ◌∙◌, subst, inl, inr, arith}
+use Rattle.std.specs.Prelude.{◌≡◌, Bool, true, false, Ok, Err, List, ℤ, pos, ◌+ℤ◌, ◌-ℤ◌, length, set, ◌≤ℤ◌, ◌<ℤ◌}
+use Rattle.std.proofs.Common.{sym, ◌∙◌, subst, arith}
 use Rattle.std.proofs.Math.Path.{refl}
 use Prim.Native.Nat.{ℕ, zero, suc, ◌+◌, ◌*◌, ◌≤◌, ◌<◌}
 use Rattle.std.proofs.Math.Decide.{ℕ_discrete}
@@ -14,9 +14,10 @@ use Rattle.label_theory.specs.Labels.{Mode}
 use Rattle.label_theory.specs.Forced.{Falling}
 use Rattle.label_theory.specs.Near.{TrialCut}
 use Rattle.cut_circuit.specs.Circuit.{Circuit}
-use Rattle.label_visit.specs.LabelVisits.{Suits, PinMax, higher, level, Kept, Raised, Changed, Fine, left, Answered, Visited}
+use Rattle.label_visit.specs.LabelVisits.{PinMax, higher, level, Kept, Raised, Changed, Fine, left, Answered, Visited}
+use Rattle.label_visit.specs.declared.PastCeiling.{PastCeiling}
 use Rattle.label_visit.specs.BoundLaws.{sane_of, kept_same, kept_then, kept-bounds, kept-p, kept_more, past_top}
-use Rattle.label_visit.specs.ReadyLaws.{changed-set, changed_then, two_cases, raised-changed, changed-small}
+use Rattle.label_visit.specs.ReadyLaws.{changed-set, changed_then, raised-changed, changed-small}
 
 module _ (M : Mode) (δ : ℕ) (C : Circuit) (k φ : ℕ) (tops : List ℕ) (ls : List ℤ) (g : ℕ) (p : ℤ) where
   -- labels above g's place do not change what is left there
@@ -66,16 +67,15 @@ module _ (M : Mode) (δ : ℕ) (C : Circuit) (k φ : ℕ) (tops : List ℕ) (ls 
       attained s w h (no n) = rw (c.other s n) h
 
   -- **the label is higher than the pins: nothing can change**
-  pub visit_higher : Fine C ls → PinMax C ls φ g p → (p +ℤ pos 1) ≤ℤ label_in ls (C.inputs + g) → Visited M δ C k φ tops ls ls g 0
+  pub visit_higher : Fine C ls → PinMax C ls φ g p → (p +ℤ pos 1) ≤ℤ label_in ls (C.inputs + g) → Visited M δ C k φ tops ls ls g (Ok false)
   visit_higher f m l = record {
-    most = omega arith;
     fine = f;
     keeps = kept_same ls;
     same = λ e. refl;
     quiet = λ e. higher p m l;
     less = omega arith;
-    falls = λ e. absurd (omega (arith, e));
-    refuted = λ e. absurd (omega (arith, e));
+    falls = λ e. cc;
+    refuted = tt;
   }
 
   module _ (f : Fine C ls) (h : g < C.gates) (m : PinMax C ls φ g p) (lo : label_in ls (C.inputs + g) ≤ℤ p) where
@@ -83,38 +83,34 @@ module _ (M : Mode) (δ : ℕ) (C : Circuit) (k φ : ℕ) (tops : List ℕ) (ls 
     inside = let e = f.size in omega arith
 
     -- **past the ceiling at once**
-    pub visit_past : pos (φ * get_or tops g 0) <ℤ p → Visited M δ C k φ tops ls ls g 2
-    visit_past o = record {
-      most = omega arith;
+    pub visit_past : pos (φ * get_or tops g 0) <ℤ p → (e : PastCeiling) → Visited M δ C k φ tops ls ls g (Err e)
+    visit_past o e = record {
       fine = f;
       keeps = kept_same ls;
-      same = λ e. refl;
-      quiet = λ e. absurd (omega (arith, e));
+      same = λ i. refl;
+      quiet = λ i. cc;
       less = omega arith;
-      falls = λ e. absurd (omega (arith, e));
-      refuted = λ e b. past_top M (set ls (C.inputs + g) p) g h (kept-bounds {δ = δ} (kept-p ls g p h inside m) b) (rw (changed-set ls (C.inputs + g) p inside).at o);
+      falls = λ i. cc;
+      refuted = λ b. past_top M (set ls (C.inputs + g) p) g h (kept-bounds {δ = δ} (kept-p ls g p h inside m) b) (rw (changed-set ls (C.inputs + g) p inside).at o);
     }
 
-    module _ (s : Small p) (ls' : List ℤ) (rose : ℕ) (R : Raised ls ls' (C.inputs + g) p rose) (q : ℕ) (a : Answered M δ C k φ ls' g p q) where
-      cases : (rose ≡ 0) ⊎ (rose ≡ 1)
-      cases = two_cases rose R.bound
-
+    module _ (s : Small p) (ls' : List ℤ) (rose : Bool) (R : Raised ls ls' (C.inputs + g) p rose) (q : Bool) (a : Answered M δ C k φ ls' g p q) where
       changed : Changed ls ls' (C.inputs + g) p
       changed = raised-changed inside R
 
       kept : Kept M δ C k φ ls ls'
-      kept = go cases
+      kept = go rose R
         where
-          go : (rose ≡ 0) ⊎ (rose ≡ 1) → Kept M δ C k φ ls ls'
-          go (inl e) = subst (Kept M δ C k φ ls) (sym (R.there e).1) (kept_same ls)
-          go (inr e) = subst (Kept M δ C k φ ls) (sym (R.lower e).1) (kept-p ls g p h inside m)
+          go : (b : Bool) → Raised ls ls' (C.inputs + g) p b → Kept M δ C k φ ls ls'
+          go false R = subst (Kept M δ C k φ ls) (sym (R.there refl).1) (kept_same ls)
+          go true R = subst (Kept M δ C k φ ls) (sym (R.lower refl).1) (kept-p ls g p h inside m)
 
       no_more : p ≤ℤ pos (φ * get_or tops g 0) → left C φ tops ls' C.gates ≤ left C φ tops ls C.gates
-      no_more u = go cases
+      no_more u = go rose R
         where
-          go : (rose ≡ 0) ⊎ (rose ≡ 1) → left C φ tops ls' C.gates ≤ left C φ tops ls C.gates
-          go (inl e) = rw (R.there e).1 (omega arith)
-          go (inr e) = let d = left-falls changed (R.lower e).0 u C.gates h in omega arith
+          go : (b : Bool) → Raised ls ls' (C.inputs + g) p b → left C φ tops ls' C.gates ≤ left C φ tops ls C.gates
+          go false R = rw (R.there refl).1 (omega arith)
+          go true R = let d = left-falls changed (R.lower refl).0 u C.gates h in omega arith
 
       max : PinMax C ls' φ g p
       max = pinmax_changed m lo changed
@@ -123,45 +119,43 @@ module _ (M : Mode) (δ : ℕ) (C : Circuit) (k φ : ℕ) (tops : List ℕ) (ls 
       inside' = let e = changed.size in let i = inside in omega arith
 
       -- **a cut of height p is there**
-      pub visit_cut : q ≤ k → p ≤ℤ pos (φ * get_or tops g 0) → Visited M δ C k φ tops ls ls' g rose
+      pub visit_cut : q ≡ true → p ≤ℤ pos (φ * get_or tops g 0) → Visited M δ C k φ tops ls ls' g (Ok rose)
       visit_cut few u = record {
-        most = let b = R.bound in omega arith;
         fine = fine_of f s changed;
         keeps = kept;
-        same = λ e. (R.there e).1;
-        quiet = λ e. level p m (R.there e).0 (λ N S. subst (λ (x : List ℤ). Falling N φ (label_in x) → TrialCut M N k φ δ (label_in x) (C.inputs + g) p) (R.there e).1
-            (a.some N (sane_of S) few));
+        same = λ e. (R.there (cc)).1;
+        quiet = λ e.
+            let t = R.there (cc) in
+            level p m t.0 (λ N S. subst (λ (x : List ℤ). Falling N φ (label_in x) → TrialCut M N k φ δ (label_in x) (C.inputs + g) p) t.1 (a.some N (sane_of S) few));
         less = no_more u;
-        falls = λ e. left-falls changed (R.lower e).0 u C.gates h;
-        refuted = λ e. absurd (let b = R.bound in omega (arith, e));
+        falls = λ e. left-falls changed (R.lower (cc)).0 u C.gates h;
+        refuted = tt;
       }
 
       -- **no cut of height p, and room for p + 1**
-      pub visit_lift : k < q → p <ℤ pos (φ * get_or tops g 0) → Small (p +ℤ pos 1) → (ls'' : List ℤ) → ls'' ≡ set ls' (C.inputs + g) (p +ℤ pos 1) → Visited M δ C k φ tops ls ls'' g 1
+      pub visit_lift : q ≡ false → p <ℤ pos (φ * get_or tops g 0) → Small (p +ℤ pos 1) → (ls'' : List ℤ) → ls'' ≡ set ls' (C.inputs + g) (p +ℤ pos 1) → Visited M δ C k φ tops ls ls'' g (Ok true)
       visit_lift many u s' ls'' e =
           let c = changed_then changed (subst (λ (x : List ℤ). Changed ls' x (C.inputs + g) (p +ℤ pos 1)) (sym e) (changed-set ls' (C.inputs + g) (p +ℤ pos 1) inside')) in
           record {
-            most = omega arith;
             fine = fine_of f s' c;
             keeps = kept_then kept (subst (Kept M δ C k φ ls') (sym e) (kept_more ls' g q p h inside' max a many));
-            same = λ i. absurd (omega (arith, i));
-            quiet = λ i. absurd (omega (arith, i));
+            same = λ i. cc;
+            quiet = λ i. cc;
             less = let d = left-falls c (omega (arith, ints, +-parts p (pos 1))) (omega (arith, ints, +-parts p (pos 1))) C.gates h in omega arith;
             falls = λ i. left-falls c (omega (arith, ints, +-parts p (pos 1))) (omega (arith, ints, +-parts p (pos 1))) C.gates h;
-            refuted = λ i. absurd (omega (arith, i));
+            refuted = tt;
           }
 
       -- **no cut of height p, and p is the ceiling**
-      pub visit_over : k < q → p ≤ℤ pos (φ * get_or tops g 0) → pos (φ * get_or tops g 0) ≤ℤ p → Visited M δ C k φ tops ls ls' g 2
-      visit_over many t u = record {
-        most = omega arith;
+      pub visit_over : q ≡ false → p ≤ℤ pos (φ * get_or tops g 0) → pos (φ * get_or tops g 0) ≤ℤ p → (e : PastCeiling) → Visited M δ C k φ tops ls ls' g (Err e)
+      visit_over many t u e = record {
         fine = fine_of f s changed;
         keeps = kept;
-        same = λ i. absurd (omega (arith, i));
-        quiet = λ i. absurd (omega (arith, i));
+        same = λ i. cc;
+        quiet = λ i. cc;
         less = no_more t;
-        falls = λ i. absurd (omega (arith, i));
-        refuted = λ i b.
+        falls = λ i. cc;
+        refuted = λ b.
             past_top M (set ls' (C.inputs + g) (p +ℤ pos 1)) g h (kept-bounds (kept_then kept (kept_more ls' g q p h inside' max a many)) b)
             (rw (changed-set ls' (C.inputs + g) (p +ℤ pos 1) inside').at (omega (arith, ints, +-parts p (pos 1))));
       }

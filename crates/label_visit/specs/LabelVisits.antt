@@ -1,5 +1,5 @@
 -- Definitions: one visit of a gate in the sweep: what it keeps, when nothing can change, and when it refutes.
-use Rattle.std.specs.Prelude.{◌≡◌, List, [], ℕ, zero, suc, ◌+◌, ◌-◌, ◌*◌, ◌^◌, ◌≤◌, ◌<◌, ℤ, pos, ◌+ℤ◌, ◌-ℤ◌, length, get_or, set, drop, replicate, ◌≤ℤ◌, ◌<ℤ◌}
+use Rattle.std.specs.Prelude.{◌≡◌, true, false, Bool, List, [], Result, Ok, OnErr, ℕ, zero, suc, ◌+◌, ◌-◌, ◌*◌, ◌^◌, ◌≤◌, ◌<◌, ℤ, pos, ◌+ℤ◌, ◌-ℤ◌, length, get_or, set, drop, replicate, ◌≤ℤ◌, ◌<ℤ◌}
 use Rattle.limits.specs.Limits.{most_k, most_pins}
 use Rattle.integers.specs.Parts.{up}
 use Rattle.net_model.specs.Net.{Net}
@@ -19,6 +19,7 @@ use Rattle.cut_circuit.specs.Packed.{packed_of, sources_at, counts_at}
 use Rattle.cut_circuit.specs.declared.Extent.{Extent}
 use Rattle.cut_circuit.specs.Bridge.{Holds}
 use Rattle.label_pins.specs.PinHeights.{height_at, PinFits}
+use Rattle.label_visit.specs.declared.PastCeiling.{PastCeiling}
 
 -- What a ceiling of so many periods stands on: a path from the gate to an output with one register less; in forward mode no label is above one period.
 abbrev pub Ceiled : Mode → Net → ℕ → ℕ → Type 0
@@ -74,9 +75,9 @@ abbrev pub Refuted : Mode → Circuit → ℕ → ℕ → List ℕ → Type 0
 Refuted M C k φ tops = (N : Net) → Suits M C k tops N → (lab : ℕ → ℤ) → LabellingIn M N k φ lab → ¬ OutputsMet N φ lab
 
 -- What the answer r to the question of a visit means.
-pub record Answered (M : Mode) (δ : ℕ) (C : Circuit) (k φ : ℕ) (ls : List ℤ) (g : ℕ) (p : ℤ) (r : ℕ) : Type 0 where
-  pub none : (N : Net) → Sane C k N → k < r → ¬ TrialCut M N k φ δ (label_in ls) (C.inputs + g) p
-  pub some : (N : Net) → Sane C k N → r ≤ k → Falling N φ (label_in ls) → TrialCut M N k φ δ (label_in ls) (C.inputs + g) p
+pub record Answered (M : Mode) (δ : ℕ) (C : Circuit) (k φ : ℕ) (ls : List ℤ) (g : ℕ) (p : ℤ) (r : Bool) : Type 0 where
+  pub none : (N : Net) → Sane C k N → r ≡ false → ¬ TrialCut M N k φ δ (label_in ls) (C.inputs + g) p
+  pub some : (N : Net) → Sane C k N → r ≡ true → Falling N φ (label_in ls) → TrialCut M N k φ δ (label_in ls) (C.inputs + g) p
 
 -- the circuit without slots: what is told of labels does not speak of forced copies
 abbrev pub wiring : Extent → List ℕ → Circuit
@@ -91,10 +92,9 @@ pub record PinsFit (s : Extent) (net : List ℕ) (ls : List ℤ) (φ g : ℕ) : 
   pub pin : (j : ℕ) → j < get_or net g 0 → PinFits (drop (sources_at s.gates) net) (drop (counts_at s.gates) net) ls φ (most_pins * g + j)
 
 -- the label of v raised to p, unless it is p
-pub record Raised (ls ls' : List ℤ) (v : ℕ) (p : ℤ) (r : ℕ) : Type 0 where
-  pub bound : r < 2
-  pub lower : r ≡ 1 → (label_in ls v <ℤ p) × (ls' ≡ set ls v p)
-  pub there : r ≡ 0 → (label_in ls v ≡ p) × (ls' ≡ ls)
+pub record Raised (ls ls' : List ℤ) (v : ℕ) (p : ℤ) (r : Bool) : Type 0 where
+  pub lower : r ≡ true → (label_in ls v <ℤ p) × (ls' ≡ set ls v p)
+  pub there : r ≡ false → (label_in ls v ≡ p) × (ls' ≡ ls)
 
 -- one label changed
 pub record Changed (ls ls' : List ℤ) (v : ℕ) (p : ℤ) : Type 0 where
@@ -131,13 +131,12 @@ unfoldable pub left : Circuit → ℕ → List ℕ → List ℤ → ℕ → ℕ
 left C φ tops ls zero = 0
 left C φ tops ls (suc n) = up (pos (φ * get_or tops n 0) -ℤ label_in ls (C.inputs + n)) + left C φ tops ls n
 
--- One visit of gate g. 0: nothing can change. 1: its label rose. 2: it would pass its ceiling.
-pub record Visited (M : Mode) (δ : ℕ) (C : Circuit) (k φ : ℕ) (tops : List ℕ) (ls ls' : List ℤ) (g r : ℕ) : Type 0 where
-  pub most : r ≤ 2
+-- One visit of gate g. No: nothing can change. Yes: its label rose. Else it would pass its ceiling.
+pub record Visited (M : Mode) (δ : ℕ) (C : Circuit) (k φ : ℕ) (tops : List ℕ) (ls ls' : List ℤ) (g : ℕ) (r : Result Bool PastCeiling) : Type 0 where
   pub fine : Fine C ls'
   pub keeps : Kept M δ C k φ ls ls'
-  pub same : r ≡ 0 → ls' ≡ ls
-  pub quiet : r ≡ 0 → Quiet M δ C k φ tops ls g
+  pub same : r ≡ Ok false → ls' ≡ ls
+  pub quiet : r ≡ Ok false → Quiet M δ C k φ tops ls g
   pub less : left C φ tops ls' C.gates ≤ left C φ tops ls C.gates
-  pub falls : r ≡ 1 → left C φ tops ls' C.gates < left C φ tops ls C.gates
-  pub refuted : r ≡ 2 → Bounds M C k φ tops ls → Refuted M C k φ tops
+  pub falls : r ≡ Ok true → left C φ tops ls' C.gates < left C φ tops ls C.gates
+  pub refuted : OnErr r (Bounds M C k φ tops ls → Refuted M C k φ tops)

@@ -1,7 +1,8 @@
 -- What the engine needs of labels, also where one of them changes.
-use Rattle.std.specs.Prelude.{◌≡◌, refl, List, ◌⊎◌, ℕ, zero, suc, ◌+◌, ◌*◌, ◌≤◌, ◌<◌, ℤ, pos, ◌+ℤ◌, length, get_or, set, drop, ◌≤ℤ◌, ◌<ℤ◌}
-use Rattle.std.proofs.Common.{sym, ap, subst, ◌∙◌, inl, inr, arith, mul-le-mul_left, to_z, of_z, length-set, length-drop, get_or-set_same, get_or-set_other}
+use Rattle.std.specs.Prelude.{◌≡◌, refl, Bool, true, false, List, ℕ, ◌+◌, ◌*◌, ◌≤◌, ◌<◌, ℤ, pos, ◌+ℤ◌, length, get_or, set, drop, ◌≤ℤ◌, ◌<ℤ◌}
+use Rattle.std.proofs.Common.{sym, ap, subst, ◌∙◌, arith, mul-le-mul_left, to_z, of_z, length-set, length-drop, get_or-set_same, get_or-set_other}
 use Rattle.std.proofs.Math.Decide.{ℕ_discrete}
+use Rattle.std.proofs.lemmas.Bool.{true≢false, false≢true}
 use Rattle.std.specs.Int.{w64}
 use Rattle.limits.specs.Limits.{most_pins}
 use Rattle.integers.specs.Parts.{ints, +-parts}
@@ -15,11 +16,11 @@ use Rattle.label_pins.specs.PinHeights.{height_at, PinFits, Best}
 use Rattle.label_pins.specs.PinHeightLaws.{height-back, small-height}
 use Rattle.label_visit.specs.LabelVisits.{PinMax, wiring, PinsFit, Raised, Changed, Fine, Ready}
 
-pub raise-lower : (ls : List ℤ) (v : ℕ) (p q : ℤ) → q ≡ p → label_in ls v <ℤ p → Raised ls (set ls v q) v p 1
-raise-lower ls v p q e h = record { bound = omega arith; lower = λ i. (h, ap (set ls v) e); there = λ i. absurd (omega (arith, i)) }
+pub raise-lower : (ls : List ℤ) (v : ℕ) (p q : ℤ) → q ≡ p → label_in ls v <ℤ p → Raised ls (set ls v q) v p true
+raise-lower ls v p q e h = record { lower = λ i. (h, ap (set ls v) e); there = λ i. absurd (true≢false i) }
 
-pub raise-there : (ls : List ℤ) (v : ℕ) (p : ℤ) → label_in ls v ≤ℤ p → p ≤ℤ label_in ls v → Raised ls ls v p 0
-raise-there ls v p h l = record { bound = omega arith; lower = λ i. absurd (omega (arith, i)); there = λ i. (≤ℤ_antisym h l, refl) }
+pub raise-there : (ls : List ℤ) (v : ℕ) (p : ℤ) → label_in ls v ≤ℤ p → p ≤ℤ label_in ls v → Raised ls ls v p false
+raise-there ls v p h l = record { lower = λ i. absurd (false≢true i); there = λ i. (≤ℤ_antisym h l, refl) }
 
 pub changed-set : (ls : List ℤ) (v : ℕ) (p : ℤ) → v < length ls → Changed ls (set ls v p) v p
 changed-set ls v p h = record { size = length-set ls v p; at = get_or-set_same ls v p (pos 0) h; other = λ u n. get_or-set_other ls v u p (pos 0) n }
@@ -78,17 +79,9 @@ max-back {s} {net} {ls} {φ} {g} f m =
     subst (λ (z : ℤ). z ≡ to_z w64 (of_z w64 z)) m.attained
     (sym (height-back (drop (sources_at s.gates) net) (drop (counts_at s.gates) net) ls φ (most_pins * g + m.pin) (f.pin m.pin m.is_pin)))
 
-pub two_cases : (n : ℕ) → n < 2 → (n ≡ 0) ⊎ (n ≡ 1)
-two_cases zero l = inl refl
-two_cases (suc zero) l = inr refl
-two_cases (suc (suc n)) l = absurd (omega (arith, l))
-
-pub raised-changed : {ls ls' : List ℤ} {v rose : ℕ} {p : ℤ} → v < length ls → Raised ls ls' v p rose → Changed ls ls' v p
-raised-changed {ls} {ls'} {v} {rose} {p} i R = go (two_cases rose R.bound)
-  where
-    go : (rose ≡ 0) ⊎ (rose ≡ 1) → Changed ls ls' v p
-    go (inl e) = let t = R.there e in subst (λ (x : List ℤ). Changed ls x v p) (sym t.1) (changed-none ls v p t.0)
-    go (inr e) = let t = R.lower e in subst (λ (x : List ℤ). Changed ls x v p) (sym t.1) (changed-set ls v p i)
+pub raised-changed : {ls ls' : List ℤ} {v : ℕ} {rose : Bool} {p : ℤ} → v < length ls → Raised ls ls' v p rose → Changed ls ls' v p
+raised-changed {ls} {ls'} {v} {rose = true} {p} i R = subst (λ (x : List ℤ). Changed ls x v p) (sym (R.lower refl).1) (changed-set ls v p i)
+raised-changed {ls} {ls'} {v} {rose = false} {p} i R = let t = R.there refl in subst (λ (x : List ℤ). Changed ls x v p) (sym t.1) (changed-none ls v p t.0)
 
 -- a small number in place of a label
 pub changed-small : {ls ls' : List ℤ} {v : ℕ} {q : ℤ} → ((u : ℕ) → Small (label_in ls u)) → Small q → Changed ls ls' v q → (u : ℕ) → Small (label_in ls' u)
@@ -98,7 +91,7 @@ changed-small {ls} {ls'} {v} {q} f s c u = go (ℕ_discrete u v)
     go (yes e) = subst (λ (x : ℕ). Small (label_in ls' x)) (sym e) (subst Small (sym c.at) s)
     go (no n) = subst Small (sym (c.other u n)) (f u)
 
-pub raised-ready : {s : Extent} {φ k : ℕ} {ls ls' : List ℤ} (g : ℕ) {rose : ℕ} {p : ℤ} → Ready s ls φ k → g < s.gates → Small p → Raised ls ls' (s.inputs + g) p rose → Ready s ls' φ k
+pub raised-ready : {s : Extent} {φ k : ℕ} {ls ls' : List ℤ} (g : ℕ) {rose : Bool} {p : ℤ} → Ready s ls φ k → g < s.gates → Small p → Raised ls ls' (s.inputs + g) p rose → Ready s ls' φ k
 raised-ready g y h q R =
     let c = raised-changed (let e = y.size in omega arith) R in
     record { size = c.size ∙ y.size; small = changed-small y.small q c; shift = y.shift; least = y.least; limit = y.limit; fits = y.fits }

@@ -13,20 +13,24 @@ use cut_forced::Query;
 use cut_kept::serves;
 use cut_question::question;
 use label_aim::{Aim, narrowed, too_high};
-use label_pins::{best_pin, pin_height};
+use label_pins::{Pins, best_pin, pin_height};
 use limits::PINS;
 use signed::{no_higher, plus_one, whole};
 
-// Raises a label to p: 1 if it was lower.
-pub fn raise(labels: &mut [i64], v: usize, p: i64) -> usize
+// A label would pass its gate's ceiling.
+#[derive(Clone, Copy, Debug, PartialEq, Eq)]
+pub struct PastCeiling;
+
+// Raises a label to p: whether it was lower.
+pub fn raise(labels: &mut [i64], v: usize, p: i64) -> bool
     requires { (v < length labels.old) × Small (label_in labels.old v) × (label_in labels.old v ≤ℤ p) }
     ensures { Raised labels.old labels.new v p result }
 {
-    if no_higher(labels[v], 0, p) {
+    if labels[v] < p {
         labels[v] = p;
-        1
+        true
     } else {
-        0
+        false
     }
 }
 
@@ -59,7 +63,7 @@ pub fn top_of(s: Extent, net: &[usize], cap: usize, g: usize) -> usize
     net[(2 + 3 * PINS) * s.gates + (s.inputs + s.gates) + s.gates + g]
 }
 
-// Whether gate g has a k-cut no higher than p whose cone suits the mode: a number of at most k where it has one, else a number above k. A kept cut that is low enough is one.
+// Whether gate g has a k-cut no higher than p whose cone suits the mode. A kept cut that is low enough is one.
 fn ask(
     s: Extent,
     net: &[usize],
@@ -73,14 +77,14 @@ fn ask(
     a: Aim,
     g: usize,
     p: i64,
-) -> usize
+) -> bool
     requires at_rest { AtRest (packed_of s net.now slots.old) table.old list.old stack.old counts.old members.old }
     requires ready { Ready s labels.now a.phi a.k × (g < s.gates) × Small p }
     ensures at_rest_2 { AtRest (packed_of s net.now slots.new) table.new list.new stack.new counts.new members.new }
     ensures answered { Answered (mode_of a.forward) (rise_in s a) (wiring s net.now) a.k a.phi labels.now g p result }
 {
     if too_high(s, a, p) {
-        return a.k + 1;
+        return false;
     }
     let e = narrowed(s, a, p);
     let q = Query {
@@ -90,11 +94,12 @@ fn ask(
         height: p,
     };
     if serves(e, members, labels, q) {
-        return a.k;
+        return true;
     }
-    question(
+    let r = question(
         e, net, slots, table, list, stack, counts, members, labels, q,
-    )
+    );
+    r <= a.k
 }
 
 // Gate g, whose pins' largest is p: its label becomes p, or p + 1 where there is no k-cut of height p, unless it would pass its ceiling.
@@ -111,7 +116,7 @@ fn try_label(
     a: Aim,
     g: usize,
     p: i64,
-) -> usize
+) -> Result<bool, PastCeiling>
     requires at_rest { AtRest (packed_of s net.now slots.old) table.old list.old stack.old counts.old members.old }
     requires ready { Ready s labels.old a.phi a.k × (g < s.gates) × Ceilings (wiring s net.now) a.phi (tops_in s net.now a.cap) }
     requires pin_max { PinMax (wiring s net.now) labels.old a.phi g p × (label_in labels.old (s.inputs + g) ≤ℤ p) × Small p }
@@ -122,20 +127,17 @@ fn try_label(
     let top = a.phi * top_of(s, net, a.cap, g);
     if below(p, top + 1) {
         let rose = raise(labels, v, p);
-        let r = ask(
+        if ask(
             s, net, slots, table, list, stack, counts, members, labels, a, g, p,
-        );
-        if r <= a.k {
-            return rose;
+        ) {
+            return Ok(rose);
         }
         if below(p, top) {
             lift(labels, v, p);
-            return 1;
+            return Ok(true);
         }
-        2
-    } else {
-        2
     }
+    Err(PastCeiling)
 }
 
 // The largest of gate g's pins.
@@ -146,11 +148,15 @@ pub fn highest(s: Extent, net: &[usize], labels: &[i64], phi: usize, g: usize) -
     let a = 2 * s.gates;
     let b = (2 + PINS) * s.gates;
     let at = PINS * g;
-    let best = best_pin(&net[a..], &net[b..], labels, phi, at, net[g]);
-    pin_height(&net[a..], &net[b..], labels, phi, at + best)
+    let pins = Pins {
+        sources: &net[a..],
+        counts: &net[b..],
+    };
+    let best = best_pin(pins, labels, phi, at, net[g]);
+    pin_height(pins, labels, phi, at + best)
 }
 
-// One visit of gate g: 0 where nothing can change, 1 where its label rose, 2 where it would pass its ceiling.
+// One visit of gate g: whether its label rose, or that it would pass its ceiling. Where it did not rise nothing can change.
 pub fn visit(
     s: Extent,
     net: &[usize],
@@ -163,7 +169,7 @@ pub fn visit(
     labels: &mut [i64],
     a: Aim,
     g: usize,
-) -> usize
+) -> Result<bool, PastCeiling>
     requires at_rest { AtRest (packed_of s net.now slots.old) table.old list.old stack.old counts.old members.old }
     requires ready { Ready s labels.old a.phi a.k × (g < s.gates) × Ceilings (wiring s net.now) a.phi (tops_in s net.now a.cap) }
     ensures at_rest_2 { AtRest (packed_of s net.now slots.new) table.new list.new stack.new counts.new members.new }
@@ -172,7 +178,7 @@ pub fn visit(
     let v = s.inputs + g;
     let p = highest(s, net, labels, a.phi, g);
     if higher(labels, v, p) {
-        return 0;
+        return Ok(false);
     }
     try_label(
         s, net, slots, table, list, stack, counts, members, labels, a, g, p,

@@ -1,10 +1,7 @@
 use mathlib.Core.Path.{sym}
-use native.Mathlib.Omega.{arith}
-use lib.ListN.{length-drop}
 use Rattle.sequences.specs.Behind.{behind}
 use Rattle.cut_circuit.specs.Packed.{sources_at, counts_at}
 use Rattle.label_visit.specs.ReadyLaws.{pinmax_at, best-max, max-back}
-use Rattle.std.proofs.Common.{rules}
 use Rattle.label_visit.proofs.highest.Goals as goal
 
 pub returns : goal.returns

@@ -1,6 +1,5 @@
 use native.Mathlib.Omega.{arith}
 use Rattle.label_visit.specs.TopLaws.{top-capped, top-own, top-place}
-use Rattle.std.proofs.Common.{rules}
 use Rattle.label_visit.proofs.top_of.Goals as goal
 
 pub returns-then-cap-gt0 : goal.returns-then-cap-gt0

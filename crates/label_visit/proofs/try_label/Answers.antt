@@ -8,15 +8,14 @@ use lib.IntN.{ℤ, pos}
 use Rattle.integers.specs.Parts.{ints}
 use Rattle.signed.specs.Range.{label_in, Small}
 use Rattle.signed.specs.RangeLaws.{back}
-use Rattle.label_visit.specs.ReadyLaws.{pinmax_at, raised-ready, raised-changed, ready-fine, small-next}
+use Rattle.label_visit.specs.ReadyLaws.{pinmax_at, raised-ready, ready-fine, small-next}
 use Rattle.label_visit.specs.LabelVisitLaws.{visit_cut, visit_lift, visit_over, visit_past}
 use Rattle.label_aim.specs.Aims.{mode_of, rise_in}
 use Rattle.label_visit.specs.LabelVisits.{wiring, tops_in}
-use Rattle.std.proofs.Common.{rules}
 use Rattle.label_visit.proofs.try_label.Goals as goal
 
-pub ask-r-requires : goal.ask-r-requires
-ask-r-requires c = let start = c in
+pub ask-requires : goal.ask-requires
+ask-requires c = let start = c in
     record {
       at_rest = c.requires.at_rest;
       ready = (
@@ -27,8 +26,8 @@ ask-r-requires c = let start = c in
       );
     }
 
-pub returns-then-r-a : goal.returns-then-r-a
-returns-then-r-a c = let ask = c.ask-r in
+pub returns-then-ask : goal.returns-then-ask
+returns-then-ask c = let ask = c.ask in
     let raise = c.raise-rose in
     let start = c in
     let e = sym (back c.args.p c.ranges.p) in
@@ -39,7 +38,7 @@ returns-then-r-a c = let ask = c.ask-r in
           (ready-fine c.requires.ready.0) c.requires.ready.1 (pinmax_at e c.requires.pin_max.0)
           (subst (λ (x : ℤ). label_in c.args.labels.now (c.args.s.inputs + c.args.g) ≤ℤ x) e c.requires.pin_max.1)
           (subst Small e c.requires.pin_max.2) _ raise.result raise.ensures ask.result ask.ensures.answered
-          (omega arith) (let t = c.below.ensures.yes c.if-below.true in omega (arith, ints, t, ap (λ (x : ℕ). c.args.a.phi * x) c.top_of.ensures));
+          c.if-ask.true (let t = c.below.ensures.yes c.if-below.true in omega (arith, ints, t, ap (λ (x : ℕ). c.args.a.phi * x) c.top_of.ensures));
     }
 
 pub below-requires-then-below : goal.below-requires-then-below
@@ -48,7 +47,7 @@ below-requires-then-below c =
     ((subst Small (sym (back c.args.p c.ranges.p)) c.requires.pin_max.2), (let q = c.requires.ready.2.top c.args.g c.requires.ready.1 in omega (arith, q, ap (λ (x : ℕ). c.args.a.phi * x) c.top_of.ensures)))
 
 pub returns-then-below-2 : goal.returns-then-below-2
-returns-then-below-2 c = let ask = c.ask-r in
+returns-then-below-2 c = let ask = c.ask in
     let raise = c.raise-rose in
     let start = c in
     let e = sym (back c.args.p c.ranges.p) in
@@ -60,12 +59,12 @@ returns-then-below-2 c = let ask = c.ask-r in
           (to_z w64 (of_z w64 c.args.p))
           (ready-fine c.requires.ready.0) c.requires.ready.1 (pinmax_at e c.requires.pin_max.0)
           (subst (λ (x : ℤ). label_in c.args.labels.now (c.args.s.inputs + c.args.g) ≤ℤ x) e c.requires.pin_max.1)
-          s _ raise.result raise.ensures ask.result ask.ensures.answered (omega arith) u
+          s _ raise.result raise.ensures ask.result ask.ensures.answered c.if-ask.false u
           (small-next (to_z w64 (of_z w64 c.args.p)) _ s (let q = c.requires.ready.2.top c.args.g c.requires.ready.1 in omega (arith, q, ap (λ (x : ℕ). c.args.a.phi * x) c.top_of.ensures)) u) _ c.lift.ensures;
     }
 
 pub returns-else-below-2 : goal.returns-else-below-2
-returns-else-below-2 c = let ask = c.ask-r in
+returns-else-below-2 c = let ask = c.ask in
     let raise = c.raise-rose in
     let start = c in
     let e = sym (back c.args.p c.ranges.p) in
@@ -76,7 +75,7 @@ returns-else-below-2 c = let ask = c.ask-r in
           (ready-fine c.requires.ready.0) c.requires.ready.1 (pinmax_at e c.requires.pin_max.0)
           (subst (λ (x : ℤ). label_in c.args.labels.now (c.args.s.inputs + c.args.g) ≤ℤ x) e c.requires.pin_max.1)
           (subst Small e c.requires.pin_max.2) _ raise.result raise.ensures ask.result ask.ensures.answered
-          (omega arith) (let t = c.below.ensures.yes c.if-below.true in omega (arith, ints, t, ap (λ (x : ℕ). c.args.a.phi * x) c.top_of.ensures)) (subst (λ (x : ℕ). pos (c.args.a.phi * x) ≤ℤ (to_z w64 (of_z w64 c.args.p))) c.top_of.ensures (c.below-then-below.ensures.no c.if-below-2.false));
+          c.if-ask.false (let t = c.below.ensures.yes c.if-below.true in omega (arith, ints, t, ap (λ (x : ℕ). c.args.a.phi * x) c.top_of.ensures)) (subst (λ (x : ℕ). pos (c.args.a.phi * x) ≤ℤ (to_z w64 (of_z w64 c.args.p))) c.top_of.ensures (c.below-then-below.ensures.no c.if-below-2.false)) _;
     }
 
 pub returns-else-below : goal.returns-else-below
@@ -88,5 +87,5 @@ returns-else-below c = let start = c in
           (to_z w64 (of_z w64 c.args.p))
           (ready-fine c.requires.ready.0) c.requires.ready.1 (pinmax_at e c.requires.pin_max.0)
           (subst (λ (x : ℤ). label_in c.args.labels.now (c.args.s.inputs + c.args.g) ≤ℤ x) e c.requires.pin_max.1)
-          (let t = c.below.ensures.no c.if-below.false in omega (arith, ints, t, ap (λ (x : ℕ). c.args.a.phi * x) c.top_of.ensures));
+          (let t = c.below.ensures.no c.if-below.false in omega (arith, ints, t, ap (λ (x : ℕ). c.args.a.phi * x) c.top_of.ensures)) _;
     }

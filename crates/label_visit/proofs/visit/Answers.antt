@@ -9,7 +9,6 @@ use Rattle.label_visit.specs.ReadyLaws.{pinmax_at, pins-fit, max-small, max-back
 use Rattle.label_visit.specs.LabelVisitLaws.{visit_higher}
 use Rattle.label_aim.specs.Aims.{mode_of, rise_in}
 use Rattle.label_visit.specs.LabelVisits.{wiring, tops_in}
-use Rattle.std.proofs.Common.{rules}
 use Rattle.label_visit.proofs.visit.Goals as goal
 
 pub returns-then-higher : goal.returns-then-higher
