@@ -1,14 +1,11 @@
 -- Definitions: one sweep over the gates in an order, and some in a row: what they ask and tell.
-use Rattle.std.specs.Prelude.{◌≡◌, List, ℕ, ◌+◌, ◌≤◌, ◌<◌, ℤ, length, get_or, drop}
+use Rattle.std.specs.Prelude.{◌≡◌, List, Result, Ok, IfOk, OnErr, ℕ, ◌≤◌, ◌<◌, ℤ, length, get_or, drop}
 use Rattle.net_model.specs.PackedNet.{order_at}
 use Rattle.label_theory.specs.Labels.{Mode}
 use Rattle.cut_circuit.specs.Circuit.{Circuit}
 use Rattle.cut_circuit.specs.declared.Extent.{Extent}
+use Rattle.label_visit.specs.declared.PastCeiling.{PastCeiling}
 use Rattle.label_visit.specs.LabelVisits.{Quiet, Bounds, Kept, Refuted, Fine, left}
-
--- a where a visit raised a label, else b
-abbrev pub IfRose : ℕ → ℕ → ℕ → ℕ → Type 0
-IfRose e a b r = (e ≡ 1 → r ≡ a) × (¬ (e ≡ 1) → r ≡ b)
 
 -- from place n of the order on nothing can change
 abbrev pub QuietFrom : Mode → ℕ → Circuit → ℕ → ℕ → List ℕ → List ℕ → List ℤ → ℕ → Type 0
@@ -27,26 +24,20 @@ pub record Sweep (M : Mode) (δ : ℕ) (C : Circuit) (k φ : ℕ) (tops order : 
   pub less : left C φ tops ls' C.gates ≤ left C φ tops ls C.gates
   pub falls : 1 ≤ last → left C φ tops ls' C.gates < left C φ tops ls C.gates
 
--- One sweep that goes on as long as labels rise, one more each time: w where it does not.
-pub record GoesOn (gates t i w r : ℕ) : Type 0 where
-  pub rose : r < w → (1 ≤ t) × (t ≤ gates)
-  pub further : i < w → i < r
-
--- What one or more sweeps come to, the last with result r. 0: nothing can change. From 1 to the number of gates: the place behind the last rise. One more: a label
--- would pass its ceiling.
-pub record Progress (M : Mode) (δ : ℕ) (C : Circuit) (k φ : ℕ) (tops order : List ℕ) (ls ls' : List ℤ) (r : ℕ) : Type 0 where
-  pub most : r ≤ C.gates + 1
+-- What one or more sweeps come to: the place behind the last rise of the last of them, 0 where nothing can change, or that a label would pass its ceiling.
+pub record Progress (M : Mode) (δ : ℕ) (C : Circuit) (k φ : ℕ) (tops order : List ℕ) (ls ls' : List ℤ) (r : Result ℕ PastCeiling) : Type 0 where
+  pub most : IfOk r (λ n. n ≤ C.gates)
   pub fine : Fine C ls'
   pub keeps : Kept M δ C k φ ls ls'
-  pub quiet : r ≤ C.gates → QuietFrom M δ C k φ tops order ls' r
+  pub quiet : IfOk r (λ n. QuietFrom M δ C k φ tops order ls' n)
   pub less : left C φ tops ls' C.gates ≤ left C φ tops ls C.gates
-  pub falls : 1 ≤ r → r ≤ C.gates → left C φ tops ls' C.gates < left C φ tops ls C.gates
-  pub refuted : C.gates < r → Bounds M C k φ tops ls → Refuted M C k φ tops
+  pub falls : IfOk r (λ n. 1 ≤ n → left C φ tops ls' C.gates < left C φ tops ls C.gates)
+  pub refuted : OnErr r (Bounds M C k φ tops ls → Refuted M C k φ tops)
 
 -- One sweep. 0: the labels stay.
-pub record SweepTold (M : Mode) (δ : ℕ) (C : Circuit) (k φ : ℕ) (tops order : List ℕ) (ls ls' : List ℤ) (r : ℕ) : Type 0 where
+pub record SweepTold (M : Mode) (δ : ℕ) (C : Circuit) (k φ : ℕ) (tops order : List ℕ) (ls ls' : List ℤ) (r : Result ℕ PastCeiling) : Type 0 where
   pub progress : Progress M δ C k φ tops order ls ls' r
-  pub same : r ≡ 0 → ls' ≡ ls
+  pub same : r ≡ Ok 0 → ls' ≡ ls
 
 -- the order in a net's slice
 abbrev pub order_in : Extent → List ℕ → List ℕ

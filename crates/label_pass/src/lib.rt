@@ -6,11 +6,11 @@ ghost use Rattle.cut_circuit.specs.Packed.{packed_of};
 ghost use Rattle.cut_question.specs.Separating.{AtRest};
 ghost use Rattle.label_aim.specs.Aims.{mode_of, rise_in};
 ghost use Rattle.label_visit.specs.LabelVisits.{wiring, tops_in, Ready, Ceilings};
-ghost use Rattle.label_pass.specs.Passes.{order_in, Ordered, IfRose, GoesOn, QuietFrom, SweepTold, Progress};
+ghost use Rattle.label_pass.specs.Passes.{order_in, Ordered, QuietFrom, SweepTold, Progress};
 
 use cut_circuit::Extent;
 use label_aim::Aim;
-use label_visit::visit;
+use label_visit::{PastCeiling, visit};
 use limits::PINS;
 
 // The gate at place i of the order.
@@ -22,7 +22,7 @@ pub fn nth(s: Extent, net: &[usize], i: usize) -> usize
 }
 
 // One sweep over the gates in an order, up to place stop, or over all of them once a label rose: from stop on nothing can change unless one rises.
-// 0 where nothing can change, the place behind the last rise, or gates + 1 where a label would pass its ceiling.
+// The place behind the last rise, 0 where nothing can change, or that a label would pass its ceiling.
 pub fn sweep(
     s: Extent,
     net: &[usize],
@@ -35,7 +35,7 @@ pub fn sweep(
     labels: &mut [i64],
     a: Aim,
     stop: usize,
-) -> usize
+) -> Result<usize, PastCeiling>
     requires at_rest { AtRest (packed_of s net.now slots.old) table.old list.old stack.old counts.old members.old }
     requires ready { Ready s labels.old a.phi a.k × Ordered (wiring s net.now) (order_in s net.now) × Ceilings (wiring s net.now) a.phi (tops_in s net.now a.cap) }
     requires stop_le_gates { (stop ≤ s.gates) × QuietFrom (mode_of a.forward) (rise_in s a) (wiring s net.now) a.k a.phi (tops_in s net.now a.cap) (order_in s net.now) labels.old stop }
@@ -46,7 +46,7 @@ pub fn sweep(
     let mut end = stop;
     let mut i = 0;
     while i < end {
-        let e = visit(
+        let rose = visit(
             s,
             net,
             slots,
@@ -58,36 +58,14 @@ pub fn sweep(
             labels,
             a,
             nth(s, net, i),
-        );
-        if e == 2 {
-            return s.gates + 1;
-        }
+        )?;
         i += 1;
-        last = if_rose(e, i, last);
-        end = if_rose(e, s.gates, end);
-    }
-    last
-}
-
-// a where a visit raised a label, else b.
-fn if_rose(e: usize, a: usize, b: usize) -> usize
-    ensures { IfRose e a b result }
-{
-    if e == 1 { a } else { b }
-}
-
-// One sweep more, i behind it, where the last one raised a label and passed no ceiling; else w.
-fn go_on(gates: usize, t: usize, i: usize, w: usize) -> usize
-    ensures { GoesOn gates t i w result }
-{
-    if i < w {
-        if 0 < t {
-            if t <= gates {
-                return i + 1;
-            }
+        if rose {
+            last = i;
+            end = s.gates;
         }
     }
-    w
+    Ok(last)
 }
 
 // One sweep, and more up to w, as long as labels rise and none would pass its ceiling: what the last one told.
@@ -104,22 +82,23 @@ pub fn sweep_some(
     a: Aim,
     stop: usize,
     w: usize,
-) -> usize
+) -> Result<usize, PastCeiling>
     requires at_rest { AtRest (packed_of s net.now slots.old) table.old list.old stack.old counts.old members.old }
     requires ready { Ready s labels.old a.phi a.k × Ordered (wiring s net.now) (order_in s net.now) × Ceilings (wiring s net.now) a.phi (tops_in s net.now a.cap) }
     requires stop_le_gates { (stop ≤ s.gates) × QuietFrom (mode_of a.forward) (rise_in s a) (wiring s net.now) a.k a.phi (tops_in s net.now a.cap) (order_in s net.now) labels.old stop }
     ensures at_rest_2 { AtRest (packed_of s net.now slots.new) table.new list.new stack.new counts.new members.new }
     ensures progress { Progress (mode_of a.forward) (rise_in s a) (wiring s net.now) a.k a.phi (tops_in s net.now a.cap) (order_in s net.now) labels.old labels.new result }
 {
-    let mut t = sweep(
+    let mut last = sweep(
         s, net, slots, table, list, stack, counts, members, labels, a, stop,
-    );
-    let mut i = go_on(s.gates, t, 0, w);
-    while i < w {
-        t = sweep(
-            s, net, slots, table, list, stack, counts, members, labels, a, t,
-        );
-        i = go_on(s.gates, t, i, w);
+    )?;
+    for _ in 1..w {
+        if last == 0 {
+            return Ok(0);
+        }
+        last = sweep(
+            s, net, slots, table, list, stack, counts, members, labels, a, last,
+        )?;
     }
-    t
+    Ok(last)
 }
