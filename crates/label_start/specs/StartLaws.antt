@@ -1,8 +1,11 @@
 -- Laws of labels at the start.
-use Rattle.std.specs.Prelude.{◌≡◌, refl, List, ℕ, suc, ◌+◌, ◌*◌, ◌/◌, ◌≤◌, ◌<◌, ℤ, pos, negsuc, ◌-ℤ◌, length, set, ◌≤ℤ◌}
-use Rattle.std.proofs.Common.{sym, ◌∙◌, subst, div-lt_iff_lt-mul, mul-le-mul_left, mul_comm, le-div_iff_mul-le, arith, length-set, get_or-set_same, get_or-set_other}
+use Rattle.std.specs.Prelude.{◌≡◌, List, ◌++◌, ℕ, suc, ◌+◌, ◌-◌, ◌*◌, ◌/◌, ◌≤◌, ◌<◌, ℤ, pos, negsuc, ◌-ℤ◌, length, get_or, take, drop, replicate, ◌≤ℤ◌}
+use Rattle.std.proofs.Common.{sym, ap, ◌∙◌, subst, div-lt_iff_lt-mul, mul-le-mul_left, mul_comm, le-div_iff_mul-le, arith}
 use Rattle.std.proofs.Math.Decide.{ℕ_discrete, dec_lt}
 use Rattle.std.proofs.Math.ListN.{get_or-eq_default}
+use Rattle.std.proofs.Math.ListN.{get_or-append}
+use Rattle.std.proofs.lemmas.List.{length-replicate, length-append, length-drop, length-take-le, get_or-append_right, get_or-replicate, get_or-take, get_or-drop}
+use borrow.Rule.Slice.PartMut.{put_mid}
 use Rattle.integers.specs.Parts.{ints, sub_parts}
 use Rattle.integers.proofs.Height.{height-parts}
 use Rattle.net_model.specs.Net.{Net, IsGate}
@@ -21,26 +24,24 @@ use Rattle.label_visit.specs.BoundLaws.{is-pin}
 use Rattle.label_visit.specs.ReadyLaws.{changed-small}
 use Rattle.label_start.specs.Starts.{Filled, Started, Floored, Startable, Begun}
 
-pub filled_none : (ls : List ℤ) (from : ℕ) (z : ℤ) → Filled ls ls from from z
-filled_none ls from z = record { size = refl; between = λ u h l. absurd (omega (arith, h, l)); before = λ u h. refl; behind = λ u h. refl }
-
-pub filled_next : {ls ls' : List ℤ} {from i : ℕ} {z y : ℤ} → y ≡ z → from ≤ i → i < length ls → Filled ls ls' from i z → Filled ls (set ls' i y) from (i + 1) z
-filled_next {ls} {ls'} {from} {i} {z} {y} e h l f = record {
-  size = length-set ls' i y ∙ f.size;
-  between = λ u a b. go u a b (ℕ_discrete u i);
-  before = λ u a. get_or-set_other ls' i u y (pos 0) (λ q. omega (arith, q, a, h)) ∙ f.before u a;
-  behind = λ u a. get_or-set_other ls' i u y (pos 0) (λ q. omega (arith, q, a)) ∙ f.behind u (omega arith);
-}
-  where
-    go : (u : ℕ) → from ≤ u → u < i + 1 → Dec (u ≡ i) → label_in (set ls' i y) u ≡ z
-    go u a b (yes q) = rw q (get_or-set_same ls' i y (pos 0) (let s = f.size in omega arith) ∙ e)
-    go u a b (no q) = get_or-set_other ls' i u y (pos 0) q ∙ f.between u a (omega arith)
-
-pub filled_at : {ls ls' : List ℤ} {from i j : ℕ} {z : ℤ} → i ≡ j → Filled ls ls' from i z → Filled ls ls' from j z
-filled_at {ls} {ls'} {from} {z = z} e f = subst (λ (x : ℕ). Filled ls ls' from x z) e f
-
-pub filled_of : {ls ls' : List ℤ} {from to : ℕ} {y z : ℤ} → y ≡ z → Filled ls ls' from to y → Filled ls ls' from to z
-filled_of {ls} {ls'} {from} {to} e f = subst (Filled ls ls' from to) e f
+-- a part of the labels filled
+pub filled_mid : {ls ys : List ℤ} {from to : ℕ} {y z : ℤ} → y ≡ z → from ≤ to → to ≤ length ls → ys ≡ replicate (length (take (to - from) (drop from ls))) y → Filled ls (put_mid from (to - from) ls ys) from to z
+filled_mid {ls} {ys} {from} {to} {y} {z} same h l e =
+    let some : length (take (to - from) (drop from ls)) ≡ to - from = length-take-le (to - from) (drop from ls) (omega (arith, length-drop from ls)) in
+    let len : length ys ≡ to - from = ap length e ∙ length-replicate (length (take (to - from) (drop from ls))) y ∙ some in
+    let front : length (take from ls) ≡ from = length-take-le from ls (omega arith) in
+    let rest = drop (to - from) (drop from ls) in
+    record {
+      size = omega (arith, front, len, length-append (take from ls) (ys ++ rest), length-append ys rest, length-drop (to - from) (drop from ls), length-drop from ls);
+      between = λ u a b.
+          get_or-append_right (take from ls) (ys ++ rest) from u (pos 0) front a ∙ get_or-append ys rest (pos 0) (u - from) (omega arith)
+          ∙ ap (λ (x : List ℤ). get_or x (u - from) (pos 0)) e ∙ get_or-replicate (length (take (to - from) (drop from ls))) (u - from) y (pos 0) (omega arith) ∙ same;
+      before = λ u a. get_or-append (take from ls) (ys ++ rest) (pos 0) u (omega arith) ∙ get_or-take from ls u (pos 0) a;
+      behind = λ u a.
+          get_or-append_right (take from ls) (ys ++ rest) from u (pos 0) front (omega arith) ∙ get_or-append_right ys rest (to - from) (u - from) (pos 0) len (omega arith)
+          ∙ get_or-drop (to - from) (drop from ls) (u - from - (to - from)) (pos 0) ∙ get_or-drop from ls (to - from + (u - from - (to - from))) (pos 0)
+          ∙ ap (λ (x : ℕ). get_or ls x (pos 0)) (omega arith);
+    }
 
 pub started : {I G : ℕ} {ls ls' ls'' : List ℤ} {low : ℤ} → length ls ≡ I + G → Small low → Filled ls ls' 0 I (pos 1) → Filled ls' ls'' I (I + G) low → Started I G ls'' low
 started {I} {G} {ls} {ls'} {ls''} {low} e s a b = record {

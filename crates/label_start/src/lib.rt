@@ -18,11 +18,7 @@ fn fill(labels: &mut [i64], from: usize, to: usize, z: i64)
     requires { (from ≤ to) × (to ≤ length labels.old) }
     ensures { Filled labels.old labels.new from to z }
 {
-    let mut i = from;
-    while i < to {
-        labels[i] = z;
-        i += 1;
-    }
+    labels[from..to].fill(z);
 }
 
 // 1 at the inputs, low at the gates.
@@ -60,11 +56,8 @@ fn lift_all(s: Extent, net: &[usize], labels: &mut [i64], a: Aim)
     requires { PinsRead s net.now a.phi a.k × Ready s labels.old a.phi a.k × Ordered (wiring s net.now) (order_in s net.now) × Floored (wiring s net.now) a.k a.phi labels.old }
     ensures { Floored (wiring s net.now) a.k a.phi labels.new }
 {
-    let end = s.gates;
-    let mut i = 0;
-    while i < end {
+    for i in 0..s.gates {
         lift(s, net, labels, a, nth(s, net, i));
-        i += 1;
     }
 }
 

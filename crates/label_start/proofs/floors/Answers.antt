@@ -1,13 +1,11 @@
-use mathlib.Core.Path.{refl, sym, ap, ◌∙◌, subst}
+use mathlib.Core.Path.{refl, ap, ◌∙◌}
 use Prim.Native.Nat.{◌*◌, ◌/◌}
 use mir.Val.{to_z, of_z}
 use mir.Syntax.{w64}
 use lib.IntN.{ℤ, pos, ◌-ℤ◌}
-use Rattle.signed.specs.Range.{Small}
 use Rattle.signed.specs.RangeLaws.{back, small-fits}
 use Rattle.label_visit.specs.LabelVisits.{wiring}
 use Rattle.label_start.specs.StartLaws.{small_low, low-shift, start_floored, floored_begun, ready-start}
-use Rattle.std.proofs.Common.{rules}
 use Rattle.label_start.proofs.floors.Goals as goal
 
 pub lift_all-requires : goal.lift_all-requires

@@ -3,7 +3,6 @@ use native.Mathlib.Omega.{arith}
 use Rattle.signed.specs.Range.{label_in}
 use Rattle.label_visit.specs.ReadyLaws.{pinmax_at, max-small, max-back, raised-changed}
 use Rattle.label_start.specs.StartLaws.{floored_next}
-use Rattle.std.proofs.Common.{rules}
 use Rattle.label_start.proofs.lift.Goals as goal
 
 pub highest-p-requires : goal.highest-p-requires
