@@ -10,33 +10,30 @@ ghost use Rattle.label_lines.specs.Lines.{DepthsRead, Deepest, DepthsHeld, Rises
 
 use cut_circuit::Extent;
 use label_pass::nth;
+use label_pins::Pins;
 use limits::{NODES, PINS};
 
 // The depth of the source of the pin at place i, or d where that is greater or the pin has a register.
-fn deeper(sources: &[usize], counts: &[usize], depths: &[usize], i: usize, d: usize) -> usize
-    requires { (i < length sources.now) × (i < length counts.now) × (get_or sources.now i 0 < length depths.now) }
+fn deeper(pins: Pins, depths: &[usize], i: usize, d: usize) -> usize
+    requires { (i < length pins.sources.now) × (i < length pins.counts.now) × (get_or pins.sources.now i 0 < length depths.now) }
     ensures least { d ≤ result }
-    ensures above { get_or counts.now i 0 ≡ 0 → get_or depths.now (get_or sources.now i 0) 0 ≤ result }
+    ensures above { get_or pins.entry.counts.now i 0 ≡ 0 → get_or depths.now (get_or pins.entry.sources.now i 0) 0 ≤ result }
 {
-    if counts[i] == 0 {
-        let e = depths[sources[i]];
-        if d < e {
-            return e;
-        }
+    if pins.counts[i] == 0 {
+        d.max(depths[pins.sources[i]])
+    } else {
+        d
     }
-    d
 }
 
 // The greatest depth of a source of n pins from place at on, those with registers left out.
-fn deepest(sources: &[usize], counts: &[usize], depths: &[usize], at: usize, n: usize) -> usize
-    requires { DepthsRead sources.now counts.now depths.now at n }
-    ensures { Deepest sources.now counts.now depths.now at n result }
+fn deepest(pins: Pins, depths: &[usize], at: usize, n: usize) -> usize
+    requires { DepthsRead pins.sources.now pins.counts.now depths.now at n }
+    ensures { Deepest pins.entry.sources.now pins.entry.counts.now depths.now at n result }
 {
     let mut d = 0;
-    let mut j = 0;
-    while j < n {
-        d = deeper(sources, counts, depths, at + j, d);
-        j += 1;
+    for j in 0..n {
+        d = deeper(pins, depths, at + j, d);
     }
     d
 }
@@ -48,7 +45,11 @@ fn deepest_source(s: Extent, net: &[usize], depths: &[usize], g: usize) -> usize
 {
     let a = 2 * s.gates;
     let b = (2 + PINS) * s.gates;
-    deepest(&net[a..], &net[b..], depths, PINS * g, net[g])
+    let pins = Pins {
+        sources: &net[a..],
+        counts: &net[b..],
+    };
+    deepest(pins, depths, PINS * g, net[g])
 }
 
 // Gate g 1 deeper than what it reads, up to the number of gates.
@@ -65,11 +66,8 @@ fn deepen(s: Extent, net: &[usize], depths: &mut [usize], g: usize)
 fn deepen_all(s: Extent, net: &[usize], depths: &mut [usize])
     requires { DepthsHeld s net.now depths.old × Ordered (wiring s net.now) (order_in s net.now) }
 {
-    let end = s.gates;
-    let mut i = 0;
-    while i < end {
+    for i in 0..s.gates {
         deepen(s, net, depths, nth(s, net, i));
-        i += 1;
     }
 }
 
@@ -80,17 +78,7 @@ fn rises(s: Extent, net: &[usize], depths: &[usize], g: usize) -> bool
 {
     let d = deepest_source(s, net, depths, g);
     let e = depths[s.inputs + g];
-    if d < e {
-        return e <= s.gates;
-    }
-    false
-}
-
-// The greater of two numbers.
-pub fn greater(a: usize, b: usize) -> usize
-    ensures { result ≡ max a b }
-{
-    if a < b { b } else { a }
+    d < e && e <= s.gates
 }
 
 // The greatest depth, at least `least`, where every gate is deeper than what it reads; else the number of gates.
@@ -98,16 +86,12 @@ fn greatest(s: Extent, net: &[usize], depths: &[usize], least: usize) -> usize
     requires { DepthsHeld s net.now depths.now × (least ≤ s.gates) }
     ensures { LongestTold (wiring s net.now) least result }
 {
-    let end = s.gates;
     let mut most = least;
-    let mut g = 0;
-    while g < end {
-        if rises(s, net, depths, g) {
-            most = greater(most, depths[s.inputs + g]);
-            g += 1;
-        } else {
+    for g in 0..s.gates {
+        if !rises(s, net, depths, g) {
             return s.gates;
         }
+        most = most.max(depths[s.inputs + g]);
     }
     most
 }
@@ -117,12 +101,10 @@ pub fn longest_line(s: Extent, net: &[usize], least: usize) -> usize
     requires { Wires s.inputs s.gates net.now (wiring s net.now).sources (wiring s net.now).counts × Ordered (wiring s net.now) (order_in s net.now) × (least ≤ s.gates) }
     ensures { LongestTold (wiring s net.now) least result }
 {
-    if s.inputs <= NODES {
-        if s.gates <= NODES - s.inputs {
-            let mut depths = [0usize; NODES];
-            deepen_all(s, net, &mut depths);
-            return greatest(s, net, &depths, least);
-        }
+    if s.inputs <= NODES && s.gates <= NODES - s.inputs {
+        let mut depths = [0usize; NODES];
+        deepen_all(s, net, &mut depths);
+        return greatest(s, net, &depths, least);
     }
     s.gates
 }
