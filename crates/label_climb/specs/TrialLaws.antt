@@ -1,10 +1,8 @@
 -- Laws of a trial: labels raised by up to d that all rose further were a lower bound, so past a ceiling they refute.
-use Rattle.std.specs.Prelude.{◌≡◌, refl, List, ◌⊎◌, ℕ, zero, suc, ◌+◌, ◌*◌, ◌≤◌, ◌<◌, ℤ, pos, ◌+ℤ◌, ◌-ℤ◌, length, get_or, set, replicate, ◌≤ℤ◌, ◌<ℤ◌}
-use Rattle.std.proofs.Common.{sym, ◌∙◌, subst, inl, inr, mul-le-mul_left, mul-le-mul_right, arith, length-set, get_or-set_same, get_or-set_other, ext_get_or}
+use Rattle.std.specs.Prelude.{◌≡◌, refl, List, Result, Err, ◌⊎◌, ℕ, ◌+◌, ◌≤◌, ◌<◌, ℤ, pos, ◌+ℤ◌, ◌-ℤ◌, length, set, ◌≤ℤ◌, ◌<ℤ◌}
+use Rattle.std.proofs.Common.{sym, ◌∙◌, subst, inl, inr, mul-le-mul_right, arith, length-set, get_or-set_same, get_or-set_other, ext_get_or}
 use Rattle.std.proofs.Math.Decide.{ℕ_discrete, dec_lt}
-use Rattle.std.proofs.lemmas.List.{length-replicate}
 use Rattle.std.specs.Int.Signed.{≤ℤ_refl}
-use Rattle.limits.specs.Limits.{most_nodes}
 use Rattle.integers.specs.Parts.{ints, +-parts, sub_parts}
 use Rattle.net_model.specs.Net.{Net, IsGate, IsInput}
 use Rattle.label_theory.specs.Labels.{Mode}
@@ -15,6 +13,7 @@ use Rattle.signed.specs.Range.{Small, room, label_in}
 use Rattle.signed.specs.RangeLaws.{small-between}
 use Rattle.cut_circuit.specs.Circuit.{Circuit}
 use Rattle.cut_circuit.specs.declared.Extent.{Extent}
+use Rattle.label_visit.specs.declared.PastCeiling.{PastCeiling}
 use Rattle.label_visit.specs.LabelVisits.{Suits, Bounds, Kept, Refuted, Fine, Ready, Ceilings, wiring, tops_in}
 use Rattle.label_visit.specs.TopLaws.{capped}
 use Rattle.label_visit.specs.BoundLaws.{sane_of, past_top}
@@ -158,17 +157,17 @@ pub caps_suit : (s : Extent) (net : List ℕ) (φ : ℕ) → Roomy (s.inputs + s
 caps_suit s net φ d = capped s net φ farthest (omega arith) (let b = mul-le-mul_right farthest d.period in omega arith)
 
 -- ---- sweeps and a trial that refutes
-pub leapt_past : {M : Mode} {δ : ℕ} {C : Circuit} {k φ : ℕ} {tops order : List ℕ} {ls ls' ls'' : List ℤ} {t : ℕ} → Progress M δ C k φ tops order ls ls' t → ls'' ≡ ls' → (Bounds M C k φ tops ls' → Refuted M C k φ tops)
-    → Progress M δ C k φ tops order ls ls'' (C.gates + 1)
+pub leapt_past : {M : Mode} {δ : ℕ} {C : Circuit} {k φ : ℕ} {tops order : List ℕ} {ls ls' ls'' : List ℤ} {t : Result ℕ PastCeiling} {e : PastCeiling} → Progress M δ C k φ tops order ls ls' t → ls'' ≡ ls'
+    → (Bounds M C k φ tops ls' → Refuted M C k φ tops) → Progress M δ C k φ tops order ls ls'' (Err e)
 leapt_past {M} {δ} {C} {k} {φ} {tops} {order} {ls} {ls'} {ls''} p e f = record {
-  most = omega arith;
+  most = tt;
   fine = subst (Fine C) (sym e) p.fine;
   keeps = subst (Kept M δ C k φ ls) (sym e) p.keeps;
-  quiet = λ h. absurd (omega (arith, h));
+  quiet = tt;
   less = rw e p.less;
-  falls = λ q h. absurd (omega (arith, h));
-  refuted = λ h b. f (Rattle.label_visit.specs.BoundLaws.kept-bounds p.keeps b);
+  falls = tt;
+  refuted = λ b. f (Rattle.label_visit.specs.BoundLaws.kept-bounds p.keeps b);
 }
 
-pub leapt_same : {M : Mode} {δ : ℕ} {C : Circuit} {k φ : ℕ} {tops order : List ℕ} {ls ls' ls'' : List ℤ} {t : ℕ} → Progress M δ C k φ tops order ls ls' t → ls'' ≡ ls' → Progress M δ C k φ tops order ls ls'' t
+pub leapt_same : {M : Mode} {δ : ℕ} {C : Circuit} {k φ : ℕ} {tops order : List ℕ} {ls ls' ls'' : List ℤ} {t : Result ℕ PastCeiling} → Progress M δ C k φ tops order ls ls' t → ls'' ≡ ls' → Progress M δ C k φ tops order ls ls'' t
 leapt_same {M} {δ} {C} {k} {φ} {tops} {order} {ls} {ls'} {ls''} {t} p e = subst (λ (x : List ℤ). Progress M δ C k φ tops order ls x t) (sym e) p

@@ -1,7 +1,7 @@
 // Labels that climb for ever: a trial raises those that rose of late by far; where each rises further and a ceiling is passed, the target is not reachable.
 #![tactic(auto)]
 
-ghost use Rattle.std.specs.Prelude.{◌≡◌, true, false, ℕ, ◌+◌, ◌*◌, ◌≤◌, ◌<◌, pos, length, ◌<ℤ◌};
+ghost use Rattle.std.specs.Prelude.{◌≡◌, true, false, ℕ, ◌+◌, ◌*◌, ◌≤◌, ◌<◌, pos, length, get_or, ◌<ℤ◌};
 ghost use Rattle.signed.specs.Range.{Small, room, label_in};
 ghost use Rattle.cut_circuit.specs.Packed.{packed_of};
 ghost use Rattle.cut_question.specs.Separating.{AtRest};
@@ -13,7 +13,7 @@ ghost use Rattle.label_climb.specs.Trials.{Copied, Nudge, Hoisted, Lent, RoseFur
 use cut_circuit::Extent;
 use label_aim::Aim;
 use label_pass::{sweep, sweep_some};
-use label_visit::top_of;
+use label_visit::{PastCeiling, top_of};
 use limits::NODES;
 use signed::{no_higher, plus_one, whole};
 
@@ -28,11 +28,7 @@ fn copy(from: &[i64], to: &mut [i64], n: usize)
     requires { (n ≤ length from.now) × (n ≤ length to.old) }
     ensures { Copied from.now to.old to.new n }
 {
-    let mut i = 0;
-    while i < n {
-        to[i] = from[i];
-        i += 1;
-    }
+    to[..n].copy_from_slice(&from[..n]);
 }
 
 // A label and d more, where it stays small.
@@ -60,10 +56,8 @@ fn hoist(labels: &mut [i64], old: &[i64], from: usize, to: usize, d: usize)
     requires { Lent labels.old old.now from to × (d ≤ room) }
     ensures { Hoisted old.now labels.old labels.new from to d }
 {
-    let mut i = from;
-    while i < to {
-        nudge(labels, old, i, d);
-        i += 1;
+    for v in from..to {
+        nudge(labels, old, v, d);
     }
 }
 
@@ -84,22 +78,17 @@ fn all_rose(old: &[i64], saved: &[i64], labels: &[i64], from: usize, to: usize, 
     requires { Lent saved.now old.now from to × Lent labels.now old.now from to × (d ≤ room) }
     ensures { result ≡ true → AllRose old.now saved.now labels.now from to d }
 {
-    let mut i = from;
-    while i < to {
-        if fell_short(old, saved, labels, i, d) {
-            return false;
-        }
-        i += 1;
-    }
-    true
+    (from..to).all(|v| !fell_short(old, saved, labels, v, d))
 }
 
-// Whether the label at place v is above φ times top.
-fn past(labels: &[i64], v: usize, phi: usize, top: usize) -> bool
-    requires { (v < length labels.now) × Small (label_in labels.now v) × (phi * top < room) }
-    ensures { result ≡ true → pos (phi * top) <ℤ label_in labels.now v }
+// Whether the label of gate g is above its ceiling.
+fn past(s: Extent, net: &[usize], labels: &[i64], a: Aim, g: usize) -> bool
+    requires gate { (g < s.gates) × (s.inputs + s.gates ≤ length labels.now) × Small (label_in labels.now (s.inputs + g)) }
+    requires ceilings { Ceilings (wiring s net.now) a.phi (tops_in s net.now a.cap) }
+    ensures { result ≡ true → pos (a.phi * get_or (tops_in s net.now a.cap) g 0) <ℤ label_in labels.now (s.inputs + g) }
 {
-    let t = whole(phi * top);
+    let v = s.inputs + g;
+    let t = whole(a.phi * top_of(s, net, a.cap, g));
     t < labels[v]
 }
 
@@ -109,15 +98,7 @@ fn over(s: Extent, net: &[usize], labels: &[i64], a: Aim) -> bool
     requires by_index { (u : ℕ) → u < s.inputs + s.gates → Small (label_in labels.now u) }
     ensures { result ≡ true → Over s.inputs s.gates a.phi (tops_in s net.now a.cap) labels.now }
 {
-    let end = s.gates;
-    let mut g = 0;
-    while g < end {
-        if past(labels, s.inputs + g, a.phi, top_of(s, net, a.cap, g)) {
-            return true;
-        }
-        g += 1;
-    }
-    false
+    (0..s.gates).any(|g| past(s, net, labels, a, g))
 }
 
 // Whether the trial shows that the labels climb past a ceiling.
@@ -134,10 +115,7 @@ fn accepted(
     requires ceilings { Ceilings (wiring s net.now) a.phi (tops_in s net.now a.cap) }
     ensures { result ≡ true → Accepted s.inputs s.gates a.phi old.now saved.now labels.now (tops_in s net.now a.cap) d }
 {
-    if all_rose(old, saved, labels, s.inputs, s.inputs + s.gates, d) {
-        return over(s, net, labels, a);
-    }
-    false
+    all_rose(old, saved, labels, s.inputs, s.inputs + s.gates, d) && over(s, net, labels, a)
 }
 
 // A trial of up to w sweeps over the labels that are above the old ones: whether it refutes the target. The labels are then as before.
@@ -167,24 +145,16 @@ fn trial(
     copy(labels, saved, to);
     hoist(labels, old, s.inputs, to, d);
     let far = Aim {
-        phi: a.phi,
-        k: a.k,
-        outputs: a.outputs,
         cap: CAP,
-        forward: a.forward,
         trial: true,
+        ..a
     };
-    sweep_some(
+    let _ = sweep_some(
         s, net, slots, table, list, stack, counts, members, labels, far, s.gates, w,
     );
     let r = accepted(s, net, old, saved, labels, a, d);
     copy(saved, labels, to);
     r
-}
-
-// Whether labels rose in the last sweep, and none would pass its ceiling.
-fn rises(gates: usize, t: usize) -> bool {
-    if 0 < t { t <= gates } else { false }
 }
 
 // Up to w sweeps, then a trial over the labels that rose in them.
@@ -201,7 +171,7 @@ fn leap(
     a: Aim,
     stop: usize,
     w: usize,
-) -> usize
+) -> Result<usize, PastCeiling>
     requires at_rest { AtRest (packed_of s net.now slots.old) table.old list.old stack.old counts.old members.old }
     requires ready { Ready s labels.old a.phi a.k × Ordered (wiring s net.now) (order_in s net.now) × Ceilings (wiring s net.now) a.phi (tops_in s net.now a.cap) }
     requires stop_le_gates { (stop ≤ s.gates) × QuietFrom (mode_of a.forward) (rise_in s a) (wiring s net.now) a.k a.phi (tops_in s net.now a.cap) (order_in s net.now) labels.old stop }
@@ -211,30 +181,25 @@ fn leap(
 {
     let mut old = [0i64; NODES];
     copy(labels, &mut old, s.inputs + s.gates);
-    let t = sweep_some(
+    let last = sweep_some(
         s, net, slots, table, list, stack, counts, members, labels, a, stop, w,
-    );
-    if rises(s.gates, t) {
+    )?;
+    if last > 0 {
         let mut saved = [0i64; NODES];
         if trial(
             s, net, slots, table, list, stack, counts, members, labels, &mut saved, &old, a, w,
         ) {
-            return s.gates + 1;
+            return Err(PastCeiling);
         }
     }
-    t
+    Ok(last)
 }
 
 // Whether it is too early for a trial, or its arrays are too short.
 fn early(w: usize, nodes: usize, phi: usize) -> bool
     ensures { result ≡ false → Roomy nodes phi }
 {
-    if nodes <= NODES {
-        if phi <= CAP {
-            return w < 4;
-        }
-    }
-    true
+    nodes > NODES || phi > CAP || w < 4
 }
 
 // One sweep, or, from the fourth round on, some and a trial.
@@ -251,7 +216,7 @@ pub fn round(
     a: Aim,
     stop: usize,
     w: usize,
-) -> usize
+) -> Result<usize, PastCeiling>
     requires at_rest { AtRest (packed_of s net.now slots.old) table.old list.old stack.old counts.old members.old }
     requires ready { Ready s labels.old a.phi a.k × Ordered (wiring s net.now) (order_in s net.now) × Ceilings (wiring s net.now) a.phi (tops_in s net.now a.cap) }
     requires stop_le_gates { (stop ≤ s.gates) × QuietFrom (mode_of a.forward) (rise_in s a) (wiring s net.now) a.k a.phi (tops_in s net.now a.cap) (order_in s net.now) labels.old stop }

@@ -1,6 +1,5 @@
-use mathlib.Core.Path.{sym, subst, ◌∙◌}
+use mathlib.Core.Path.{sym, ◌∙◌}
 use native.Mathlib.Omega.{arith}
-use Rattle.signed.specs.Range.{Small}
 use Prim.Native.Nat.{◌*◌}
 use Rattle.label_aim.specs.Aims.{mode_of}
 use Rattle.label_visit.specs.LabelVisits.{wiring, tops_in}
@@ -8,7 +7,6 @@ use Rattle.label_pass.specs.Passes.{order_in}
 use Rattle.label_pass.specs.PassLaws.{quiet_none}
 use Rattle.label_climb.specs.Trials.{farthest}
 use Rattle.label_climb.specs.TrialLaws.{caps_suit, hoisted_ready, restored, trial_refutes}
-use Rattle.std.proofs.Common.{rules}
 use Rattle.label_climb.proofs.trial.Goals as goal
 
 pub sweep_some-requires : goal.sweep_some-requires
