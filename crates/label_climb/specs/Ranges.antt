@@ -1,5 +1,5 @@
 -- What a test of all numbers from one up to another, or of any of them, comes to.
-use Rattle.std.specs.Prelude.{◌≡◌, Bool, true, false, ℕ, ◌+◌, ◌-◌, ◌≤◌, ◌<◌, length, MatchBool}
+use Rattle.std.specs.Prelude.{◌≡◌, Bool, true, ℕ, ◌+◌, ◌-◌, ◌≤◌, ◌<◌, length, MatchBool}
 use Rattle.std.specs.List.{range_with_len, AllWithin, HoldsAt}
 use Rattle.std.proofs.Common.{subst, ◌∙◌, arith, zero-le}
 use Rattle.std.proofs.lemmas.List.FromFn.{length-range_with_len, get_or-range_with_len}
@@ -29,10 +29,6 @@ module _ (P Q : ℕ → Type 0) (a b : ℕ) where
   -- `all` says yes
   pub all_yes : (r : Bool) → MatchBool r (Each P a b) (Some Q a b) → r ≡ true → (u : ℕ) → a ≤ u → u < b → P u
   all_yes r h e = each P a b (subst (λ (x : Bool). MatchBool x (Each P a b) (Some Q a b)) e h)
-
-  -- `all` says no
-  pub all_no : (r : Bool) → MatchBool r (Each P a b) (Some Q a b) → r ≡ false → (u : ℕ) × (a ≤ u) × (u < b) × Q u
-  all_no r h e = some Q a b (subst (λ (x : Bool). MatchBool x (Each P a b) (Some Q a b)) e h)
 
   -- `any` says yes
   pub any_yes : (r : Bool) → MatchBool r (Some P a b) (Each Q a b) → r ≡ true → (u : ℕ) × (a ≤ u) × (u < b) × P u

@@ -1,7 +1,8 @@
 -- Laws of labels at the end: past a ceiling, or at rest.
-use Rattle.std.specs.Prelude.{◌≡◌, List, Bool, true, false, ◌⊎◌, ℕ, ◌+◌, ◌*◌, ◌≤◌, ◌<◌, ℤ, pos, ◌-ℤ◌, get_or, ◌≤ℤ◌}
-use Rattle.std.proofs.Common.{sym, subst, inl, inr, zero-add, arith}
-use Rattle.std.proofs.lemmas.Bool.{false≢true}
+use Rattle.std.specs.Prelude.{◌≡◌, List, Result, Ok, Err, IsOk, Bool, true, false, ◌⊎◌, ℕ, ◌+◌, ◌*◌, ◌<◌, ℤ, pos, ◌-ℤ◌, get_or, ◌≤ℤ◌}
+use Rattle.std.proofs.Common.{sym, ◌∙◌, subst, inl, inr, zero-add, arith}
+use Rattle.std.proofs.lemmas.Bool.{true≢false, false≢true}
+use Rattle.std.specs.Result.{is_ok}
 use Rattle.integers.specs.Parts.{ints}
 use Rattle.sequences.specs.Member.{◌∈◌}
 use Rattle.net_model.specs.Net.{Net, Pin, IsInput, IsGate}
@@ -14,12 +15,13 @@ use Rattle.signed.specs.Range.{label_in}
 use Rattle.cut_circuit.specs.Circuit.{Circuit, Layout}
 use Rattle.cut_circuit.specs.Packed.{packed_of}
 use Rattle.cut_circuit.specs.declared.Extent.{Extent}
+use Rattle.label_visit.specs.declared.PastCeiling.{PastCeiling}
 use Rattle.label_visit.specs.LabelVisits.{Suits, Quiet, Bounds, wiring, Ready, Fine}
 use Rattle.label_visit.specs.BoundLaws.{quiet-least, sane_of}
 use Rattle.label_visit.specs.ReadyLaws.{pins-fit}
 use Rattle.label_pins.specs.PinHeights.{height_at}
 use Rattle.label_start.specs.Starts.{Startable, Begun}
-use Rattle.label_sweep.specs.Sweeps.{OutsMet, OutFits, Ends, Sized, Settling, Labelled}
+use Rattle.label_sweep.specs.Sweeps.{OutsMet, OutFits, Ends, Sized, SettleTold, Labelled}
 
 -- sizes that do not depend on what the labels hold
 pub startable : {s : Extent} {net slots : List ℕ} {ls : List ℤ} {os oc : List ℕ} {φ k n : ℕ} → Layout (packed_of s net slots) → Sized s ls os oc φ k n → Startable s net ls φ k
@@ -62,11 +64,12 @@ outs-of N os oc n φ ls e m i h =
 
 module _ {M : Mode} {C : Circuit} {k φ : ℕ} {tops os oc : List ℕ} {n : ℕ} {ls ls' : List ℤ} (b : Bounds M C k φ tops ls) where
   -- **past a ceiling the target is not reachable**
-  pub labelled-past : {δ r : ℕ} → Settling M δ C k φ tops ls ls' r → r ≡ 2 → Labelled M C k φ tops os oc n ls' false
-  labelled-past s e = record {
+  pub labelled-past : {δ : ℕ} {r : Result (Unit {0}) PastCeiling} {t : Bool} → SettleTold M δ C k φ tops ls ls' r → is_ok r ≡ false → t ≡ false → Labelled M C k φ tops os oc n ls' t
+  labelled-past {r = Ok x} s e z = absurd (true≢false e)
+  labelled-past {r = Err x} s e z = record {
     fine = s.fine;
-    found = λ f. absurd (false≢true f);
-    none = λ f N S o q. s.refuted e b N S q.label q.least.labelling q.outputs;
+    found = λ f. absurd (false≢true (sym z ∙ f));
+    none = λ f N S o q. s.refuted b N S q.label q.least.labelling q.outputs;
   }
 
 module _ (C : Circuit) (φ : ℕ) (os oc : List ℕ) (n : ℕ) (ls : List ℤ) where
@@ -97,14 +100,12 @@ module _ (C : Circuit) (φ : ℕ) (os oc : List ℕ) (n : ℕ) (ls : List ℤ) w
 
 module _ {M : Mode} {C : Circuit} {k φ : ℕ} {tops os oc : List ℕ} {n : ℕ} {ls ls' : List ℤ} (b : Bounds M C k φ tops ls) where
   -- **at rest the labels are the least, and what decides at the end decides**
-  pub labelled-rest : {δ r : ℕ} {t : Bool} → δ ≡ 0 → Settling M δ C k φ tops ls ls' r → r ≡ 0 → (t ≡ true → Ends M C os oc ls' φ n) → (t ≡ false → ¬ Ends M C os oc ls' φ n) → Labelled M C k φ tops os oc n ls' t
-  labelled-rest {δ} {r} {t} z s e yes_met no_met = record {
+  pub labelled-rest : {δ : ℕ} {r : Result (Unit {0}) PastCeiling} {t : Bool} → δ ≡ 0 → SettleTold M δ C k φ tops ls ls' r → IsOk r → (t ≡ true → Ends M C os oc ls' φ n) → (t ≡ false → ¬ Ends M C os oc ls' φ n) → Labelled M C k φ tops os oc n ls' t
+  labelled-rest {r = Err x} z s e yes_met no_met = absurd (false≢true e)
+  labelled-rest {r = Ok x} {t} z s e yes_met no_met = record {
     fine = s.fine;
     found = λ f N S o.
-        let l = quiet-least (s.bounds b) (λ g h. subst (λ (x : ℕ). Quiet M x C k φ tops ls' g) z (s.quiet e g h)) (ends-topped C φ os oc n ls' M (yes_met f)) N S in
+        let l = quiet-least (s.bounds b) (λ g h. subst (λ (x : ℕ). Quiet M x C k φ tops ls' g) z (s.quiet g h)) (ends-topped C φ os oc n ls' M (yes_met f)) N S in
         (l, ends-met C φ os oc n ls' M N S l.labelling.inputs o (yes_met f));
     none = λ f N S o q. no_met f (reachable-ends C φ os oc n ls' M N S (s.bounds b) o q);
   }
-
-pub rest-zero : (r : ℕ) → r ≤ 2 → ¬ (r ≡ 1) → ¬ (r ≡ 2) → r ≡ 0
-rest-zero r h n m = omega arith

@@ -1,5 +1,5 @@
 -- Definitions: what the functions of the sweep ask and tell.
-use Rattle.std.specs.Prelude.{◌≡◌, List, Bool, true, false, ℕ, ◌+◌, ◌*◌, ◌^◌, ◌≤◌, ◌<◌, ℤ, pos, length, get_or, drop, ◌≤ℤ◌}
+use Rattle.std.specs.Prelude.{◌≡◌, List, Result, OnOk, OnErr, Bool, true, false, ℕ, ◌+◌, ◌*◌, ◌^◌, ◌≤◌, ◌<◌, ℤ, pos, length, get_or, drop, ◌≤ℤ◌}
 use Rattle.net_model.specs.Net.{Net}
 use Rattle.net_model.specs.Arrays.{pins_in}
 use Rattle.net_model.specs.PackedNet.{outs_at, delays_at}
@@ -9,15 +9,10 @@ use Rattle.cut_circuit.specs.Circuit.{Circuit}
 use Rattle.cut_circuit.specs.declared.Extent.{Extent}
 use Rattle.limits.specs.Limits.{most_k}
 use Rattle.label_visit.specs.LabelVisits.{Suits, Quiet, Bounds, Refuted, Fine}
+use Rattle.label_visit.specs.declared.PastCeiling.{PastCeiling}
 pub use Rattle.label_pass.specs.Passes.{order_in, Ordered}
+use Rattle.label_pass.specs.Passes.{QuietFrom}
 use Rattle.label_pins.specs.PinHeights.{height_at, PinFits}
-
--- What a sweep's result r says. 0: nothing can change. 1: a label rose. 2: it would pass its ceiling.
-pub record Outcome (gates r o : ℕ) : Type 0 where
-  pub most : o ≤ 2
-  pub none : o ≡ 0 → r ≡ 0
-  pub rose : o ≡ 1 → (1 ≤ r) × (r ≤ gates)
-  pub past : o ≡ 2 → gates < r
 
 -- the outputs' sources and registers in a net's slice
 abbrev pub outs_in : Extent → List ℕ → List ℕ
@@ -65,15 +60,16 @@ pub record Labelled (M : Mode) (C : Circuit) (k φ : ℕ) (tops os oc : List ℕ
   pub found : r ≡ true → (N : Net) → Suits M C k tops N → N.outputs ≡ pins_in os oc 0 n → LeastIn M N k φ (label_in ls) × OutputsMet N φ (label_in ls)
   pub none : r ≡ false → (N : Net) → Suits M C k tops N → N.outputs ≡ pins_in os oc 0 n → ¬ ReachableIn M N k φ
 
--- The sweeps so far, the last with result r.
-pub record Settling (M : Mode) (δ : ℕ) (C : Circuit) (k φ : ℕ) (tops : List ℕ) (ls ls' : List ℤ) (r : ℕ) : Type 0 where
+-- The sweeps so far: from place stop of the order on nothing can change.
+pub record Swept (M : Mode) (δ : ℕ) (C : Circuit) (k φ : ℕ) (tops order : List ℕ) (ls ls' : List ℤ) (stop : ℕ) : Type 0 where
   pub fine : Fine C ls'
   pub bounds : Bounds M C k φ tops ls → Bounds M C k φ tops ls'
-  pub quiet : r ≡ 0 → (g : ℕ) → g < C.gates → Quiet M δ C k φ tops ls' g
-  pub refuted : r ≡ 2 → Bounds M C k φ tops ls → Refuted M C k φ tops
-  pub most : r ≤ 2
+  pub place : stop ≤ C.gates
+  pub rest : QuietFrom M δ C k φ tops order ls' stop
 
--- The sweeps' end. 0: all gates are quiet under labels no higher than any labelling's. 2: no labelling meets the outputs.
-pub record SettleTold (M : Mode) (δ : ℕ) (C : Circuit) (k φ : ℕ) (tops : List ℕ) (ls ls' : List ℤ) (r : ℕ) : Type 0 where
-  pub settling : Settling M δ C k φ tops ls ls' r
-  pub ends : ¬ (r ≡ 1)
+-- The sweeps' end: all gates are quiet under labels no higher than any labelling's, or a label would pass its ceiling, and no labelling meets the outputs.
+pub record SettleTold (M : Mode) (δ : ℕ) (C : Circuit) (k φ : ℕ) (tops : List ℕ) (ls ls' : List ℤ) (r : Result (Unit {0}) PastCeiling) : Type 0 where
+  pub fine : Fine C ls'
+  pub bounds : Bounds M C k φ tops ls → Bounds M C k φ tops ls'
+  pub quiet : OnOk r ((g : ℕ) → g < C.gates → Quiet M δ C k φ tops ls' g)
+  pub refuted : OnErr r (Bounds M C k φ tops ls → Refuted M C k φ tops)

@@ -1,7 +1,7 @@
 // The label sweep: labels raised from below, sweep after sweep, until nothing can change or a label would pass its ceiling.
 #![tactic(auto)]
 
-ghost use Rattle.std.specs.Prelude.{◌≡◌, true, false, ℕ, ◌≤◌, pos, length, ◌≤ℤ◌, ◌<ℤ◌};
+ghost use Rattle.std.specs.Prelude.{◌≡◌, true, false, ℕ, ◌≤◌, ◌<◌, pos, length, ◌≤ℤ◌, ◌<ℤ◌};
 ghost use Rattle.net_model.specs.PackedNet.{packed_room};
 ghost use Rattle.signed.specs.Range.{Small, room, label_in};
 ghost use Rattle.cut_circuit.specs.Packed.{packed_of};
@@ -9,29 +9,16 @@ ghost use Rattle.cut_question.specs.Separating.{AtRest};
 ghost use Rattle.label_aim.specs.Aims.{mode_of, rise_in};
 ghost use Rattle.label_visit.specs.LabelVisits.{wiring, tops_in, Ready, Fine, Ceilings};
 ghost use Rattle.label_pins.specs.PinHeights.{height_at, PinFits};
-ghost use Rattle.label_sweep.specs.Sweeps.{order_in, outs_in, delays_in, Ordered, Outcome, SettleTold, OutsMet, OutFits, AllLow, Ends, Sized, Labelled};
+ghost use Rattle.label_sweep.specs.Sweeps.{order_in, outs_in, delays_in, Ordered, SettleTold, OutsMet, OutFits, AllLow, Ends, Sized, Labelled};
 
 use cut_circuit::Extent;
 use label_aim::Aim;
 use label_climb::{next_width, round};
-use label_pins::pin_height;
+use label_pins::{Pins, pin_height};
 use label_start::floors;
-use label_visit::higher;
+use label_visit::{PastCeiling, higher};
 use limits::PINS;
 use signed::whole;
-
-// What a sweep's result says: 0 where nothing can change, 1 where a label rose, 2 where one would pass its ceiling.
-fn outcome(gates: usize, r: usize) -> usize
-    ensures { Outcome gates r result }
-{
-    if r == 0 {
-        0
-    } else if r <= gates {
-        1
-    } else {
-        2
-    }
-}
 
 // Sweeps, with trials where labels keep rising, until nothing can change or a label would pass its ceiling.
 fn sweep_all(
@@ -45,7 +32,7 @@ fn sweep_all(
     members: &mut [u32],
     labels: &mut [i64],
     a: Aim,
-) -> usize
+) -> Result<(), PastCeiling>
     requires at_rest { AtRest (packed_of s net.now slots.old) table.old list.old stack.old counts.old members.old }
     requires ready { Ready s labels.old a.phi a.k × Ordered (wiring s net.now) (order_in s net.now) × Ceilings (wiring s net.now) a.phi (tops_in s net.now a.cap) }
     ensures at_rest_2 { AtRest (packed_of s net.now slots.new) table.new list.new stack.new counts.new members.new }
@@ -53,42 +40,33 @@ fn sweep_all(
 {
     let mut stop = s.gates;
     let mut w = 1;
-    let mut r = 1;
-    while r == 1 {
+    while stop > 0 {
         stop = round(
             s, net, slots, table, list, stack, counts, members, labels, a, stop, w,
-        );
-        r = outcome(s.gates, stop);
+        )?;
         w = next_width(w);
     }
-    r
+    Ok(())
 }
 
 // Whether the label at output i, less its registers, is above φ.
-fn output_high(outs: &[usize], delays: &[usize], labels: &[i64], phi: usize, i: usize) -> bool
-    requires { PinFits outs.now delays.now labels.now phi i × (phi ≤ room) }
-    ensures yes { result ≡ true → pos phi <ℤ height_at outs.now delays.now labels.now phi i }
-    ensures no { result ≡ false → height_at outs.now delays.now labels.now phi i ≤ℤ pos phi }
+fn output_high(outs: Pins, labels: &[i64], phi: usize, i: usize) -> bool
+    requires { PinFits outs.sources.now outs.counts.now labels.now phi i × (phi ≤ room) }
+    ensures yes { result ≡ true → pos phi <ℤ height_at outs.entry.sources.now outs.entry.counts.now labels.now phi i }
+    ensures no { result ≡ false → height_at outs.entry.sources.now outs.entry.counts.now labels.now phi i ≤ℤ pos phi }
 {
     let p = whole(phi);
-    let h = pin_height(outs, delays, labels, phi, i);
+    let h = pin_height(outs, labels, phi, i);
     p < h
 }
 
 // Whether all outputs are met.
-fn outputs_met(outs: &[usize], delays: &[usize], labels: &[i64], phi: usize, n: usize) -> bool
-    requires { OutFits outs.now delays.now labels.now phi n }
-    ensures yes { result ≡ true → OutsMet outs.now delays.now labels.now phi n }
-    ensures no { result ≡ false → ¬ OutsMet outs.now delays.now labels.now phi n }
+fn outputs_met(outs: Pins, labels: &[i64], phi: usize, n: usize) -> bool
+    requires { OutFits outs.sources.now outs.counts.now labels.now phi n }
+    ensures yes { result ≡ true → OutsMet outs.entry.sources.now outs.entry.counts.now labels.now phi n }
+    ensures no { result ≡ false → ¬ OutsMet outs.entry.sources.now outs.entry.counts.now labels.now phi n }
 {
-    let mut i = 0;
-    while i < n {
-        if output_high(outs, delays, labels, phi, i) {
-            return false;
-        }
-        i += 1;
-    }
-    true
+    (0..n).all(|i| !output_high(outs, labels, phi, i))
 }
 
 // The same for the outputs in the net's slice.
@@ -100,7 +78,20 @@ fn met(s: Extent, net: &[usize], labels: &[i64], a: Aim) -> bool
 {
     let y = (2 + 3 * PINS) * s.gates + (s.inputs + s.gates) + s.gates + s.gates;
     let d = y + a.outputs;
-    outputs_met(&net[y..], &net[d..], labels, a.phi, a.outputs)
+    let outs = Pins {
+        sources: &net[y..],
+        counts: &net[d..],
+    };
+    outputs_met(outs, labels, a.phi, a.outputs)
+}
+
+// Whether the label at place v is above the period.
+fn label_high(labels: &[i64], v: usize, phi: usize) -> bool
+    requires { (v < length labels.now) × Small (label_in labels.now v) × (phi ≤ room) }
+    ensures yes { result ≡ true → pos phi <ℤ label_in labels.now v }
+    ensures no { result ≡ false → label_in labels.now v ≤ℤ pos phi }
+{
+    higher(labels, v, whole(phi))
 }
 
 // Whether no label from one place up to another is above the period.
@@ -110,15 +101,7 @@ fn all_low(labels: &[i64], from: usize, to: usize, phi: usize) -> bool
     ensures yes { result ≡ true → AllLow labels.now from to phi }
     ensures no { result ≡ false → ¬ AllLow labels.now from to phi }
 {
-    let p = whole(phi);
-    let mut v = from;
-    while v < to {
-        if higher(labels, v, p) {
-            return false;
-        }
-        v += 1;
-    }
-    true
+    (from..to).all(|v| !label_high(labels, v, phi))
 }
 
 // Whether labels at rest are those of covers that suit the mode: the outputs are met; in forward mode no label is above the period.
@@ -129,9 +112,10 @@ fn ends(s: Extent, net: &[usize], labels: &[i64], a: Aim) -> bool
     ensures no { result ≡ false → ¬ Ends (mode_of a.forward) (wiring s net.now) (outs_in s net.now) (delays_in s net.now a.outputs) labels.now a.phi a.outputs }
 {
     if a.forward {
-        return all_low(labels, s.inputs, s.inputs + s.gates, a.phi);
+        all_low(labels, s.inputs, s.inputs + s.gates, a.phi)
+    } else {
+        met(s, net, labels, a)
     }
-    met(s, net, labels, a)
 }
 
 // The least labelling for φ, where it meets the outputs. Else no labelling does: the target is not reachable.
@@ -154,11 +138,8 @@ pub fn reach(
     ensures labelled { Labelled (mode_of a.forward) (wiring s net.now) a.k a.phi (tops_in s net.now a.cap) (outs_in s net.now) (delays_in s net.now a.outputs) a.outputs labels.new result }
 {
     floors(s, net, labels, a);
-    let r = sweep_all(
+    let swept = sweep_all(
         s, net, slots, table, list, stack, counts, members, labels, a,
     );
-    if r == 2 {
-        return false;
-    }
-    ends(s, net, labels, a)
+    swept.is_ok() && ends(s, net, labels, a)
 }
