@@ -1,5 +1,5 @@
 -- Definitions: what a search for the least period tells.
-use Rattle.std.specs.Prelude.{◌≡◌, Bool, true, false, List, ℕ, ◌≤◌, ◌<◌, ℤ}
+use Rattle.std.specs.Prelude.{◌≡◌, List, ℕ, ◌≤◌, ◌<◌, ℤ}
 use Rattle.net_model.specs.Net.{Net}
 use Rattle.net_model.specs.Arrays.{pins_in}
 use Rattle.net_model.specs.Checks.{Passed}
@@ -7,15 +7,6 @@ use Rattle.label_theory.specs.Labels.{Mode, LeastIn, OutputsMet, ReachableIn}
 use Rattle.cut_circuit.specs.Circuit.{Circuit}
 use Rattle.signed.specs.Range.{label_in}
 use Rattle.label_visit.specs.LabelVisits.{Suits, Fine}
-
--- x if b, else y
-abbrev pub Either : Bool → ℕ → ℕ → ℕ → Type 0
-Either b x y r = (b ≡ true → r ≡ x) × (b ≡ false → r ≡ y)
-
--- a period up to the number of gates
-pub record Few (gates r : ℕ) : Type 0 where
-  pub positive : 1 ≤ r
-  pub most : r ≤ gates
 
 -- φ is the smallest period from 1 up that is reachable in the mode
 pub record FirstReached (M : Mode) (N : Net) (k φ : ℕ) : Type 0 where

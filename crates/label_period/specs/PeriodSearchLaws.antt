@@ -1,5 +1,5 @@
 -- The least period by search: periods 1, 2, ... until one is reachable, or what is left by halves; the longest line of gates without registers is reachable.
-use Rattle.std.specs.Prelude.{◌≡◌, refl, List, Bool, true, false, ◌⊎◌, ℕ, ◌+◌, ◌-◌, ◌≤◌, ◌<◌, ℤ, length, get_or}
+use Rattle.std.specs.Prelude.{◌≡◌, refl, List, Bool, true, false, ◌⊎◌, ℕ, ◌+◌, ◌≤◌, ◌<◌, ℤ, length, get_or}
 use Rattle.std.proofs.Common.{subst, inl, inr, le_trans, mul-le-mul_right, arith}
 use Rattle.sequences.specs.Rising.{ℕ_cmp}
 use Rattle.net_model.specs.Net.{Net}
@@ -16,7 +16,7 @@ use Rattle.signed.specs.Range.{label_in}
 use Rattle.label_visit.specs.LabelVisits.{Suits, Ceilings}
 use Rattle.label_lines.specs.Lines.{LongestTold}
 use Rattle.label_sweep.specs.Sweeps.{Sized, Labelled}
-use Rattle.label_period.specs.PeriodSearch.{Either, FirstReached, NoneBelow, Halved, Period}
+use Rattle.label_period.specs.PeriodSearch.{FirstReached, NoneBelow, Halved, Period}
 
 -- ---- smaller periods ask less
 pub sized-less : {s : Extent} {ls ls' : List ℤ} {os oc : List ℕ} {k n φ : ℕ} (ψ : ℕ) → ψ ≤ φ → length ls' ≡ length ls → Sized s ls os oc φ k n → Sized s ls' os oc ψ k n
@@ -54,14 +54,6 @@ first_unique {M} {N} {k} {φ} P f = go (ℕ_cmp (least_period_in P M) φ)
     go (inr (inl e)) = e
     go (inr (inr lt)) = absurd (none-smaller P M φ f.positive lt f.reached)
 
--- what is left falls
-pub halves-less : {b : Bool} {low high φ low' high' : ℕ} → low ≤ φ → φ < high → Either b low (φ + 1) low' → Either b φ high high' → high' - low' < high - low
-halves-less {b} {low} {high} {φ} {low'} {high'} le lt x y = go b refl
-  where
-    go : (t : Bool) → b ≡ t → high' - low' < high - low
-    go true e = let p = x.0 e in let q = y.0 e in omega arith
-    go false e = let p = x.1 e in let q = y.1 e in omega arith
-
 module _ {M : Mode} {C : Circuit} {k : ℕ} {tops os oc : List ℕ} {n : ℕ} where
   pub none_first : NoneBelow M C k tops os oc n 1
   none_first = record { below = λ ψ a b. absurd (omega (arith, a, b)) }
@@ -95,19 +87,19 @@ module _ {M : Mode} {C : Circuit} {k : ℕ} {tops os oc : List ℕ} {n : ℕ} wh
     reached = λ N S P o. let t = l.levels N S.holds S.loopless in lines_reach_in P t.0 _ t.1 M;
   }
 
-  pub halved_next : {low high φ low' high' : ℕ} {ls : List ℤ} {b : Bool} → Halved M C k tops os oc n low high → low ≤ φ → φ < high → Labelled M C k φ tops os oc n ls b
-      → Either b low (φ + 1) low' → Either b φ high high' → Halved M C k tops os oc n low' high'
-  halved_next {low} {high} {φ} {low'} {high'} {ls} {b} h le lt l x y = go b refl
-    where
-      go : (t : Bool) → b ≡ t → Halved M C k tops os oc n low' high'
-      go true e = rw (x.0 e, y.0 e) (record {
-        positive = h.positive;
-        order = le;
-        most = let m = h.most in omega arith;
-        none = h.none;
-        reached = λ N S P o. let t = l.found e N S o in record { label = label_in ls; least = t.0; outputs = t.1 };
-      })
-      go false e = rw (x.1 e, y.1 e) (record { positive = omega arith; order = omega arith; most = h.most; none = none-next l e; reached = h.reached })
+  -- a period that is reachable is the new upper end
+  pub halved_low : {low high φ : ℕ} {ls : List ℤ} {b : Bool} → Halved M C k tops os oc n low high → low ≤ φ → φ < high → Labelled M C k φ tops os oc n ls b → b ≡ true → Halved M C k tops os oc n low φ
+  halved_low {ls = ls} h le lt l e = record {
+    positive = h.positive;
+    order = le;
+    most = let m = h.most in omega arith;
+    none = h.none;
+    reached = λ N S P o. let t = l.found e N S o in record { label = label_in ls; least = t.0; outputs = t.1 };
+  }
+
+  -- behind one that is not the lower end stands
+  pub halved_high : {low high φ : ℕ} {ls : List ℤ} {b : Bool} → Halved M C k tops os oc n low high → low ≤ φ → φ < high → Labelled M C k φ tops os oc n ls b → b ≡ false → Halved M C k tops os oc n (φ + 1) high
+  halved_high h le lt l e = record { positive = omega arith; order = omega arith; most = h.most; none = none-next l e; reached = h.reached }
 
   pub halved_end : {low high : ℕ} → high ≤ low → Halved M C k tops os oc n low high → Halved M C k tops os oc n low low
   halved_end {low} {high} le h = subst (Halved M C k tops os oc n low) (let o = h.order in let e : high ≡ low = omega arith in e) h

@@ -8,7 +8,7 @@ ghost use Rattle.cut_question.specs.Separating.{AtRest};
 ghost use Rattle.label_aim.specs.Aims.{mode_of};
 ghost use Rattle.label_visit.specs.LabelVisits.{wiring, tops_in, Ceilings};
 ghost use Rattle.label_sweep.specs.Sweeps.{order_in, outs_in, delays_in, Sized, Ordered};
-ghost use Rattle.label_period.specs.PeriodSearch.{Either, Few, NoneBelow, Halved, Period};
+ghost use Rattle.label_period.specs.PeriodSearch.{NoneBelow, Halved, Period};
 
 use cut_circuit::Extent;
 use label_aim::Aim;
@@ -17,20 +17,6 @@ use label_sweep::reach;
 
 // Periods below this one are asked from 1 up.
 const FEW: usize = 8;
-
-// The smaller of the number of gates and FEW.
-fn few(gates: usize) -> usize
-    requires { 1 ≤ gates }
-    ensures { Few gates result }
-{
-    if gates < FEW { gates } else { FEW }
-}
-
-fn either(b: bool, x: usize, y: usize) -> usize
-    ensures { Either b x y result }
-{
-    if b { x } else { y }
-}
 
 // The least period from low on, where no smaller one is reachable: what is left is halved until one period is.
 fn halve(
@@ -58,18 +44,17 @@ fn halve(
     while low < high {
         let phi = low + (high - low) / 2;
         let b = Aim {
-            phi: phi,
-            k: a.k,
-            outputs: a.outputs,
-            cap: a.cap,
-            forward: a.forward,
+            phi,
             trial: false,
+            ..a
         };
-        let r = reach(
+        if reach(
             s, net, slots, table, list, stack, counts, members, labels, b,
-        );
-        low = either(r, low, phi + 1);
-        high = either(r, phi, high);
+        ) {
+            high = phi;
+        } else {
+            low = phi + 1;
+        }
     }
     low
 }
@@ -93,34 +78,26 @@ pub fn least_period(
     ensures at_rest_2 { AtRest (packed_of s net.now slots.new) table.new list.new stack.new counts.new members.new }
     ensures period { Period (mode_of a.forward) (wiring s net.now) a.k (tops_in s net.now a.cap) (outs_in s net.now) (delays_in s net.now a.outputs) a.outputs labels.new result }
 {
-    let end = few(s.gates);
-    let mut phi = 1;
-    while phi < end {
+    let end = s.gates.min(FEW);
+    for phi in 1..end {
         let b = Aim {
-            phi: phi,
-            k: a.k,
-            outputs: a.outputs,
-            cap: a.cap,
-            forward: a.forward,
+            phi,
             trial: false,
+            ..a
         };
         if reach(
             s, net, slots, table, list, stack, counts, members, labels, b,
         ) {
             return phi;
         }
-        phi += 1;
     }
     let low = halve(
-        s, net, slots, table, list, stack, counts, members, labels, a, phi,
+        s, net, slots, table, list, stack, counts, members, labels, a, end,
     );
     let last = Aim {
         phi: low,
-        k: a.k,
-        outputs: a.outputs,
-        cap: a.cap,
-        forward: a.forward,
         trial: false,
+        ..a
     };
     reach(
         s, net, slots, table, list, stack, counts, members, labels, last,

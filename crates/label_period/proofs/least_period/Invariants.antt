@@ -1,18 +1,10 @@
-use mathlib.Core.Path.{◌≡◌, refl, ◌∙◌}
-use Prim.Native.Nat.{◌-◌, ◌≤◌}
-use native.Mathlib.Omega.{arith}
-use lib.ListN.{length}
 use Rattle.cut_circuit.specs.Packed.{packed_of}
 use Rattle.cut_question.specs.Separating.{AtRest}
 use Rattle.label_aim.specs.Aims.{mode_of}
 use Rattle.label_visit.specs.LabelVisits.{wiring, tops_in}
 use Rattle.label_sweep.specs.Sweeps.{outs_in, delays_in}
 use Rattle.label_period.specs.PeriodSearch.{NoneBelow}
-use Rattle.label_period.specs.PeriodSearchLaws.{sized-less, ceilings-less, none_first, none-next, period-found, period-last}
 use Rattle.label_period.proofs.least_period.Given as goal
 
 abbrev pub invariant-loop-phi : goal.invariant-loop-phi
-invariant-loop-phi l = (1 ≤ l.phi) × (l.phi ≤ l.s.gates) × AtRest (packed_of l.s l.net l.slots) l.table l.list l.stack l.counts l.members × NoneBelow (mode_of l.a.forward) (wiring l.s l.net) l.a.k (tops_in l.s l.net l.a.cap) (outs_in l.s l.net) (delays_in l.s l.net l.a.outputs) l.a.outputs l.phi × (length l.slots ≡ length l.initial.slots) × (length l.table ≡ length l.initial.table) × (length l.list ≡ length l.initial.list) × (length l.stack ≡ length l.initial.stack) × (length l.counts ≡ length l.initial.counts) × (length l.members ≡ length l.initial.members) × (length l.labels ≡ length l.initial.labels)
-
-abbrev pub decreases-loop-phi : goal.decreases-loop-phi
-decreases-loop-phi l = l.s.gates - l.phi
+invariant-loop-phi l = AtRest (packed_of l.s l.net l.slots) l.table l.list l.stack l.counts l.members × NoneBelow (mode_of l.a.forward) (wiring l.s l.net) l.a.k (tops_in l.s l.net l.a.cap) (outs_in l.s l.net) (delays_in l.s l.net l.a.outputs) l.a.outputs l.phi
