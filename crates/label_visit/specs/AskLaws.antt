@@ -88,11 +88,11 @@ module _ {M : Mode} {δ : ℕ} {s : Extent} {net : List ℕ} {ls : List ℤ} {φ
   }
 
   -- the engine's answer
-  answered-bordered : {slots : List ℕ} {e : Extent} {r : ℕ} {y : Bool} → (y ≡ false → k < r) → (y ≡ true → r ≤ k) → Bordering M φ (p -ℤ pos δ) s e → Topped M φ (p -ℤ pos δ) → Decides (packed_of (bordered s e.border) net slots) ls φ k g p r → Answered M δ (wiring s net) k φ ls g p y
-  answered-bordered {slots} {e} {r} many few B t d = record {
-    none = λ N S q. d.none N (holds N S) S.ranked S.loopless M (p -ℤ pos δ) (B.border.bordered _ S.border t) (many q);
+  answered-bordered : {slots : List ℕ} {e : Extent} {r : Bool} → Bordering M φ (p -ℤ pos δ) s e → Topped M φ (p -ℤ pos δ) → Decides (packed_of (bordered s e.border) net slots) ls φ k g p r → Answered M δ (wiring s net) k φ ls g p r
+  answered-bordered {slots} {e} {r} B t d = record {
+    none = λ N S q. d.none N (holds N S) S.ranked S.loopless M (p -ℤ pos δ) (B.border.bordered _ S.border t) q;
     some = λ N S q f.
-        let x = d.some N (holds N S) S.ranked S.loopless (few q) in
+        let x = d.some N (holds N S) S.ranked S.loopless q in
         let near = B.border.bordered _ S.border t in
         record {
           cone = x.cone;
@@ -149,10 +149,10 @@ answered-served {φ = φ} {k = k} {g = g} {p = p} {s = s} {e = e} {members = mem
     answered-kept o B t h (subst (λ (x : Extent). Serves (row_in x.gates members g) x.width e.border k φ (label_in ls) p) (bordering_is B) w)
 
 -- **the engine's answer**
-pub answered : {M : Mode} {δ φ k g r : ℕ} {y : Bool} {p : ℤ} {s e : Extent} {net slots : List ℕ} {ls : List ℤ} → (y ≡ false → k < r) → (y ≡ true → r ≤ k) → Bordering M φ (p -ℤ pos δ) s e → Topped M φ (p -ℤ pos δ)
-    → Decides (packed_of e net slots) ls φ k g p r → Answered M δ (wiring s net) k φ ls g p y
-answered {M} {δ} {φ} {k} {g} {r} {y} {p} {s} {e} {net} {slots} {ls} many few B t d =
-    answered-bordered many few B t (subst (λ (x : Extent). Decides (packed_of x net slots) ls φ k g p r) (bordering_is B) d)
+pub answered : {M : Mode} {δ φ k g : ℕ} {r : Bool} {p : ℤ} {s e : Extent} {net slots : List ℕ} {ls : List ℤ} → Bordering M φ (p -ℤ pos δ) s e → Topped M φ (p -ℤ pos δ)
+    → Decides (packed_of e net slots) ls φ k g p r → Answered M δ (wiring s net) k φ ls g p r
+answered {M} {δ} {φ} {k} {g} {r} {p} {s} {e} {net} {slots} {ls} B t d =
+    answered-bordered B t (subst (λ (x : Extent). Decides (packed_of x net slots) ls φ k g p r) (bordering_is B) d)
 
 -- an equal height
 pub answered-at : {M : Mode} {δ : ℕ} {C : Circuit} {k φ g : ℕ} {r : Bool} {ls : List ℤ} {p q : ℤ} → p ≡ q → Answered M δ C k φ ls g p r → Answered M δ C k φ ls g q r

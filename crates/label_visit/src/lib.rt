@@ -96,10 +96,9 @@ fn ask(
     if serves(e, members, labels, q) {
         return true;
     }
-    let r = question(
+    question(
         e, net, slots, table, list, stack, counts, members, labels, q,
-    );
-    r <= a.k
+    )
 }
 
 // Gate g, whose pins' largest is p: its label becomes p, or p + 1 where there is no k-cut of height p, unless it would pass its ceiling.
