@@ -7,7 +7,7 @@ use Rattle.net_model.specs.Tables.{as_number}
 use Rattle.net_reader.specs.ReadAnswer.{arrays_of}
 use Rattle.net_reader.specs.declared.NetSizes.{NetSizes}
 use Rattle.run_theory.specs.Bench.{value_at, Keeps}
-use Rattle.run_theory.specs.BenchBytes.{section_in, pairs_in, steps_of}
+use Rattle.run_theory.specs.BenchBytes.{section_in, pairs_in}
 use Rattle.run_values.specs.Sheets.{Runnable, Sheet, value_of, told, StepReady}
 
 -- the first n gates of the order are noted

@@ -19,7 +19,7 @@ use Rattle.run_theory.specs.Bench.{ago, value_at, Keeps}
 use Rattle.run_theory.specs.BenchBytes.{section_in, pair_at, pairs_in}
 use Rattle.run_theory.proofs.BenchLaws.{bench}
 use Rattle.run_theory.proofs.StepLaws.{keeps-zero, step_keeps}
-use Rattle.run_values.specs.Sheets.{Runnable, Sheet, sheet, net_of, value_of, value_back, told, StepReady, More, NodeTold}
+use Rattle.run_values.specs.Sheets.{Runnable, Sheet, sheet, value_of, told, StepReady, NodeTold}
 use Rattle.run_values.specs.SheetLaws.{runnable-sound, runnable-counts, sheet-bench, told-right, told-input, told-gate}
 use Rattle.run_step.specs.Stepping.{Ordering, Valued, next_byte, AdvanceAsked, Advanced, StepAsked, StepTold, RunTo}
 

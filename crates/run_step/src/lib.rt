@@ -6,7 +6,7 @@ ghost use Rattle.run_theory.specs.BenchBytes.{pair_at, steps_of};
 ghost use Rattle.run_values.specs.Sheets.{sheet, StepReady};
 ghost use Rattle.run_step.specs.Stepping.{Valued, next_byte, AdvanceAsked, Advanced, StepAsked, StepTold, RunTo};
 
-use inputs::{byte_at, narrow, wide};
+use inputs::{byte_at, narrow};
 use net_marks::zero;
 use net_reader::{NetSizes, order_at};
 use run_values::{node_value, told_value};
@@ -24,11 +24,9 @@ fn value_gates(
     ensures { Valued (sheet z net.now tables.now kept.now word) known.old known.new }
 {
     let at = order_at(z, net);
-    let mut i = 0;
-    while i < z.gates {
+    for i in 0..z.gates {
         let g = net[at + i];
         node_value(z, net, tables, kept, word, known, z.inputs + g, 0);
-        i += 1;
     }
 }
 
@@ -53,7 +51,7 @@ fn next_byte(byte: u8, value: usize) -> u8
     requires { value < 2 }
     ensures { result ≡ next_byte byte value }
 {
-    narrow(2 * (wide(byte) % 4) + value)
+    narrow(2 * (usize::from(byte) % 4) + value)
 }
 
 // What is kept, one step on.
@@ -61,11 +59,9 @@ pub fn advance(z: NetSizes, word: u64, known: &[usize], kept: &mut [u8])
     requires { AdvanceAsked z known.now kept.old }
     ensures { Advanced z.inputs word known.now kept.old kept.new (z.inputs + z.gates) }
 {
-    let mut v = 0;
-    while v < z.inputs + z.gates {
-        let told = told_value(z, kept, word, known, v, 0);
-        kept[v] = next_byte(kept[v], told - 1);
-        v += 1;
+    for v in 0..z.inputs + z.gates {
+        let value = told_value(z, kept, word, known, v, 0).unwrap();
+        kept[v] = next_byte(kept[v], value);
     }
 }
 
@@ -85,12 +81,6 @@ pub fn step(
     advance(z, word, known, kept);
 }
 
-fn long(x: u32) -> u64
-    ensures { result ≡ x }
-{
-    x as u64
-}
-
 // The inputs of step t: two bytes, low first.
 pub fn pair_at(pairs: &[u8], t: usize) -> u64
     requires { 2 * t + 1 < length pairs.now }
@@ -98,7 +88,7 @@ pub fn pair_at(pairs: &[u8], t: usize) -> u64
 {
     let low = byte_at(pairs, 2 * t);
     let high = byte_at(pairs, 2 * t + 1);
-    long(low + 256 * high)
+    u64::from(low + 256 * high)
 }
 
 // The whole pairs of input bytes.
@@ -121,10 +111,8 @@ pub fn run(
     ensures { RunTo z net.now tables.now pairs.now kept.old known.old kept.new known.new (steps_of pairs.now) }
 {
     let n = steps_of(pairs);
-    let mut t = 0;
-    while t < n {
+    for t in 0..n {
         let word = pair_at(pairs, t);
         step(z, net, tables, word, kept, known);
-        t += 1;
     }
 }

@@ -1,5 +1,5 @@
 -- A net that was read and that passed checks 9 to 11 can be run: what `net_reader: read_net` and `net_checks: check_graph` tell is what is asked.
-use Rattle.std.specs.Prelude.{◌≡◌, List, ℕ}
+use Rattle.std.specs.Prelude.{List, ℕ}
 use Rattle.std.proofs.Common.{sym, subst, arith}
 use Rattle.net_model.specs.Arrays.{net_in}
 use Rattle.net_model.specs.Checks.{Loopless}

@@ -1,5 +1,5 @@
 -- Laws of a step: a gate's value from its pins, what is told without pins, and why the calls end.
-use Rattle.std.specs.Prelude.{◌≡◌, Bool, cond, List, [], ◌∷◌, map, ◌⊎◌, ltb, length, get_or, drop, set}
+use Rattle.std.specs.Prelude.{◌≡◌, Bool, cond, List, map, ◌⊎◌, length, get_or, set}
 use Rattle.std.proofs.Math.Path.{refl, ap}
 use Rattle.std.proofs.Common.{sym, ap₂, ◌∙◌, subst, inl, inr, zero-add, suc-mul, mul-le-mul_right, add-one, lt-ltb, le-ltb, length-set, get_or-drop, get_or-set_other}
 use Prim.Native.Nat.{ℕ, zero, suc, ◌+◌, ◌-◌, ◌*◌, ◌/◌, ◌%◌, ◌^◌, ◌≤◌, ◌<◌}
@@ -10,17 +10,17 @@ use Rattle.std.proofs.lemmas.List.{length-map}
 use Rattle.std.proofs.Math.Seq.{get_or-set_same}
 use Rattle.limits.specs.Limits.{most_count}
 use Rattle.sequences.specs.Member.{◌∈◌}
-use Rattle.net_model.specs.Net.{Net, Pin, Gate, IsNode, IsGate, gate, pins}
+use Rattle.net_model.specs.Net.{Pin, Gate, IsNode, IsGate, pins}
 use Rattle.net_model.specs.Arrays.{net_in, pins_in, stride}
-use Rattle.net_model.specs.ArrayLaws.{pin_at, gate_at, length-pins_in, pins_in_in, in_pins_in, inputs-net_in, size-net_in, gates-net_in, outputs-net_in, gate-net_in, pins-net_in, is_gate-net_in, place_of_gate}
-use Rattle.net_model.specs.Checks.{Sound, Loopless}
+use Rattle.net_model.specs.ArrayLaws.{pin_at, length-pins_in, pins_in_in, in_pins_in, inputs-net_in, size-net_in, gates-net_in, outputs-net_in, gate-net_in, pins-net_in, is_gate-net_in, place_of_gate}
+use Rattle.net_model.specs.Checks.{Sound}
 use Rattle.net_model.specs.PackedNet.{sources_at, counts_at}
-use Rattle.net_model.specs.Tables.{bit, as_number, index, apply}
+use Rattle.net_model.specs.Tables.{bit, as_number, apply}
 use Rattle.cone_values.specs.Words.{as_number_small, index-small}
 use Rattle.net_reader.specs.ReadAnswer.{arrays_of}
 use Rattle.net_reader.specs.declared.NetSizes.{NetSizes}
 use Rattle.net_checks.specs.Graphs.{sources_of, counts_of, outs_of, delays_of}
-use Rattle.run_theory.specs.Bench.{ago, Bench, Counts, value_at}
+use Rattle.run_theory.specs.Bench.{ago, Bench, Counts}
 use Rattle.run_theory.specs.BenchBytes.{section_in}
 use Rattle.run_theory.proofs.BenchLaws.{bench}
 use Rattle.run_theory.specs.LevelOf.{level_of, level-rises, level-bound}

@@ -1,11 +1,10 @@
 -- Definitions: what a step is worked out from, and what the functions that evaluate nodes and pins ask and tell. Each step is step 0 of the run from what is kept.
-use Rattle.std.specs.Prelude.{◌≡◌, Bool, cond, List, map, ◌⊎◌, ℕ, zero, suc, ◌+◌, ◌-◌, ◌*◌, ◌/◌, ◌%◌, ◌≤◌, ◌<◌, ltb, length, get_or, drop}
+use Rattle.std.specs.Prelude.{◌≡◌, Bool, cond, List, map, ◌⊎◌, ℕ, zero, suc, ◌+◌, ◌-◌, ◌*◌, ◌/◌, ◌%◌, ◌≤◌, ◌<◌, ltb, length, get_or}
 use Rattle.limits.specs.Limits.{most_inputs, most_count}
 use Rattle.net_model.specs.Net.{Net, Pin}
 use Rattle.net_model.specs.Arrays.{net_in, pins_in, stride}
 use Rattle.net_model.specs.ArrayLaws.{pin_at}
 use Rattle.net_model.specs.Checks.{Loopless}
-use Rattle.net_model.specs.PackedNet.{sources_at, counts_at, outs_at, delays_at}
 use Rattle.net_model.specs.Tables.{bit, as_number, index}
 use Rattle.net_model.specs.Wired.{Wires}
 use Rattle.net_reader.specs.ReadAnswer.{arrays_of}

@@ -2,7 +2,7 @@
 // three steps back. `known` has a number a gate: 0, or 1 more than its value of this step.
 #![tactic(auto)]
 
-ghost use Rattle.std.specs.Prelude.{◌≡◌, ◌+◌, ◌≤◌, ◌<◌, length};
+ghost use Rattle.std.specs.Prelude.{◌≡◌, ◌+◌, ◌≤◌, ◌<◌, length, MatchOption};
 ghost use Rattle.limits.specs.Limits.{most_inputs, most_count};
 ghost use Rattle.net_model.specs.Tables.{bit, as_number};
 ghost use Rattle.run_values.specs.Sheets.{sheet, told, NodeAsked, NodeTold, PinAsked, PinTold};
@@ -10,12 +10,6 @@ ghost use Rattle.run_values.specs.Sheets.{sheet, told, NodeAsked, NodeTold, PinA
 use cone_words::value_at;
 use limits::PINS;
 use net_reader::NetSizes;
-
-fn long_byte(x: u8) -> u64
-    ensures { result ≡ x }
-{
-    x as u64
-}
 
 // Bit i of a number.
 fn bit_of(x: u64, i: usize) -> usize
@@ -25,7 +19,7 @@ fn bit_of(x: u64, i: usize) -> usize
     value_at(x, i) as usize
 }
 
-// 1 more than a node's value some steps back where no pin has to be asked: what is kept, an input, what this step has noted. Else 0.
+// A node's value some steps back where no pin has to be asked: what is kept, an input, what this step has noted.
 pub fn told_value(
     z: NetSizes,
     kept: &[u8],
@@ -33,18 +27,18 @@ pub fn told_value(
     known: &[usize],
     v: usize,
     back: usize,
-) -> usize
+) -> Option<usize>
     requires inputs_le_most_inputs { (z.inputs ≤ most_inputs) × (back ≤ most_count) }
     requires v_in_bounds { (v < length kept.now) × (v < z.inputs + length known.now) }
-    ensures { result ≡ told z.inputs kept.now word known.now v back }
+    ensures { MatchOption result (told z.inputs kept.now word known.now v back ≡ 0) (λ value. told z.inputs kept.now word known.now v back ≡ value + 1) }
 {
     if 0 < back {
-        return 1 + bit_of(long_byte(kept[v]), back - 1);
+        return Some(bit_of(u64::from(kept[v]), back - 1));
     }
     if v < z.inputs {
-        return 1 + bit_of(word, v);
+        return Some(bit_of(word, v));
     }
-    known[v - z.inputs]
+    known[v - z.inputs].checked_sub(1)
 }
 
 // Gate evaluation: the value of a node some steps back. A gate's value of this step comes from its pins, the last one first.
@@ -62,15 +56,12 @@ pub fn node_value(
     requires { NodeAsked (sheet z net.now tables.now kept.now word) known.old v back }
     ensures { NodeTold (sheet z net.now tables.now kept.now word) known.old known.new v back result }
 {
-    let told = told_value(z, kept, word, known, v, back);
-    if 0 < told {
-        return told - 1;
+    if let Some(value) = told_value(z, kept, word, known, v, back) {
+        return value;
     }
     let g = v - z.inputs;
     let mut at = 0;
-    let mut j = net[g];
-    while 0 < j {
-        j -= 1;
+    for j in (0..net[g]).rev() {
         at = 2 * at + pin_value(z, net, tables, kept, word, known, PINS * g + j);
     }
     let value = bit_of(tables[g], at);

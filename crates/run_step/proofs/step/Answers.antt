@@ -1,5 +1,4 @@
-use Rattle.run_step.specs.SteppingLaws.{valued_asks, valued_step}
-use Rattle.std.proofs.Common.{rules}
+use Rattle.run_step.specs.SteppingLaws.{valued_step}
 use Rattle.run_step.proofs.step.Goals as goal
 
 pub returns : goal.returns

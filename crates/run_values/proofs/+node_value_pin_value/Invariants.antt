@@ -1,6 +1,6 @@
 -- Gate evaluation and pin evaluation call each other. The step falls, or it stays and the registerless depth falls. The loop goes over the pins from the last one down:
 -- what is known grows, and the number made so far is that of the pins passed.
-use Rattle.std.proofs.Common.{◌≡◌, ◌+◌, ◌-◌, ◌*◌, ◌≤◌, get_or}
+use Rattle.std.proofs.Common.{◌≡◌, ◌+◌, ◌-◌, ◌*◌, get_or}
 use Rattle.net_model.specs.Arrays.{stride}
 use Rattle.run_values.specs.Sheets.{sheet, More, pins_now, node_measure, pin_measure}
 use Rattle.run_values.proofs.+node_value_pin_value.Given as goal
@@ -14,8 +14,4 @@ decreases-pin_value l = pin_measure (sheet l.z l.net.now l.tables.now l.kept.now
 abbrev pub invariant-node_value-loop-j : goal.invariant-node_value-loop-j
 invariant-node_value-loop-j l =
     More (sheet l.z l.net l.tables l.kept l.word) l.initial.known l.known
-    × (l.j ≤ get_or l.net l.g 0)
     × (l.at ≡ pins_now (sheet l.z l.net l.tables l.kept l.word) (stride * l.g + l.j) (get_or l.net l.g 0 - l.j))
-
-abbrev pub decreases-node_value-loop-j : goal.decreases-node_value-loop-j
-decreases-node_value-loop-j l = l.j
