@@ -1,5 +1,5 @@
 -- Laws of checks 14 and 15: from the walk's answers to what the definitions ask of the LUTs.
-use Rattle.std.specs.Prelude.{◌≡◌, refl, Bool, true, false, List, ℕ, ◌+◌, ◌-◌, ◌*◌, ◌^◌, ◌≤◌, ◌<◌, ℤ, length, get_or, set}
+use Rattle.std.specs.Prelude.{◌≡◌, refl, Bool, true, false, List, ℕ, ◌+◌, ◌-◌, ◌*◌, ◌^◌, ◌≤◌, ◌<◌, ℤ, length, get_or, set, Some, None}
 use Rattle.std.proofs.Common.{sym, ap, ap₂, subst₂, ◌∙◌, true≢false, not-suc-le-zero, mod-eq_of_lt, arith, get_or-set_same, get_or-set_other}
 use Rattle.std.proofs.Math.Path.{subst}
 use Rattle.std.proofs.lemmas.Bool.{false≢true}
@@ -23,7 +23,7 @@ use Rattle.cover_records.specs.HeldLaws.{luts_in_in, in_luts_in}
 use Rattle.cover_records.specs.Marking.{CutsRight, TableRight, TablesRight}
 use Rattle.cone_table.specs.ConeWords.{Tabled}
 use Rattle.cone_luts.specs.Luts.{Row}
-use Rattle.cone_luts.specs.declared.Tried.{Tried}
+use Rattle.cone_luts.specs.Luts.{LutCut}
 use Rattle.cover_cuts.specs.Cuts.{Cutting, TriedAt, Good, AllGood, CutsTried, ShortOf, WrongTold, Same, Compared, no_cut, wrong, right, CutsTold}
 
 -- ---- one table
@@ -61,11 +61,11 @@ module _ {I G : ℕ} {ps so co ts roots sizes nodes backs : List ℕ} where
     root_is : (i : ℕ) → i < n → I + (get_or roots i 0 - I) ≡ get_or roots i 0
     root_is i h = let l = a.low i h in omega arith
 
-    good-lut : (i : ℕ) → i < n → {r : Tried} → TriedAt I G ps so co ts roots sizes nodes backs i r → r.none ≡ false → Good I G ps so co ts roots sizes nodes backs k i r.table
-    good-lut i h t e = record {
+    good-lut : (i : ℕ) → i < n → {r : ℕ} → LutCut I G ps so co ts (copies_from nodes backs (stride * i) (get_or sizes i 0)) (get_or roots i 0 - I) r → Good I G ps so co ts roots sizes nodes backs k i r
+    good-lut i h t = record {
       cut = λ N w. subst (λ (v : ℕ). IsCut N k v (copies_from nodes backs (stride * i) (get_or sizes i 0))) (root_is i h)
-          (t.cut e N w k (let l = length-copies_from nodes backs (stride * i) (get_or sizes i 0) in let m = a.most i h in omega arith));
-      table = t.table e;
+          (t.cut N w k (let l = length-copies_from nodes backs (stride * i) (get_or sizes i 0) in let m = a.most i h in omega arith));
+      table = t.table;
     }
 
     -- ---- all LUTs
@@ -73,26 +73,26 @@ module _ {I G : ℕ} {ps so co ts roots sizes nodes backs : List ℕ} where
     pub good_none : {ts' : List ℕ} → AllGood I G ps so co ts roots sizes nodes backs k 0 ts'
     good_none = record { each = λ i h. absurd (not-suc-le-zero h) }
 
-    pub good-next : (tables : List ℕ) (m : ℕ) → m < n → m < length tables → AllGood I G ps so co ts roots sizes nodes backs k m tables → {r : Tried}
-        → TriedAt I G ps so co ts roots sizes nodes backs m r → r.none ≡ false
-        → AllGood I G ps so co ts roots sizes nodes backs k (m + 1) (set tables m r.table)
-    good-next tables m h room s {r} t e = record { each = λ i l. go i l (ℕ_discrete i m) }
+    pub good-next : (tables : List ℕ) (m : ℕ) → m < n → m < length tables → AllGood I G ps so co ts roots sizes nodes backs k m tables → (r : ℕ)
+        → TriedAt I G ps so co ts roots sizes nodes backs m (Some r)
+        → AllGood I G ps so co ts roots sizes nodes backs k (m + 1) (set tables m r)
+    good-next tables m h room s r t = record { each = λ i l. go i l (ℕ_discrete i m) }
       where
         At : ℕ → ℕ → Type 0
         At i x = Good I G ps so co ts roots sizes nodes backs k i x
 
-        go : (i : ℕ) → i < m + 1 → Dec (i ≡ m) → At i (get_or (set tables m r.table) i 0)
-        go i l (yes q) = subst (λ (x : ℕ). At x (get_or (set tables m r.table) x 0)) (sym q) (subst (At m) (sym (get_or-set_same tables m r.table 0 room)) (good-lut m h t e))
-        go i l (no q) = subst (At i) (sym (get_or-set_other tables m i r.table 0 q)) (s.each i (omega arith))
+        go : (i : ℕ) → i < m + 1 → Dec (i ≡ m) → At i (get_or (set tables m r) i 0)
+        go i l (yes q) = subst (λ (x : ℕ). At x (get_or (set tables m r) x 0)) (sym q) (subst (At m) (sym (get_or-set_same tables m r 0 room)) (good-lut m h t))
+        go i l (no q) = subst (At i) (sym (get_or-set_other tables m i r 0 q)) (s.each i (omega arith))
 
     pub cuts-all : {tables : List ℕ} {m : ℕ} → n ≤ m → AllGood I G ps so co ts roots sizes nodes backs k m tables → CutsTried I G ps so co ts roots sizes nodes backs k n tables false
     cuts-all h s = record { good = λ e. record { each = λ i l. s.each i (omega arith) }; bad = λ e. absurd (false≢true e) }
 
-    pub cuts-not : {tables : List ℕ} (i : ℕ) → i < n → {r : Tried} → TriedAt I G ps so co ts roots sizes nodes backs i r → r.none ≡ true
+    pub cuts-not : {tables : List ℕ} (i : ℕ) → i < n → TriedAt I G ps so co ts roots sizes nodes backs i None
         → CutsTried I G ps so co ts roots sizes nodes backs k n tables true
-    cuts-not i h t e = record {
+    cuts-not i h t = record {
       good = λ q. absurd (true≢false q);
-      bad = λ q. (i, h, λ N w R. subst (λ (v : ℕ). ¬ IsCut N k v (copies_from nodes backs (stride * i) (get_or sizes i 0))) (root_is i h) (t.none e N w R k));
+      bad = λ q. (i, h, λ N w R. subst (λ (v : ℕ). ¬ IsCut N k v (copies_from nodes backs (stride * i) (get_or sizes i 0))) (root_is i h) (t N w R k));
     }
 
     -- ---- the definitions

@@ -1,5 +1,5 @@
 -- Definitions: what checks 14 and 15 of a candidate's LUTs ask and tell. LUT i has its leaves from place stride·i on.
-use Rattle.std.specs.Prelude.{◌≡◌, Bool, true, false, List, ℕ, ◌+◌, ◌-◌, ◌*◌, ◌≤◌, ◌<◌, ℤ, length, get_or}
+use Rattle.std.specs.Prelude.{◌≡◌, Bool, true, false, List, ℕ, ◌+◌, ◌-◌, ◌*◌, ◌≤◌, ◌<◌, ℤ, length, get_or, Option}
 use Rattle.net_model.specs.Net.{Net}
 use Rattle.net_model.specs.Checks.{Loopless}
 use Rattle.net_model.specs.Copies.{IsCut, Rising}
@@ -14,7 +14,6 @@ use Rattle.cover_records.specs.Marking.{CutsRight, TablesRight}
 use Rattle.cone_copies.specs.CopyLists.{SmallWires}
 use Rattle.cone_table.specs.ConeWords.{Tabled}
 use Rattle.cone_luts.specs.Luts.{LutTable, LutTried}
-use Rattle.cone_luts.specs.declared.Tried.{Tried}
 
 -- the arrays of a net's gates and of n LUTs: roots are gates, leaves at most k and rising
 pub record Cutting (I G : ℕ) (ps so co ts roots sizes nodes backs : List ℕ) (k n : ℕ) : Type 0 where
@@ -31,7 +30,7 @@ pub record Cutting (I G : ℕ) (ps so co ts roots sizes nodes backs : List ℕ) 
   pub rising : (i : ℕ) → i < n → Rising (copies_from nodes backs (stride * i) (get_or sizes i 0))
 
 -- what is known of the leaves of LUT i: whether they are a cut of its root, and then the full table
-abbrev pub TriedAt : ℕ → ℕ → List ℕ → List ℕ → List ℕ → List ℕ → List ℕ → List ℕ → List ℕ → List ℕ → ℕ → Tried → Type 0
+abbrev pub TriedAt : ℕ → ℕ → List ℕ → List ℕ → List ℕ → List ℕ → List ℕ → List ℕ → List ℕ → List ℕ → ℕ → Option ℕ → Type 0
 TriedAt I G ps so co ts roots sizes nodes backs i r = LutTried I G ps so co ts (copies_from nodes backs (stride * i) (get_or sizes i 0)) (get_or roots i 0 - I) r
 
 -- the leaves of LUT i are a cut of its root, and t is its full table

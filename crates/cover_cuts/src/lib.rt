@@ -6,11 +6,13 @@ ghost use Rattle.limits.specs.Limits.{most_luts, most_pins, most_table};
 ghost use Rattle.net_model.specs.PackedNet.{sources_at, counts_at, nexts_at};
 ghost use Rattle.cover_records.specs.Rows.{sizes_in, nodes_in, backs_in, row_room};
 ghost use Rattle.cone_descent.specs.Descent.{Clear};
+ghost use Rattle.refusals.specs.Refusals.{code_of};
 ghost use Rattle.cover_cuts.specs.Cuts.{Cutting, CutsTried, WrongTold, Compared, CutsTold};
 
 use cone_luts::try_row;
 use cone_words::{low, whole};
 use limits::LUTS;
+use refusals::Refusal;
 
 // Whether some LUT's leaves are no cut. Where none are, right has the full tables.
 fn no_cuts(
@@ -30,15 +32,12 @@ fn no_cuts(
     ensures cuts_tried { CutsTried inputs gates net.now (drop (sources_at gates) net.now) (drop (counts_at gates) net.now) tables.now rows.now (sizes_in n rows.now) (nodes_in n rows.now) (backs_in n rows.now) k n right.new result }
     ensures clear { Clear work.new }
 {
-    let mut i = 0;
-    while i < n {
+    for i in 0..n {
         let g = rows[i] - inputs;
-        let t = try_row(inputs, gates, net, tables, rows, n, i, g, work);
-        if t.none {
-            return true;
+        match try_row(inputs, gates, net, tables, rows, n, i, g, work) {
+            None => return true,
+            Some(full) => right[i] = full,
         }
-        right[i] = t.table;
-        i += 1;
     }
     false
 }
@@ -48,13 +47,7 @@ fn is_wrong(table: u64, n: usize, full: u64) -> bool
     requires { n ≤ most_pins }
     ensures { WrongTold table n full result }
 {
-    if low(table, n) != table {
-        return true;
-    }
-    if whole(table, n) != full {
-        return true;
-    }
-    false
+    low(table, n) != table || whole(table, n) != full
 }
 
 // Whether some of the first n tables is not the short form of its full one.
@@ -62,17 +55,15 @@ fn some_wrong(tables: &[u64], sizes: &[usize], fulls: &[u64], n: usize) -> bool
     requires { (n ≤ length tables.now) × (n ≤ length sizes.now) × (n ≤ length fulls.now) × ((i : ℕ) → i < n → get_or sizes.now i 0 ≤ most_pins) }
     ensures { Compared tables.now sizes.now fulls.now n result }
 {
-    let mut i = 0;
-    while i < n {
+    for i in 0..n {
         if is_wrong(tables[i], sizes[i], fulls[i]) {
             return true;
         }
-        i += 1;
     }
     false
 }
 
-// 0, or the number of the first of 14 and 15 that fails; 14 over all LUTs before 15.
+// Checks 14 and 15 in this order: 14 over all LUTs before 15.
 pub fn check_luts(
     inputs: usize,
     gates: usize,
@@ -83,21 +74,21 @@ pub fn check_luts(
     k: usize,
     n: usize,
     work: &mut [u8],
-) -> usize
+) -> Result<(), Refusal>
     requires cutting { Cutting inputs gates net.now (drop (sources_at gates) net.now) (drop (counts_at gates) net.now) tables.now rows.now (sizes_in n rows.now) (nodes_in n rows.now) (backs_in n rows.now) k n × (n ≤ most_luts) × (n ≤ length luts.now) }
     requires gates_in_bounds { (nexts_at gates ≤ length net.now) × (row_room n ≤ length rows.now) }
     requires most_table_in_bounds { (most_table ≤ length work.old) × Clear work.old }
-    ensures cuts_told { CutsTold inputs gates net.now (drop (sources_at gates) net.now) (drop (counts_at gates) net.now) tables.now rows.now (sizes_in n rows.now) (nodes_in n rows.now) (backs_in n rows.now) luts.now k n result }
+    ensures cuts_told { CutsTold inputs gates net.now (drop (sources_at gates) net.now) (drop (counts_at gates) net.now) tables.now rows.now (sizes_in n rows.now) (nodes_in n rows.now) (backs_in n rows.now) luts.now k n (code_of result) }
     ensures clear { Clear work.new }
 {
     let mut right = [0u64; LUTS];
     let uncut = no_cuts(inputs, gates, net, tables, rows, k, n, &mut right, work);
     let wrong = some_wrong(luts, &rows[n..], &right, n);
     if uncut {
-        return 14;
+        return Err(Refusal::NoCut);
     }
     if wrong {
-        return 15;
+        return Err(Refusal::WrongTable);
     }
-    0
+    Ok(())
 }

@@ -1,12 +1,8 @@
 use mathlib.Core.List.{List}
-use Prim.Native.Nat.{ℕ, ◌≤◌, ◌<◌}
-use native.Mathlib.Omega.{arith}
-use lib.ListN.{length, get_or}
-use Rattle.limits.specs.Limits.{most_pins}
-use Rattle.net_model.specs.PackedNetLaws.{to_part, from-part}
+use Prim.Native.Nat.{ℕ}
+use Rattle.net_model.specs.PackedNetLaws.{from-part}
 use Rattle.cover_cuts.specs.Cuts.{Compared}
-use Rattle.cover_cuts.specs.CutLaws.{few-leaves, told_no_cut, told-wrong, told-right}
-use Rattle.std.proofs.Common.{rules}
+use Rattle.cover_cuts.specs.CutLaws.{told_no_cut, told-wrong, told-right}
 use Rattle.cover_cuts.proofs.check_luts.Goals as goal
 
 pub returns-then-uncut : goal.returns-then-uncut
