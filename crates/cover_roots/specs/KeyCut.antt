@@ -1,8 +1,7 @@
 -- The cut that the engine tells at a gate's own label is the one that every key of the net has there.
-use Rattle.std.specs.Prelude.{◌≡◌, refl, ◌⊎◌, List, [], ◌∷◌, ℕ, zero, suc, ◌+◌, ◌*◌, ◌≤◌, ◌<◌, ℤ, pos, ◌-ℤ◌, length, get_or, ◌≤ℤ◌}
+use Rattle.std.specs.Prelude.{◌≡◌, refl, Bool, true, false, ◌⊎◌, List, [], ◌∷◌, ℕ, zero, suc, ◌+◌, ◌*◌, ◌≤◌, ◌<◌, ℤ, pos, ◌-ℤ◌, length, get_or, ◌≤ℤ◌}
 use Rattle.std.proofs.Common.{sym, ap, subst, ◌∙◌, inl, inr, add-zero, arith}
 use Rattle.std.proofs.Math.Path.{fun_ext}
-use Rattle.std.proofs.Math.Decide.{dec_le}
 use Rattle.integers.specs.Order.{≤ℤ_trans}
 use Rattle.integers.specs.Parts.{ints, +-parts, sub_parts}
 use Rattle.integers.proofs.Height.{height-parts}
@@ -74,7 +73,7 @@ module _ {M : Mode} (s : Extent) (net slots : List ℕ) (b : ℕ) {ls : List ℤ
   is_gate : IsGate c.net v
   is_gate = gate-of c.holds g gate
 
-  module _ {h : ℤ} {r : ℕ} (e : h ≡ label_in ls v) (border : BorderTold M φ h s.border b) (a : Decides (packed_of (bordered s b) net slots) ls φ k g h r) where
+  module _ {h : ℤ} (e : h ≡ label_in ls v) (border : BorderTold M φ h s.border b) where
     -- the border says what the mode asks of members
     near : Bordered (Inside M φ h) (k * reach_of c.net) b
     near = border.bordered _ c.border (subst (Topped M φ) (c.label v ∙ sym e) (labelling-top c.key.least.labelling v is_gate))
@@ -85,17 +84,14 @@ module _ {M : Mode} (s : Extent) (net slots : List ℕ) (b : ℕ) {ls : List ℤ
         (subst (λ (lab : ℕ → ℤ). LowCutIn M c.net k φ lab v (lab v)) label_is (c.key.cut v is_gate))
 
     -- **There is a cut,**
-    pub told-few : r ≤ k
-    told-few = go (dec_le r k)
-      where
-        go : Dec (r ≤ k) → r ≤ k
-        go (yes l) = l
-        go (no n) = absurd (a.none c.net (holds_of b slots c.holds) c.ranked c.loopless M h near (omega arith) key-cut)
+    pub told-found : {found : Bool} → Decides (packed_of (bordered s b) net slots) ls φ k g h found → found ≡ true
+    told-found {found = true} a = refl
+    told-found {found = false} a = absurd (a.none c.net (holds_of b slots c.holds) c.ranked c.loopless M h near refl key-cut)
 
     -- **and its leaves are the key's.**
-    pub told-leaves : {nodes backs : List ℕ} → Written (packed_of (bordered s b) net slots) ls φ k g h nodes backs r → copies_from nodes backs 0 r ≡ c.key.leaves v
-    told-leaves {nodes} {backs} w =
-        let x = w.leaves c.net (holds_of b slots c.holds) c.ranked c.loopless told-few in
+    pub told-leaves : {r : ℕ} {nodes backs : List ℕ} → r ≤ k → Written (packed_of (bordered s b) net slots) ls φ k g h nodes backs r → copies_from nodes backs 0 r ≡ c.key.leaves v
+    told-leaves {r} {nodes} {backs} few w =
+        let x = w.leaves c.net (holds_of b slots c.holds) c.ranked c.loopless few in
         let y = subst (λ (z : ℤ). (p : Separated c.net v φ (label_in ls) z b k r) × (p.parted.leaves ≡ copies_from nodes backs 0 r)) e x in
         let z = subst (λ (lab : ℕ → ℤ). (p : Separated c.net v φ lab (lab v) b k r) × (p.parted.leaves ≡ copies_from nodes backs 0 r)) (sym label_is) y in
         let t = subst (λ (z : ℤ). Bordered (Inside M φ z) (k * reach_of c.net) b) (e ∙ sym (c.label v)) near in

@@ -1,5 +1,5 @@
 -- Definitions: marks: 0 for a gate that is no root so far, 1 for a root whose cut is still to be taken, 2 for one whose cut is taken.
-use Rattle.std.specs.Prelude.{◌≡◌, List, ℕ, zero, suc, ◌+◌, ◌-◌, ◌≤◌, ◌<◌, get_or}
+use Rattle.std.specs.Prelude.{◌≡◌, List, Option, MatchOption, ℕ, zero, suc, ◌+◌, ◌-◌, ◌≤◌, ◌<◌, get_or}
 
 -- gate g is node u
 pub record IsAt (I G u g : ℕ) : Type 0 where
@@ -19,11 +19,10 @@ pub record Marks (P : ℕ → Type 0) (m m' : List ℕ) : Type 0 where
   pub new : (g : ℕ) → get_or m g 0 ≡ 0 → ¬ (get_or m' g 0 ≡ 0) → (get_or m' g 0 ≡ 1) × P g
   pub marked : (g : ℕ) → P g → ¬ (get_or m' g 0 ≡ 0)
 
--- the first gate whose cut is still to be taken, or their number
-pub record Pending (m : List ℕ) (n r : ℕ) : Type 0 where
-  pub bound : r ≤ n
-  pub found : r < n → get_or m r 0 ≡ 1
-  pub before : (g : ℕ) → g < r → ¬ (get_or m g 0 ≡ 1)
+-- the first of n gates whose cut is still to be taken, if there is one
+abbrev pub Pending : List ℕ → ℕ → Option ℕ → Type 0
+Pending m n r =
+    MatchOption r ((g : ℕ) → g < n → ¬ (get_or m g 0 ≡ 1)) (λ g. (g < n) × (get_or m g 0 ≡ 1) × ((u : ℕ) → u < g → ¬ (get_or m u 0 ≡ 1)))
 
 -- what is left to do for the first n gates
 unfoldable pub left : List ℕ → ℕ → ℕ

@@ -1,5 +1,5 @@
 -- Definitions: one root after another: what holds of the cover kept between two of them, and at the end.
-use Rattle.std.specs.Prelude.{◌≡◌, List, ℕ, ◌+◌, ◌*◌, ◌≤◌, ◌<◌, ℤ, get_or}
+use Rattle.std.specs.Prelude.{◌≡◌, List, Option, Some, None, IfSome, ℕ, ◌+◌, ◌*◌, ◌≤◌, ◌<◌, ℤ, get_or}
 use Rattle.net_model.specs.Copies.{Copy}
 use Rattle.net_model.specs.Arrays.{stride, copies_from}
 use Rattle.cover_theory.specs.Key.{Root}
@@ -9,10 +9,9 @@ use Rattle.cut_circuit.specs.Circuit.{Circuit}
 use Rattle.cover_roots.specs.Choosing.{Keyed, Reads}
 use Rattle.cover_roots.specs.RootMarks.{Among, Marks}
 
--- The first r numbers of two lists are the leaves of gate g's chosen cut.
-pub record CutWritten (M : Mode) (C : Circuit) (ls : List ℤ) (φ k g : ℕ) (nodes backs : List ℕ) (r : ℕ) : Type 0 where
-  pub few : Keyed M C ls φ k → r ≤ k
-  pub leaves : (c : Keyed M C ls φ k) → copies_from nodes backs 0 r ≡ c.key.leaves (C.inputs + g)
+-- Leaves were found, and the first numbers of two lists are those of gate g's chosen cut.
+pub record CutWritten (M : Mode) (C : Circuit) (ls : List ℤ) (φ k g : ℕ) (nodes backs : List ℕ) (found : Option ℕ) : Type 0 where
+  pub leaves : (c : Keyed M C ls φ k) → (r : ℕ) × (found ≡ Some r) × (r ≤ k) × (copies_from nodes backs 0 r ≡ c.key.leaves (C.inputs + g))
 
 -- of a part that ends at a place, only the places of one gate, from place `at` on, may differ
 pub record Beside (at end : ℕ) (xs ys : List ℕ) : Type 0 where
@@ -38,24 +37,25 @@ pub record RowKept (G g r : ℕ) (nodes backs old new : List ℕ) : Type 0 where
   pub closed : Closed G g old new
   pub leaves : LeavesKept G g r nodes backs new
 
--- u is one of r leaves, if they are at most k
-abbrev pub LeafGate : ℕ → ℕ → ℕ → ℕ → List ℕ → ℕ → Type 0
-LeafGate I G k r nodes u = (r ≤ k) × Among I G nodes 0 r u
+-- u is one of the leaves that were found
+abbrev pub LeafGate : ℕ → ℕ → List ℕ → Option ℕ → ℕ → Type 0
+LeafGate I G nodes None u = ⊥
+LeafGate I G nodes (Some r) u = Among I G nodes 0 r u
 
--- Gate g is done: its r leaves are kept, if they are at most k, and then those that are gates are marked.
-pub record Stored (I G k g r : ℕ) (nodes backs old new : List ℕ) : Type 0 where
+-- Gate g is done: the leaves that were found are kept, and then those that are gates are marked.
+pub record Stored (I G g : ℕ) (nodes backs : List ℕ) (found : Option ℕ) (old new : List ℕ) : Type 0 where
   pub mid : List ℕ
   pub closed : Closed G g old mid
-  pub leaves : r ≤ k → LeavesKept G g r nodes backs mid
-  pub marking : Marks (LeafGate I G k r nodes) mid new
+  pub leaves : IfSome found (λ r. LeavesKept G g r nodes backs mid)
+  pub marking : Marks (LeafGate I G nodes found) mid new
 
 -- The cut is taken and gate g is done.
 pub record Taken (M : Mode) (C : Circuit) (ls : List ℤ) (φ k g : ℕ) (old new : List ℕ) : Type 0 where
-  pub count : ℕ
+  pub found : Option ℕ
   pub nodes : List ℕ
   pub backs : List ℕ
-  pub cut : CutWritten M C ls φ k g nodes backs count
-  pub stored : Stored C.inputs C.gates k g count nodes backs old new
+  pub cut : CutWritten M C ls φ k g nodes backs found
+  pub stored : Stored C.inputs C.gates g nodes backs found old new
 
 -- The leaves of gate g are L, and those that are gates are marked.
 pub record Done (I G k g : ℕ) (L : List Copy) (rows : List ℕ) : Type 0 where

@@ -1,7 +1,9 @@
 -- Laws of the choice of roots.
-use Rattle.std.specs.Prelude.{◌≡◌, refl, List, [], ℕ, ◌+◌, ◌-◌, ◌*◌, ◌≤◌, ◌<◌, ℤ, length, drop}
+use Rattle.std.specs.Prelude.{◌≡◌, refl, false, Option, Some, None, IfSome, List, [], ℕ, ◌+◌, ◌-◌, ◌*◌, ◌≤◌, ◌<◌, ℤ, length, drop}
 use Rattle.std.proofs.Common.{sym, subst, ◌∙◌, zero-add, arith}
 use Rattle.std.proofs.Math.Path.{ap}
+use Rattle.std.proofs.lemmas.Bool.{false≢true}
+use Rattle.std.specs.Option.{is_some}
 use Rattle.std.proofs.Math.Decide.{ℕ_discrete, dec_lt}
 use Rattle.std.proofs.Math.ListN.{get_or, set, length-set}
 use Rattle.std.proofs.Math.Seq.{get_or-set_same, get_or-set_other, get_or-drop}
@@ -20,7 +22,7 @@ use Rattle.cover_roots.specs.Choosing.{Chooses, Keyed, Reads, RootsTold}
 use Rattle.cover_roots.specs.RootMarks.{IsAt, Among, Marks, left}
 use Rattle.cover_roots.specs.RootMarksLaws.{left-falls, marks-none, marks-behind}
 use Rattle.cut_circuit.specs.Bridge.{gate-of}
-use Rattle.cover_roots.specs.KeyCut.{told-few, told-leaves, copies-same}
+use Rattle.cover_roots.specs.KeyCut.{told-found, told-leaves, copies-same}
 use Rattle.cover_roots.specs.RootRounds.{CutWritten, Beside, LeavesKept, RowKept, LeafGate, Stored, Taken, Done, Choosing}
 use Rattle.signed.specs.Range.{label_in}
 use Rattle.cut_question.specs.Question.{Decides, Written}
@@ -32,16 +34,19 @@ use Rattle.cut_circuit.specs.declared.Extent.{Extent}
 
 -- ---- what one root adds
 
-pub cut-written : {M : Mode} {s e : Extent} {net slots : List ℕ} {ls : List ℤ} {φ k : ℕ} (g : ℕ) {h : ℤ} {r : ℕ} {nodes backs : List ℕ} → g < s.gates → Bordering M φ h s e
-    → Decides (packed_of e net slots) ls φ k g h r → Written (packed_of e net slots) ls φ k g h nodes backs r → h ≡ label_in ls (s.inputs + g) → CutWritten M (packed_of s net []) ls φ k g nodes backs r
-cut-written {M} {s} {e} {net} {slots} {ls} {φ} {k} g {h} {r} {nodes} {backs} l B a w z =
-    let a' = subst (λ (x : Extent). Decides (packed_of x net slots) ls φ k g h r) (bordering_is B) a in
+pub cut-written : {M : Mode} {s e : Extent} {net slots : List ℕ} {ls : List ℤ} {φ k : ℕ} (g : ℕ) {h : ℤ} {found : Option ℕ} {nodes backs : List ℕ} → g < s.gates → Bordering M φ h s e
+    → Decides (packed_of e net slots) ls φ k g h (is_some found) → IfSome found (λ r. r ≤ k) → IfSome found (λ r. Written (packed_of e net slots) ls φ k g h nodes backs r) → h ≡ label_in ls (s.inputs + g)
+    → CutWritten M (packed_of s net []) ls φ k g nodes backs found
+cut-written {M} {s} {e} {net} {slots} {ls} {φ} {k} g {h} {found = None} l B a few w z =
+    let a' = subst (λ (x : Extent). Decides (packed_of x net slots) ls φ k g h false) (bordering_is B) a in
+    record { leaves = λ c. absurd (false≢true (told-found s net slots e.border g l c z B.border a')) }
+cut-written {M} {s} {e} {net} {slots} {ls} {φ} {k} g {h} {found = Some r} {nodes} {backs} l B a few w z =
     let w' = subst (λ (x : Extent). Written (packed_of x net slots) ls φ k g h nodes backs r) (bordering_is B) w in
-    record { few = λ c. told-few s net slots e.border g l c z B.border a'; leaves = λ c. told-leaves s net slots e.border g l c z B.border a' w' }
+    record { leaves = λ c. (r, refl, few, told-leaves s net slots e.border g l c z B.border few w') }
 
 -- no leaves
-pub stored-none : {I G k g r : ℕ} {nodes backs rows : List ℕ} → k < r → g < G → row_room G ≤ length rows → Stored I G k g r nodes backs rows (set rows g 2)
-stored-none {G = G} {g = g} {rows = rows} h l room = record {
+pub stored-none : {I G g : ℕ} {nodes backs rows : List ℕ} → g < G → row_room G ≤ length rows → Stored I G g nodes backs None rows (set rows g 2)
+stored-none {G = G} {g = g} {rows = rows} l room = record {
   mid = set rows g 2;
   closed = record {
     mark = get_or-set_same rows g 2 0 (omega (arith, l, room));
@@ -50,8 +55,8 @@ stored-none {G = G} {g = g} {rows = rows} h l room = record {
     beside_nodes = record { before = λ i m. node i; behind = λ i m z. node i };
     beside_backs = record { before = λ i m. back i; behind = λ i m z. back i };
   };
-  leaves = λ m. absurd (omega (arith, m, h));
-  marking = marks-none (set rows g 2) (λ u p. absurd (omega (arith, p.0, h)));
+  leaves = tt;
+  marking = marks-none (set rows g 2) (λ u p. absurd p);
 }
   where
     other : (u : ℕ) → ¬ (u ≡ g) → get_or (set rows g 2) u 0 ≡ get_or rows u 0
@@ -63,17 +68,13 @@ stored-none {G = G} {g = g} {rows = rows} h l room = record {
     back : (i : ℕ) → get_or (backs_in G (set rows g 2)) i 0 ≡ get_or (backs_in G rows) i 0
     back i = part_same rows (set rows g 2) ((2 + stride) * G) i (other ((2 + stride) * G + i) (omega (arith, l)))
 
-pub stored_some : {I G k g r : ℕ} {nodes backs rows mid new : List ℕ} → r ≤ k → RowKept G g r nodes backs rows mid → Marks (Among I G nodes 0 r) mid new → Stored I G k g r nodes backs rows new
-stored_some {mid = mid} h w a = record {
-  mid = mid;
-  closed = w.closed;
-  leaves = λ x. w.leaves;
-  marking = record {
-    kept = a.kept;
-    new = λ u z n. let x = a.new u z n in (x.0, (h, x.1));
-    marked = λ u p. a.marked u p.1;
-  };
-}
+pub stored_some : {I G g r : ℕ} {nodes backs rows mid new : List ℕ} → RowKept G g r nodes backs rows mid → Marks (Among I G nodes 0 r) mid new → Stored I G g nodes backs (Some r) rows new
+stored_some {mid = mid} w a = record { mid = mid; closed = w.closed; leaves = w.leaves; marking = a }
+
+-- a leaf that is marked is a gate
+leaf_in : (I G u : ℕ) (nodes : List ℕ) (found : Option ℕ) → LeafGate I G nodes found u → u < G
+leaf_in I G u nodes None p = absurd p
+leaf_in I G u nodes (Some r) p = p.is_at.gate
 
 -- a mark, a number of leaves, their nodes and their d
 module _ (G g r : ℕ) (old : List ℕ) {nodes backs mid new : List ℕ} (h : g < G) (few : r ≤ stride) (room : row_room G ≤ length old)
@@ -173,7 +174,7 @@ module _ {M : Mode} {C : Circuit} {ls : List ℤ} {φ k g : ℕ} {rows rows' : L
   abbrev mid : List ℕ
   mid = t.stored.mid
 
-  marking : Marks (LeafGate C.inputs G k t.count t.nodes) mid rows'
+  marking : Marks (LeafGate C.inputs G t.nodes t.found) mid rows'
   marking = t.stored.marking
 
   after-g : get_or rows' g 0 ≡ 2
@@ -183,12 +184,12 @@ module _ {M : Mode} {C : Circuit} {ls : List ℤ} {φ k g : ℕ} {rows rows' : L
   after-other : (u : ℕ) → u < G → ¬ (u ≡ g) → ¬ (get_or rows u 0 ≡ 0) → get_or rows' u 0 ≡ get_or rows u 0
   after-other u l n z = let e = t.stored.closed.marks u l n in marking.kept u (λ w. z (sym e ∙ w)) ∙ e
 
-  after-new : (u : ℕ) → u < G → ¬ (u ≡ g) → get_or rows u 0 ≡ 0 → ¬ (get_or rows' u 0 ≡ 0) → (get_or rows' u 0 ≡ 1) × LeafGate C.inputs G k t.count t.nodes u
+  after-new : (u : ℕ) → u < G → ¬ (u ≡ g) → get_or rows u 0 ≡ 0 → ¬ (get_or rows' u 0 ≡ 0) → (get_or rows' u 0 ≡ 1) × LeafGate C.inputs G t.nodes t.found u
   after-new u l n z w = marking.new u (t.stored.closed.marks u l n ∙ z) w
 
   -- the places behind the marks
   after-behind : (a i : ℕ) → G ≤ a → get_or (drop a rows') i 0 ≡ get_or (drop a mid) i 0
-  after-behind a i l = part_same mid rows' a i (marks-behind marking (λ u p. p.1.is_at.gate) (a + i) (omega (arith, l)))
+  after-behind a i l = part_same mid rows' a i (marks-behind marking (λ u p. leaf_in C.inputs G u t.nodes t.found p) (a + i) (omega (arith, l)))
 
   after-size : (u : ℕ) → get_or (sizes_in G rows') u 0 ≡ get_or (sizes_in G mid) u 0
   after-size u = after-behind G u (omega arith)
@@ -268,34 +269,38 @@ module _ {M : Mode} {C : Circuit} {ls : List ℤ} {φ k g : ℕ} {rows rows' : L
         go d (no z) = a.root c o u l z
         go (yes e) (yes z) = absurd (omega (arith, sym (ap (λ (x : ℕ). get_or rows x 0) e) ∙ z, one))
         go (no m) (yes z) =
-            let p = (after-new u l m z w).1.1 in
+            let x = t.cut.leaves c in
+            let p = subst (λ (f : Option ℕ). LeafGate C.inputs G t.nodes f u) x.1 (after-new u l m z w).1 in
             leaf (C.inputs + g) (copy_at t.nodes t.backs p.place) (a.root c o g h (λ q. omega (arith, q, one)))
-            (subst (λ (L : List Copy). copy_at t.nodes t.backs p.place ∈ L) (t.cut.leaves c) (in_copies_from t.nodes t.backs 0 t.count p.place p.low (omega (arith, p.high))))
+            (subst (λ (L : List Copy). copy_at t.nodes t.backs p.place ∈ L) x.3 (in_copies_from t.nodes t.backs 0 x.0 p.place p.low (omega (arith, p.high))))
             p.is_at.node (gate-of c.holds u l)
 
     next-done : (c : Keyed M C ls φ k) → (u : ℕ) → u < G → get_or rows' u 0 ≡ 2 → Done C.inputs G k u (c.key.leaves (C.inputs + u)) rows'
     next-done c u l w = go (ℕ_discrete u g) (ℕ_discrete (get_or rows u 0) 0)
       where
-        r : t.count ≤ k
-        r = t.cut.few c
+        found : t.found ≡ Some (t.cut.leaves c).0
+        found = (t.cut.leaves c).1
 
-        kept : LeavesKept G g t.count t.nodes t.backs mid
-        kept = t.stored.leaves (t.cut.few c)
+        r : (t.cut.leaves c).0 ≤ k
+        r = (t.cut.leaves c).2
 
-        e : get_or (sizes_in G rows') g 0 ≡ t.count
-        e = after-size g ∙ (t.stored.leaves (t.cut.few c)).size
+        kept : LeavesKept G g (t.cut.leaves c).0 t.nodes t.backs mid
+        kept = subst (λ (f : Option ℕ). IfSome f (λ r. LeavesKept G g r t.nodes t.backs mid)) found t.stored.leaves
 
-        node : (i : ℕ) → i < t.count → get_or (nodes_in G rows') (stride * g + i) 0 ≡ get_or t.nodes i 0
-        node i m = after-node (stride * g + i) ∙ (t.stored.leaves (t.cut.few c)).node i m
+        e : get_or (sizes_in G rows') g 0 ≡ (t.cut.leaves c).0
+        e = after-size g ∙ kept.size
 
-        back : (i : ℕ) → i < t.count → get_or (backs_in G rows') (stride * g + i) 0 ≡ get_or t.backs i 0
-        back i m = after-back (stride * g + i) ∙ (t.stored.leaves (t.cut.few c)).back i m
+        node : (i : ℕ) → i < (t.cut.leaves c).0 → get_or (nodes_in G rows') (stride * g + i) 0 ≡ get_or t.nodes i 0
+        node i m = after-node (stride * g + i) ∙ kept.node i m
+
+        back : (i : ℕ) → i < (t.cut.leaves c).0 → get_or (backs_in G rows') (stride * g + i) 0 ≡ get_or t.backs i 0
+        back i m = after-back (stride * g + i) ∙ kept.back i m
 
         -- a gate leaf in its place is one of those that were written
-        written : (v : ℕ) → Among C.inputs G (nodes_in G rows') (stride * g) (stride * g + get_or (sizes_in G rows') g 0) v → Among C.inputs G t.nodes 0 t.count v
+        written : (v : ℕ) → Among C.inputs G (nodes_in G rows') (stride * g) (stride * g + get_or (sizes_in G rows') g 0) v → Among C.inputs G t.nodes 0 (t.cut.leaves c).0 v
         written v p =
             let i = p.place - stride * g in
-            let m : i < t.count = omega (arith, p.low, p.high, e) in
+            let m : i < (t.cut.leaves c).0 = omega (arith, p.low, p.high, e) in
             record {
               place = i;
               low = omega arith;
@@ -303,14 +308,17 @@ module _ {M : Mode} {C : Circuit} {ls : List ℤ} {φ k g : ℕ} {rows rows' : L
               is_at = subst (λ (x : ℕ). IsAt C.inputs G x v) (ap (λ (x : ℕ). get_or (nodes_in G rows') x 0) (omega (arith, p.low)) ∙ node i m) p.is_at;
             }
 
+        leaves : copies_from t.nodes t.backs 0 (t.cut.leaves c).0 ≡ c.key.leaves (C.inputs + g)
+        leaves = (t.cut.leaves c).3
+
         this : Done C.inputs G k g (c.key.leaves (C.inputs + g)) rows'
         this = record {
           size = omega (arith, e, r);
           leaves = ap (copies_from (nodes_in G rows') (backs_in G rows') (stride * g)) e
-              ∙ copies-same (nodes_in G rows') (backs_in G rows') t.nodes t.backs (stride * g) 0 t.count
+              ∙ copies-same (nodes_in G rows') (backs_in G rows') t.nodes t.backs (stride * g) 0 (t.cut.leaves c).0
               (λ i m. node i m ∙ ap (λ (x : ℕ). get_or t.nodes x 0) (sym (zero-add i))) (λ i m. back i m ∙ ap (λ (x : ℕ). get_or t.backs x 0) (sym (zero-add i)))
-              ∙ t.cut.leaves c;
-          closed = λ v p. marking.marked v (r, written v p);
+              ∙ leaves;
+          closed = λ v p. marking.marked v (subst (λ (f : Option ℕ). LeafGate C.inputs G t.nodes f v) (sym found) (written v p));
         }
 
         go : Dec (u ≡ g) → Dec (get_or rows u 0 ≡ 0) → Done C.inputs G k u (c.key.leaves (C.inputs + u)) rows'

@@ -1,7 +1,7 @@
 // The chosen roots of a cover and the chosen cut of each: from the outputs back, one root after another. They are kept in one slice, rows.
 #![tactic(auto)]
 
-ghost use Rattle.std.specs.Prelude.{◌≡◌, false, [], ◌≤◌, ◌<◌, length};
+ghost use Rattle.std.specs.Prelude.{◌≡◌, false, IfSome, [], ◌≤◌, ◌<◌, length};
 ghost use Rattle.net_model.specs.Arrays.{stride};
 ghost use Rattle.net_model.specs.PackedNet.{packed_room};
 ghost use Rattle.cover_records.specs.Rows.{sizes_in, nodes_in, backs_in, row_room};
@@ -29,13 +29,9 @@ fn mark(inputs: usize, gates: usize, marks: &mut [usize], u: usize)
         return;
     }
     let g = u - inputs;
-    if gates <= g {
-        return;
+    if g < gates && marks[g] == 0 {
+        marks[g] = 1;
     }
-    if marks[g] != 0 {
-        return;
-    }
-    marks[g] = 1;
 }
 
 // Marks the gates among the nodes from one place up to another.
@@ -50,26 +46,17 @@ fn mark_nodes(
     requires { (gates ≤ length marks.old) × (from ≤ to) × (to ≤ length nodes.now) }
     ensures { Marks (Among inputs gates nodes.now from to) marks.old marks.new }
 {
-    let mut i = from;
-    while i < to {
+    for i in from..to {
         mark(inputs, gates, marks, nodes[i]);
-        i += 1;
     }
 }
 
-// The first of n gates whose mark is 1, or n.
-fn pending(marks: &[usize], n: usize) -> usize
+// The first of n gates whose mark is 1.
+fn pending(marks: &[usize], n: usize) -> Option<usize>
     requires { n ≤ length marks.now }
     ensures { Pending marks.now n result }
 {
-    let mut g = 0;
-    while g < n {
-        if marks[g] == 1 {
-            return g;
-        }
-        g += 1;
-    }
-    n
+    marks[..n].iter().position(|m| *m == 1)
 }
 
 // The gates that the outputs read are marked.
@@ -93,26 +80,26 @@ fn keep(gates: usize, rows: &mut [usize], nodes: &[usize], backs: &[usize], g: u
     store(backs, r, rows, (2 + PINS) * gates + PINS * g);
 }
 
-// Gate g is done: its cut is kept, and the leaves that are gates are marked.
+// Gate g is done: the leaves that were found are kept, and those that are gates are marked.
 fn finish(
     inputs: usize,
     gates: usize,
-    k: usize,
     rows: &mut [usize],
     nodes: &[usize],
     backs: &[usize],
     g: usize,
-    r: usize,
+    found: Option<usize>,
 )
-    requires { (k ≤ stride) × (g < gates) × (row_room gates ≤ length rows.old) × (k ≤ length nodes.now) × (k ≤ length backs.now) }
-    ensures { Stored inputs gates k g r nodes.now backs.now rows.old rows.new }
+    requires { (g < gates) × (row_room gates ≤ length rows.old) × (stride ≤ length nodes.now) × (stride ≤ length backs.now) × IfSome found (λ r. r ≤ stride) }
+    ensures { Stored inputs gates g nodes.now backs.now found rows.old rows.new }
 {
-    if k < r {
-        rows[g] = 2;
-        return;
+    match found {
+        None => rows[g] = 2,
+        Some(r) => {
+            keep(gates, rows, nodes, backs, g, r);
+            mark_nodes(inputs, gates, rows, nodes, 0, r);
+        }
     }
-    keep(gates, rows, nodes, backs, g, r);
-    mark_nodes(inputs, gates, rows, nodes, 0, r);
 }
 
 // Takes the chosen cut of the root g.
@@ -146,10 +133,10 @@ fn take(
     };
     let mut nodes = [0usize; PINS];
     let mut backs = [0usize; PINS];
-    let r = chosen(
+    let found = chosen(
         e, net, slots, table, list, stack, counts, members, &mut nodes, &mut backs, labels, q,
     );
-    finish(s.inputs, s.gates, a.k, rows, &nodes, &backs, g, r);
+    finish(s.inputs, s.gates, rows, &nodes, &backs, g, found);
 }
 
 // The chosen roots of the outputs are marked, and each has its chosen cut's leaves, rising by node, then by d.
@@ -173,11 +160,9 @@ pub fn choose(
     ensures chosen { RootsTold (mode_of a.forward) (packed_of s net.now []) labels.now (outs_in s net.now) a.outputs a.phi a.k rows.new (sizes_in s.gates rows.new) (nodes_in s.gates rows.new) (backs_in s.gates rows.new) }
 {
     mark_outputs(s, net, a.outputs, rows);
-    let mut g = pending(rows, s.gates);
-    while g < s.gates {
+    while let Some(g) = pending(rows, s.gates) {
         take(
             s, net, slots, table, list, stack, counts, members, labels, a, rows, g,
         );
-        g = pending(rows, s.gates);
     }
 }

@@ -1,9 +1,5 @@
-use native.Mathlib.Omega.{arith}
-use Rattle.cover_roots.specs.RootRoundsLaws.{stored-none, stored_some}
-use Rattle.std.proofs.Common.{rules}
+use Rattle.cover_roots.specs.RootRoundsLaws.{stored-none}
 use Rattle.cover_roots.proofs.finish.Goals as goal
 
-pub returns-then-k-r : goal.returns-then-k-r
-returns-then-k-r c =
-    let start = c in
-    stored-none (omega (arith, c.if-k-r.true)) c.requires.1 c.requires.2
+pub returns-in-None : goal.returns-in-None
+returns-in-None c = rw c.in-None.is (stored-none c.requires.0 c.requires.1)
