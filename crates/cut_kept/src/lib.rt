@@ -6,7 +6,7 @@ ghost use Rattle.limits.specs.Limits.{most_k};
 ghost use Rattle.signed.specs.Range.{label_in};
 ghost use Rattle.cut_least.specs.Collect.{LeafMark};
 ghost use Rattle.cut_kept.specs.KeptCuts.{row_in};
-ghost use Rattle.cut_kept.specs.Keeping.{TakeTold, DueTold, Gathers, GatherAsked, CloseAsked, CloseTold, RowAsked, RowTold, ServeAsked, AllLow, AllLowAsked, Serves};
+ghost use Rattle.cut_kept.specs.Keeping.{TakeTold, DueTold, Gathers, GatherAsked, CloseAsked, CloseTold, RowAsked, RowKept, RowTold, ServeAsked, AllLow, AllLowAsked, Serves};
 
 use cut_circuit::{Extent, number_at, put_number};
 use cut_forced::{Query, low};
@@ -72,13 +72,23 @@ fn close_row(s: Extent, members: &mut [u32], g: usize, m: Option<usize>)
 }
 
 // Keeps the leaves that a search found for gate g.
-pub fn keep_cut(s: Extent, table: &[u8], list: &[u32], members: &mut [u32], g: usize)
+fn keep_row(s: Extent, table: &[u8], list: &[u32], members: &mut [u32], g: usize)
     requires { RowAsked s.gates table.now list.now members.old g s.border }
     ensures { RowTold s.gates (length table.now) (LeafMark table.now) members.old members.new g s.border }
 {
     let at = SLOTS * s.gates + ROW * g + 2;
     let m = gather(table, list, members, at);
     close_row(s, members, g, m);
+}
+
+// Keeps the r leaves that a search found for the gate, where they are at most k.
+pub fn keep_cut(s: Extent, table: &[u8], list: &[u32], members: &mut [u32], q: Query, r: usize)
+    requires { RowAsked s.gates table.now list.now members.old q.gate s.border }
+    ensures { RowKept s.gates table.now members.old members.new q.gate s.border q.k r }
+{
+    if r <= q.k {
+        keep_row(s, table, list, members, q.gate);
+    }
 }
 
 // Whether the copies are all low enough for leaves.

@@ -40,12 +40,13 @@ fn separate(
         &members[..f],
         q.k,
     );
-    let found = least.is_some();
-    if found {
-        keep_cut(s, table, list, members, q.gate);
-    }
+    let Some(r) = least else {
+        clear(table, list);
+        return false;
+    };
+    keep_cut(s, table, list, members, q, r);
     clear(table, list);
-    found
+    true
 }
 
 // How many leaves the minimum cut of the forced set has, where they are at most k: they are written, and the table is cleared again.
