@@ -10,7 +10,7 @@ use Rattle.sequences.specs.TestLaws.{tells_yes, tells_no}
 use Rattle.integers.specs.Parts.{up, dn, ints, +-parts}
 use Rattle.signed.specs.RangeLaws.{back, fits-of}
 use Rattle.sequences.specs.Tests.{Tells}
-use Rattle.cover_links.specs.LinkPlaces.{place_from, place_in, Spotted, Found, base, raise, raised_at, level_of, leaf_in, LutFed, LutsFed, LeafLong, LutLong, LongAt, NoneLong, Marked, Marks, Same, most, LeafAsked, LutsPlaced}
+use Rattle.cover_links.specs.LinkPlaces.{place_from, place_in, Spotted, Found, base, raise, raised_at, level_of, leaf_in, LutFed, LutsFed, LeafLong, LutLong, LongAt, NoneLong, Marked, Same, most, LeafAsked, LutsPlaced}
 
 -- ---- places by node
 
@@ -142,23 +142,17 @@ leaf-asked w f i j h k =
 
 -- ---- chains
 
-pub marks-one : {P : Type 0} → P → Marks 1 P
-marks-one p = record { holds = λ n. p; fails = λ e. absurd (none e) }
-  where
-    none : ◌≡◌ {A = ℕ} 1 0 → ⊥
-    none e = omega arith
+unmarked : {x : Bool} → x ≡ true → x ≡ false → ⊥
+unmarked t f = cc
 
-pub marks-zero : {P : Type 0} → ¬ P → Marks 0 P
-marks-zero n = record { holds = λ m. absurd (m refl); fails = λ e. n }
-
-module _ (I : ℕ) (spots nodes backs : List ℕ) (lags : List ℤ) (i j : ℕ) (ends : List ℕ) where
+module _ (I : ℕ) (spots nodes backs : List ℕ) (lags : List ℤ) (i j : ℕ) (ends : List Bool) where
   pub long-input : leaf_in nodes i j < I → Tells false (LeafLong (Marked ends) I spots nodes backs lags i j)
   long-input h = tells_no (λ l. let g = l.gate in absurd (omega (arith, h, g)))
 
-  pub long-unmarked : (k : ℕ) → k ≡ get_or spots (leaf_in nodes i j) 0 → get_or ends k 0 ≡ 0 → Tells false (LeafLong (Marked ends) I spots nodes backs lags i j)
-  long-unmarked k e z = tells_no (λ l. l.feeder (ap (λ (x : ℕ). get_or ends x 0) (sym e) ∙ z))
+  pub long-unmarked : (k : ℕ) → k ≡ get_or spots (leaf_in nodes i j) 0 → get_or ends k false ≡ false → Tells false (LeafLong (Marked ends) I spots nodes backs lags i j)
+  long-unmarked k e z = tells_no (λ l. unmarked l.feeder (ap (λ (x : ℕ). get_or ends x false) (sym e) ∙ z))
 
-  pub long-marked : (k a b : ℕ) → I ≤ leaf_in nodes i j → k ≡ get_or spots (leaf_in nodes i j) 0 → ¬ (get_or ends k 0 ≡ 0) → a ≡ raised_at lags k → b ≡ raised_at lags i
+  pub long-marked : (k a b : ℕ) → I ≤ leaf_in nodes i j → k ≡ get_or spots (leaf_in nodes i j) 0 → get_or ends k false ≡ true → a ≡ raised_at lags k → b ≡ raised_at lags i
       → Tells (eqb a (leaf_in backs i j + b)) (LeafLong (Marked ends) I spots nodes backs lags i j)
   long-marked k a b g e m p q = go (eqb a (leaf_in backs i j + b)) refl
     where
@@ -169,7 +163,7 @@ module _ (I : ℕ) (spots nodes backs : List ℕ) (lags : List ℤ) (i j : ℕ) 
       go true z = tells_yes (record {
         gate = g;
         joined = sym same ∙ eqb-true a (leaf_in backs i j + b) z ∙ ap (λ (x : ℕ). leaf_in backs i j + x) q;
-        feeder = λ x. m (ap (λ (y : ℕ). get_or ends y 0) e ∙ x);
+        feeder = ap (λ (y : ℕ). get_or ends y false) (sym e) ∙ m;
       })
       go false z = tells_no (λ l. eqb-false a (leaf_in backs i j + b) z (same ∙ l.joined ∙ ap (λ (x : ℕ). leaf_in backs i j + x) (sym q)))
 
@@ -188,43 +182,47 @@ module _ (I : ℕ) (spots sizes nodes backs : List ℕ) (lags : List ℤ) (n : �
   )
 
   -- the marks tell which LUTs end a chain of m + 1 LUTs
-  abbrev pub Told : List ℕ → ℕ → Type 0
-  Told ends m = (i : ℕ) → i < n → Marks (get_or ends i 0) (LongAt I spots sizes nodes backs lags m i)
+  abbrev pub Told : List Bool → ℕ → Type 0
+  Told ends m = (i : ℕ) → i < n → Tells (get_or ends i false) (LongAt I spots sizes nodes backs lags m i)
 
-  pub told-first : n ≤ most → Told (replicate most 1) 0
+  pub told-first : n ≤ most → Told (replicate most true) 0
   unfolding LongAt
-  told-first h i k = rw (get_or-replicate {A = ℕ} most i 1 0 (omega arith)) (marks-one tt)
+  told-first h i k = rw (get_or-replicate {A = Bool} most i true false (omega arith)) (tells_yes tt)
 
-  told-next : (ends next : List ℕ) (m : ℕ) → LutsFed I spots sizes nodes n → Told ends m
-      → ((i : ℕ) → i < n → Marks (get_or next i 0) (LutLong (Marked ends) I spots sizes nodes backs lags i)) → Told next (m + 1)
-  told-next ends next m fed t r i h = subst (λ (k : ℕ). Marks (get_or next i 0) (LongAt I spots sizes nodes backs lags k i)) one (step i h)
+  told-next : (ends next : List Bool) (m : ℕ) → LutsFed I spots sizes nodes n → Told ends m
+      → ((i : ℕ) → i < n → Tells (get_or next i false) (LutLong (Marked ends) I spots sizes nodes backs lags i)) → Told next (m + 1)
+  told-next ends next m fed t r i h = subst (λ (k : ℕ). Tells (get_or next i false) (LongAt I spots sizes nodes backs lags k i)) one (step i h)
     where
       one : suc m ≡ m + 1
       one = omega arith
 
-      step : (i : ℕ) → i < n → Marks (get_or next i 0) (LongAt I spots sizes nodes backs lags (suc m) i)
+      marked : {P : Type 0} (x : Bool) → Tells x P → P → x ≡ true
+      marked true t p = refl
+      marked false t p = absurd (t.fails refl p)
+
+      step : (i : ℕ) → i < n → Tells (get_or next i false) (LongAt I spots sizes nodes backs lags (suc m) i)
       step i h = unfold LongAt in (record {
         holds = λ x. long-map (Marked ends) (LongAt I spots sizes nodes backs lags m) (λ k l. (t k l).holds) i (fed i h) ((r i h).holds x);
-        fails = λ e c. (r i h).fails e (long-map (LongAt I spots sizes nodes backs lags m) (Marked ends) (λ k l p z. (t k l).fails z p) i (fed i h) c);
+        fails = λ e c. (r i h).fails e (long-map (LongAt I spots sizes nodes backs lags m) (Marked ends) (λ k l p. marked (get_or ends k false) (t k l) p) i (fed i h) c);
       })
 
-  pub told_more : (ends next : List ℕ) (luts : ℕ) → 1 ≤ luts → LutsFed I spots sizes nodes n → Told ends (luts - 1)
-      → ((i : ℕ) → i < n → Marks (get_or next i 0) (LutLong (Marked ends) I spots sizes nodes backs lags i)) → Told next (luts + 1 - 1)
+  pub told_more : (ends next : List Bool) (luts : ℕ) → 1 ≤ luts → LutsFed I spots sizes nodes n → Told ends (luts - 1)
+      → ((i : ℕ) → i < n → Tells (get_or next i false) (LutLong (Marked ends) I spots sizes nodes backs lags i)) → Told next (luts + 1 - 1)
   told_more ends next luts h fed t r = subst (Told next) (same h) (told-next ends next (luts - 1) fed t r)
     where
       same : 1 ≤ luts → luts - 1 + 1 ≡ luts + 1 - 1
       same k = omega arith
 
   -- marks that a round leaves as they are stay so
-  pub told-still : (ends next : List ℕ) (luts period : ℕ) → 1 ≤ luts → luts ≤ period + 1 → LutsFed I spots sizes nodes n → Told ends (luts - 1)
-      → ((i : ℕ) → i < n → Marks (get_or next i 0) (LutLong (Marked ends) I spots sizes nodes backs lags i)) → Same ends next n → Told ends period
+  pub told-still : (ends next : List Bool) (luts period : ℕ) → 1 ≤ luts → luts ≤ period + 1 → LutsFed I spots sizes nodes n → Told ends (luts - 1)
+      → ((i : ℕ) → i < n → Tells (get_or next i false) (LutLong (Marked ends) I spots sizes nodes backs lags i)) → Same ends next n → Told ends period
   told-still ends next luts period h k fed t r same = subst (Told ends) (sums h k) (go (period + 1 - luts))
     where
       sums : 1 ≤ luts → luts ≤ period + 1 → luts - 1 + (period + 1 - luts) ≡ period
       sums h k = omega arith
 
-      again : (i : ℕ) → i < n → Marks (get_or ends i 0) (LutLong (Marked ends) I spots sizes nodes backs lags i)
-      again i l = subst (λ (x : ℕ). Marks x (LutLong (Marked ends) I spots sizes nodes backs lags i)) (sym (same i l)) (r i l)
+      again : (i : ℕ) → i < n → Tells (get_or ends i false) (LutLong (Marked ends) I spots sizes nodes backs lags i)
+      again i l = subst (λ (x : Bool). Tells x (LutLong (Marked ends) I spots sizes nodes backs lags i)) (sym (same i l)) (r i l)
 
       one : (d : ℕ) → luts - 1 + d + 1 ≡ luts - 1 + suc d
       one d = omega arith
@@ -233,12 +231,12 @@ module _ (I : ℕ) (spots sizes nodes backs : List ℕ) (lags : List ℤ) (n : �
       go zero = subst (Told ends) (sym (add-zero (luts - 1))) t
       go (suc d) = subst (Told ends) (one d) (told-next ends ends (luts - 1 + d) fed (go d) again)
 
-  pub told_none : (ends : List ℕ) (m : ℕ) (r : Bool) → Told ends m → Tells r ((i : ℕ) → i < n → get_or ends i 0 ≡ 0) → Tells r (NoneLong I spots sizes nodes backs lags n m)
+  pub told_none : (ends : List Bool) (m : ℕ) (r : Bool) → Told ends m → Tells r ((i : ℕ) → i < n → get_or ends i false ≡ false) → Tells r (NoneLong I spots sizes nodes backs lags n m)
   told_none ends m r t s = record {
     holds = λ e i h. (t i h).fails (s.holds e i h);
-    fails = λ e f. s.fails e (λ i h. zero_or i (ℕ_discrete (get_or ends i 0) 0) (λ x. f i h ((t i h).holds x)));
+    fails = λ e f. s.fails e (λ i h. not_marked (get_or ends i false) (λ x. f i h ((t i h).holds x)));
   }
     where
-      zero_or : (i : ℕ) → Dec (get_or ends i 0 ≡ 0) → ¬ ¬ (get_or ends i 0 ≡ 0) → get_or ends i 0 ≡ 0
-      zero_or i (yes e) d = e
-      zero_or i (no e) d = absurd (d e)
+      not_marked : (x : Bool) → ¬ (x ≡ true) → x ≡ false
+      not_marked true n = absurd (n refl)
+      not_marked false n = refl

@@ -1,5 +1,5 @@
 -- Definitions: how LUTs kept in arrays feed each other, by their places.
-use Rattle.std.specs.Prelude.{◌≡◌, cond, List, ℕ, zero, suc, ◌+◌, ◌-◌, ◌*◌, ◌≤◌, ◌<◌, eqb, ltb, ℤ, pos, length, get_or}
+use Rattle.std.specs.Prelude.{◌≡◌, Bool, true, false, cond, List, ℕ, zero, suc, ◌+◌, ◌-◌, ◌*◌, ◌≤◌, ◌<◌, eqb, ltb, ℤ, pos, length, get_or}
 use Rattle.std.specs.Int.Signed.{mag}
 use Rattle.integers.specs.Parts.{up, dn}
 use Rattle.net_model.specs.Arrays.{stride}
@@ -83,21 +83,17 @@ LongAt I spots sizes nodes backs lags (suc m) i = LutLong (LongAt I spots sizes 
 abbrev pub NoneLong : ℕ → List ℕ → List ℕ → List ℕ → List ℕ → List ℤ → ℕ → ℕ → Type 0
 NoneLong I spots sizes nodes backs lags n m = (i : ℕ) → i < n → ¬ LongAt I spots sizes nodes backs lags m i
 
--- a mark, not 0 where P holds
-abbrev pub Marked : List ℕ → ℕ → Type 0
-Marked l i = ¬ (get_or l i 0 ≡ 0)
-
-pub record Marks (x : ℕ) (P : Type 0) : Type 0 where
-  pub holds : ¬ (x ≡ 0) → P
-  pub fails : x ≡ 0 → ¬ P
+-- LUT i is marked
+abbrev pub Marked : List Bool → ℕ → Type 0
+Marked l i = get_or l i false ≡ true
 
 -- room for the LUTs' marks
 abbrev pub most : ℕ
 most = most_luts
 
--- the two arrays have the same first n numbers
-abbrev pub Same : List ℕ → List ℕ → ℕ → Type 0
-Same a b n = (i : ℕ) → i < n → get_or a i 0 ≡ get_or b i 0
+-- the two arrays have the same first n marks
+abbrev pub Same : List Bool → List Bool → ℕ → Type 0
+Same a b n = (i : ℕ) → i < n → get_or a i false ≡ get_or b i false
 
 -- ---- what the arrays are asked
 

@@ -1,15 +1,37 @@
-// Checks 16, 17 and 18 for LUTs kept in arrays: LUT i has its leaves from place 6i on. The LUT of a node is found in an array by node, made once.
+// Checks 16, 17 and 18 for LUTs kept in arrays. The LUT of a node is found in an array by node, made once.
 #![tactic(auto)]
 
-ghost use Rattle.std.specs.Prelude.{◌≡◌, ℕ, ◌+◌, ◌*◌, ◌≤◌, ◌<◌, pos, length, get_or};
+ghost use Rattle.std.specs.Prelude.{◌≡◌, true, false, ℕ, ◌+◌, ◌*◌, ◌≤◌, ◌<◌, pos, length, get_or};
 ghost use Rattle.std.specs.Int.Signed.{mag};
 ghost use Rattle.limits.specs.Limits.{most_count, most_nodes, most_period};
+ghost use Rattle.refusals.specs.Refusals.{code_of};
 ghost use Rattle.net_model.specs.Arrays.{stride};
 ghost use Rattle.sequences.specs.Tests.{Tells};
-ghost use Rattle.cover_links.specs.LinkPlaces.{Spotted, Found, LutFed, LutsFed, OutputsFed, raised_at, level_of, LeafEnough, LutEnough, LutsEnough, OutputEnough, OutputsEnough, LeafLong, LutLong, LongAt, NoneLong, Marked, Marks, Same, most, LeafRoom, LagRoom, LeafAsked, LutsPlaced};
+ghost use Rattle.cover_links.specs.LinkPlaces.{Spotted, Found, LutFed, LutsFed, OutputsFed, raised_at, level_of, LeafEnough, LutEnough, LutsEnough, OutputEnough, OutputsEnough, LeafLong, LutLong, LongAt, NoneLong, Marked, Same, most, LeafRoom, LagRoom, LeafAsked, LutsPlaced};
 ghost use Rattle.cover_links.specs.Links.{Linking, LinksTold};
 
 use limits::{LUTS, NODES, PINS};
+use refusals::Refusal;
+
+// The LUTs: LUT i has sizes[i] leaves from place PINS·i on. Node u has the LUT spots[u], or none where that is not below len.
+#[derive(Clone, Copy)]
+struct Luts<'a> {
+    inputs: usize,
+    spots: &'a [usize],
+    sizes: &'a [usize],
+    nodes: &'a [usize],
+    backs: &'a [usize],
+    lags: &'a [i64],
+    len: usize,
+}
+
+// A net's outputs: output o reads node outs[o] through delays[o] registers.
+#[derive(Clone, Copy)]
+struct Ends<'a> {
+    outputs: usize,
+    outs: &'a [usize],
+    delays: &'a [usize],
+}
 
 // The place of each node's LUT, by node; n where there is none.
 fn places(roots: &[usize], n: usize) -> [usize; NODES]
@@ -17,74 +39,55 @@ fn places(roots: &[usize], n: usize) -> [usize; NODES]
     ensures { (length result ≡ most_nodes) × Spotted roots.now n result }
 {
     let mut spots = [n; NODES];
-    let mut i = n;
-    while 0 < i {
-        i -= 1;
+    for i in (0..n).rev() {
         spots[roots[i]] = i;
     }
     spots
 }
 
 // Whether node u is an input or has a LUT.
-fn is_fed(inputs: usize, spots: &[usize], n: usize, u: usize) -> bool
-    requires { u < length spots.now }
-    ensures { Tells result (Found inputs spots.now n u) }
+fn is_fed(w: Luts, u: usize) -> bool
+    requires { u < length w.spots.now }
+    ensures { Tells result (Found w.entry.inputs w.entry.spots.now w.entry.len u) }
 {
-    if u < inputs {
-        return true;
-    }
-    spots[u] < n
+    u < w.inputs || w.spots[u] < w.len
 }
 
 // Whether each leaf of LUT i is an input or has a LUT.
-fn lut_fed(
-    inputs: usize,
-    spots: &[usize],
-    sizes: &[usize],
-    nodes: &[usize],
-    n: usize,
-    i: usize,
-) -> bool
-    requires { LeafRoom spots.now sizes.now nodes.now n × (i < n) }
-    ensures { Tells result (LutFed inputs spots.now sizes.now nodes.now n i) }
+fn lut_fed(w: Luts, i: usize) -> bool
+    requires { LeafRoom w.spots.now w.sizes.now w.nodes.now w.len × (i < w.len) }
+    ensures { Tells result (LutFed w.entry.inputs w.entry.spots.now w.entry.sizes.now w.entry.nodes.now w.entry.len i) }
 {
-    let m = sizes[i];
-    let mut j = 0;
-    while j < m {
-        if !is_fed(inputs, spots, n, nodes[PINS * i + j]) {
+    for j in 0..w.sizes[i] {
+        if !is_fed(w, w.nodes[PINS * i + j]) {
             return false;
         }
-        j += 1;
     }
     true
 }
 
 // Whether each leaf of each LUT is an input or has a LUT.
-fn luts_fed(inputs: usize, spots: &[usize], sizes: &[usize], nodes: &[usize], n: usize) -> bool
-    requires { LeafRoom spots.now sizes.now nodes.now n }
-    ensures { Tells result (LutsFed inputs spots.now sizes.now nodes.now n) }
+fn luts_fed(w: Luts) -> bool
+    requires { LeafRoom w.spots.now w.sizes.now w.nodes.now w.len }
+    ensures { Tells result (LutsFed w.entry.inputs w.entry.spots.now w.entry.sizes.now w.entry.nodes.now w.entry.len) }
 {
-    let mut i = 0;
-    while i < n {
-        if !lut_fed(inputs, spots, sizes, nodes, n, i) {
+    for i in 0..w.len {
+        if !lut_fed(w, i) {
             return false;
         }
-        i += 1;
     }
     true
 }
 
 // Whether each output's source is an input or has a LUT.
-fn outputs_fed(inputs: usize, spots: &[usize], n: usize, outs: &[usize], outputs: usize) -> bool
-    requires { (outputs ≤ length outs.now) × ((o : ℕ) → o < outputs → get_or outs.now o 0 < length spots.now) }
-    ensures { Tells result (OutputsFed inputs spots.now n outs.now outputs) }
+fn outputs_fed(w: Luts, e: Ends) -> bool
+    requires { (e.outputs ≤ length e.outs.now) × ((o : ℕ) → o < e.outputs → get_or e.outs.now o 0 < length w.spots.now) }
+    ensures { Tells result (OutputsFed w.entry.inputs w.entry.spots.now w.entry.len e.entry.outs.now e.entry.outputs) }
 {
-    let mut o = 0;
-    while o < outputs {
-        if !is_fed(inputs, spots, n, outs[o]) {
+    for o in 0..e.outputs {
+        if !is_fed(w, e.outs[o]) {
             return false;
         }
-        o += 1;
     }
     true
 }
@@ -98,308 +101,173 @@ fn raised(lags: &[i64], i: usize) -> usize
 }
 
 // The lag of node u, raised by 256.
-fn level_of(inputs: usize, spots: &[usize], lags: &[i64], n: usize, u: usize) -> usize
-    requires { LagRoom lags.now n × Found inputs spots.now n u × (u < length spots.now) }
-    ensures { result ≡ level_of inputs spots.now lags.now u }
+fn level_of(w: Luts, u: usize) -> usize
+    requires { LagRoom w.lags.now w.len × Found w.inputs w.spots.now w.len u × (u < length w.spots.now) }
+    ensures { result ≡ level_of w.entry.inputs w.entry.spots.now w.entry.lags.now u }
 {
-    if u < inputs {
-        return 256;
+    if u < w.inputs {
+        256
+    } else {
+        raised(w.lags, w.spots[u])
     }
-    let at = spots[u];
-    raised(lags, at)
 }
 
 // Whether leaf j of LUT i has 0 registers or more.
-fn leaf_enough(
-    inputs: usize,
-    spots: &[usize],
-    nodes: &[usize],
-    backs: &[usize],
-    lags: &[i64],
-    n: usize,
-    i: usize,
-    j: usize,
-) -> bool
-    requires lag_room { LagRoom lags.now n × (i < n) × (n ≤ most) × (j < stride) }
-    requires leaf_asked { LeafAsked inputs spots.now nodes.now backs.now n i j }
-    ensures { Tells result (LeafEnough inputs spots.now nodes.now backs.now lags.now i j) }
+fn leaf_enough(w: Luts, i: usize, j: usize) -> bool
+    requires lag_room { LagRoom w.lags.now w.len × (i < w.len) × (w.len ≤ most) × (j < stride) }
+    requires leaf_asked { LeafAsked w.inputs w.spots.now w.nodes.now w.backs.now w.len i j }
+    ensures { Tells result (LeafEnough w.entry.inputs w.entry.spots.now w.entry.nodes.now w.entry.backs.now w.entry.lags.now i j) }
 {
     let at = PINS * i + j;
-    let level = level_of(inputs, spots, lags, n, nodes[at]);
-    level <= backs[at] + raised(lags, i)
+    let level = level_of(w, w.nodes[at]);
+    level <= w.backs[at] + raised(w.lags, i)
 }
 
 // Whether each leaf of LUT i has 0 registers or more.
-fn lut_enough(
-    inputs: usize,
-    spots: &[usize],
-    sizes: &[usize],
-    nodes: &[usize],
-    backs: &[usize],
-    lags: &[i64],
-    n: usize,
-    i: usize,
-) -> bool
-    requires luts_placed { LutsPlaced spots.now sizes.now nodes.now backs.now lags.now n × (i < n) }
-    requires luts_fed { LutsFed inputs spots.now sizes.now nodes.now n }
-    ensures { Tells result (LutEnough inputs spots.now sizes.now nodes.now backs.now lags.now i) }
+fn lut_enough(w: Luts, i: usize) -> bool
+    requires luts_placed { LutsPlaced w.spots.now w.sizes.now w.nodes.now w.backs.now w.lags.now w.len × (i < w.len) }
+    requires luts_fed { LutsFed w.inputs w.spots.now w.sizes.now w.nodes.now w.len }
+    ensures { Tells result (LutEnough w.entry.inputs w.entry.spots.now w.entry.sizes.now w.entry.nodes.now w.entry.backs.now w.entry.lags.now i) }
 {
-    let m = sizes[i];
-    let mut j = 0;
-    while j < m {
-        if !leaf_enough(inputs, spots, nodes, backs, lags, n, i, j) {
+    for j in 0..w.sizes[i] {
+        if !leaf_enough(w, i, j) {
             return false;
         }
-        j += 1;
     }
     true
 }
 
 // Whether each leaf of each LUT has 0 registers or more.
-fn luts_enough(
-    inputs: usize,
-    spots: &[usize],
-    sizes: &[usize],
-    nodes: &[usize],
-    backs: &[usize],
-    lags: &[i64],
-    n: usize,
-) -> bool
-    requires luts_placed { LutsPlaced spots.now sizes.now nodes.now backs.now lags.now n }
-    requires luts_fed { LutsFed inputs spots.now sizes.now nodes.now n }
-    ensures { Tells result (LutsEnough inputs spots.now sizes.now nodes.now backs.now lags.now n) }
+fn luts_enough(w: Luts) -> bool
+    requires luts_placed { LutsPlaced w.spots.now w.sizes.now w.nodes.now w.backs.now w.lags.now w.len }
+    requires luts_fed { LutsFed w.inputs w.spots.now w.sizes.now w.nodes.now w.len }
+    ensures { Tells result (LutsEnough w.entry.inputs w.entry.spots.now w.entry.sizes.now w.entry.nodes.now w.entry.backs.now w.entry.lags.now w.entry.len) }
 {
-    let mut i = 0;
-    while i < n {
-        if !lut_enough(inputs, spots, sizes, nodes, backs, lags, n, i) {
+    for i in 0..w.len {
+        if !lut_enough(w, i) {
             return false;
         }
-        i += 1;
     }
     true
 }
 
-// Whether an output with this source and delay has 0 registers or more.
-fn output_enough(
-    inputs: usize,
-    spots: &[usize],
-    lags: &[i64],
-    n: usize,
-    outs: &[usize],
-    delays: &[usize],
-    o: usize,
-) -> bool
-    requires { LagRoom lags.now n × (o < length outs.now) × (o < length delays.now) × (get_or delays.now o 0 ≤ most_count) × Found inputs spots.now n (get_or outs.now o 0) × (get_or outs.now o 0 < length spots.now) }
-    ensures { Tells result (OutputEnough inputs spots.now lags.now outs.now delays.now o) }
+// Whether output o has 0 registers or more.
+fn output_enough(w: Luts, e: Ends, o: usize) -> bool
+    requires { LagRoom w.lags.now w.len × (o < length e.outs.now) × (o < length e.delays.now) × (get_or e.delays.now o 0 ≤ most_count) × Found w.inputs w.spots.now w.len (get_or e.outs.now o 0) × (get_or e.outs.now o 0 < length w.spots.now) }
+    ensures { Tells result (OutputEnough w.entry.inputs w.entry.spots.now w.entry.lags.now e.entry.outs.now e.entry.delays.now o) }
 {
-    let level = level_of(inputs, spots, lags, n, outs[o]);
-    level <= delays[o] + 256
+    let level = level_of(w, e.outs[o]);
+    level <= e.delays[o] + 256
 }
 
 // Whether each output has 0 registers or more.
-fn outputs_enough(
-    inputs: usize,
-    spots: &[usize],
-    lags: &[i64],
-    n: usize,
-    outs: &[usize],
-    delays: &[usize],
-    outputs: usize,
-) -> bool
-    requires lag_room { LagRoom lags.now n × (outputs ≤ length outs.now) × (outputs ≤ length delays.now) × ((o : ℕ) → o < outputs → get_or outs.now o 0 < length spots.now) }
-    requires by_index { (o : ℕ) → o < outputs → get_or delays.now o 0 ≤ most_count }
-    requires outputs_fed { OutputsFed inputs spots.now n outs.now outputs }
-    ensures { Tells result (OutputsEnough inputs spots.now lags.now outs.now delays.now outputs) }
+fn outputs_enough(w: Luts, e: Ends) -> bool
+    requires lag_room { LagRoom w.lags.now w.len × (e.outputs ≤ length e.outs.now) × (e.outputs ≤ length e.delays.now) × ((o : ℕ) → o < e.outputs → get_or e.outs.now o 0 < length w.spots.now) }
+    requires by_index { (o : ℕ) → o < e.outputs → get_or e.delays.now o 0 ≤ most_count }
+    requires outputs_fed { OutputsFed w.inputs w.spots.now w.len e.outs.now e.outputs }
+    ensures { Tells result (OutputsEnough w.entry.inputs w.entry.spots.now w.entry.lags.now e.entry.outs.now e.entry.delays.now e.entry.outputs) }
 {
-    let mut o = 0;
-    while o < outputs {
-        if !output_enough(inputs, spots, lags, n, outs, delays, o) {
+    for o in 0..e.outputs {
+        if !output_enough(w, e, o) {
             return false;
         }
-        o += 1;
     }
     true
 }
 
 // Whether leaf j of LUT i is a gate, joined with 0 registers, whose LUT is marked.
-fn leaf_long(
-    inputs: usize,
-    spots: &[usize],
-    nodes: &[usize],
-    backs: &[usize],
-    lags: &[i64],
-    n: usize,
-    i: usize,
-    j: usize,
-    ends: &[usize],
-) -> bool
-    requires lag_room { LagRoom lags.now n × (i < n) × (n ≤ most) × (j < stride) × (n ≤ length ends.now) }
-    requires leaf_asked { LeafAsked inputs spots.now nodes.now backs.now n i j }
-    ensures { Tells result (LeafLong (Marked ends.now) inputs spots.now nodes.now backs.now lags.now i j) }
+fn leaf_long(w: Luts, i: usize, j: usize, marks: &[bool]) -> bool
+    requires lag_room { LagRoom w.lags.now w.len × (i < w.len) × (w.len ≤ most) × (j < stride) × (w.len ≤ length marks.now) }
+    requires leaf_asked { LeafAsked w.inputs w.spots.now w.nodes.now w.backs.now w.len i j }
+    ensures { Tells result (LeafLong (Marked marks.now) w.entry.inputs w.entry.spots.now w.entry.nodes.now w.entry.backs.now w.entry.lags.now i j) }
 {
     let at = PINS * i + j;
-    let u = nodes[at];
-    if u < inputs {
+    let u = w.nodes[at];
+    if u < w.inputs {
         return false;
     }
-    let k = spots[u];
-    if ends[k] == 0 {
+    let k = w.spots[u];
+    if !marks[k] {
         return false;
     }
-    raised(lags, k) == backs[at] + raised(lags, i)
+    raised(w.lags, k) == w.backs[at] + raised(w.lags, i)
 }
 
 // Whether LUT i has such a leaf.
-fn lut_long(
-    inputs: usize,
-    spots: &[usize],
-    sizes: &[usize],
-    nodes: &[usize],
-    backs: &[usize],
-    lags: &[i64],
-    n: usize,
-    i: usize,
-    ends: &[usize],
-) -> bool
-    requires luts_placed { LutsPlaced spots.now sizes.now nodes.now backs.now lags.now n × (i < n) × (n ≤ length ends.now) }
-    requires luts_fed { LutsFed inputs spots.now sizes.now nodes.now n }
-    ensures { Tells result (LutLong (Marked ends.now) inputs spots.now sizes.now nodes.now backs.now lags.now i) }
+fn lut_long(w: Luts, i: usize, marks: &[bool]) -> bool
+    requires luts_placed { LutsPlaced w.spots.now w.sizes.now w.nodes.now w.backs.now w.lags.now w.len × (i < w.len) × (w.len ≤ length marks.now) }
+    requires luts_fed { LutsFed w.inputs w.spots.now w.sizes.now w.nodes.now w.len }
+    ensures { Tells result (LutLong (Marked marks.now) w.entry.inputs w.entry.spots.now w.entry.sizes.now w.entry.nodes.now w.entry.backs.now w.entry.lags.now i) }
 {
-    let m = sizes[i];
-    let mut j = 0;
-    while j < m {
-        if leaf_long(inputs, spots, nodes, backs, lags, n, i, j, ends) {
+    for j in 0..w.sizes[i] {
+        if leaf_long(w, i, j, marks) {
             return true;
         }
-        j += 1;
     }
     false
 }
 
-// 1 where LUT i has such a leaf, else 0.
-fn lut_mark(
-    inputs: usize,
-    spots: &[usize],
-    sizes: &[usize],
-    nodes: &[usize],
-    backs: &[usize],
-    lags: &[i64],
-    n: usize,
-    i: usize,
-    ends: &[usize],
-) -> usize
-    requires luts_placed { LutsPlaced spots.now sizes.now nodes.now backs.now lags.now n × (i < n) × (n ≤ length ends.now) }
-    requires luts_fed { LutsFed inputs spots.now sizes.now nodes.now n }
-    ensures { Marks result (LutLong (Marked ends.now) inputs spots.now sizes.now nodes.now backs.now lags.now i) }
-{
-    if lut_long(inputs, spots, sizes, nodes, backs, lags, n, i, ends) {
-        return 1;
-    }
-    0
-}
-
 // One round: a LUT's next mark from the marks of the LUTs that feed it without registers.
-fn round(
-    inputs: usize,
-    spots: &[usize],
-    sizes: &[usize],
-    nodes: &[usize],
-    backs: &[usize],
-    lags: &[i64],
-    n: usize,
-    ends: &[usize],
-) -> [usize; LUTS]
-    requires luts_placed { LutsPlaced spots.now sizes.now nodes.now backs.now lags.now n × (n ≤ length ends.now) }
-    requires luts_fed { LutsFed inputs spots.now sizes.now nodes.now n }
-    ensures { (length result ≡ most) × ((i : ℕ) → i < n → Marks (get_or result i 0) (LutLong (Marked ends.now) inputs spots.now sizes.now nodes.now backs.now lags.now i)) }
+fn round(w: Luts, marks: &[bool]) -> [bool; LUTS]
+    requires luts_placed { LutsPlaced w.spots.now w.sizes.now w.nodes.now w.backs.now w.lags.now w.len × (w.len ≤ length marks.now) }
+    requires luts_fed { LutsFed w.inputs w.spots.now w.sizes.now w.nodes.now w.len }
+    ensures { (length result ≡ most) × ((i : ℕ) → i < w.entry.len → Tells (get_or result i false) (LutLong (Marked marks.now) w.entry.inputs w.entry.spots.now w.entry.sizes.now w.entry.nodes.now w.entry.backs.now w.entry.lags.now i)) }
 {
-    let mut next = [0usize; LUTS];
-    let mut i = 0;
-    while i < n {
-        next[i] = lut_mark(inputs, spots, sizes, nodes, backs, lags, n, i, ends);
-        i += 1;
+    let mut next = [false; LUTS];
+    for i in 0..w.len {
+        next[i] = lut_long(w, i, marks);
     }
     next
 }
 
 // Whether the first n marks are the same.
-fn same(a: &[usize], b: &[usize], n: usize) -> bool
+fn same(a: &[bool], b: &[bool], n: usize) -> bool
     requires { (n ≤ length a.now) × (n ≤ length b.now) }
     ensures { Tells result (Same a.now b.now n) }
 {
-    let mut i = 0;
-    while i < n {
+    for i in 0..n {
         if a[i] != b[i] {
             return false;
         }
-        i += 1;
     }
     true
 }
 
 // The marks of the LUTs that end a chain of period + 1 LUTs. All end a chain of 1 LUT, and a round asks for one LUT more; marks that a round leaves as they are stay so.
-fn rounds(
-    inputs: usize,
-    spots: &[usize],
-    sizes: &[usize],
-    nodes: &[usize],
-    backs: &[usize],
-    lags: &[i64],
-    n: usize,
-    period: usize,
-) -> [usize; LUTS]
-    requires luts_placed { LutsPlaced spots.now sizes.now nodes.now backs.now lags.now n × (period ≤ most_period) }
-    requires luts_fed { LutsFed inputs spots.now sizes.now nodes.now n }
-    ensures { (length result ≡ most) × ((i : ℕ) → i < n → Marks (get_or result i 0) (LongAt inputs spots.now sizes.now nodes.now backs.now lags.now period i)) }
+fn rounds(w: Luts, period: usize) -> [bool; LUTS]
+    requires luts_placed { LutsPlaced w.spots.now w.sizes.now w.nodes.now w.backs.now w.lags.now w.len × (period ≤ most_period) }
+    requires luts_fed { LutsFed w.inputs w.spots.now w.sizes.now w.nodes.now w.len }
+    ensures { (length result ≡ most) × ((i : ℕ) → i < w.entry.len → Tells (get_or result i false) (LongAt w.entry.inputs w.entry.spots.now w.entry.sizes.now w.entry.nodes.now w.entry.backs.now w.entry.lags.now period i)) }
 {
-    let mut ends = [1usize; LUTS];
-    let mut luts = 1;
-    while luts <= period {
-        let next = round(inputs, spots, sizes, nodes, backs, lags, n, &ends);
-        if same(&ends, &next, n) {
-            return ends;
+    let mut marks = [true; LUTS];
+    for luts in 1..=period {
+        let next = round(w, &marks);
+        if same(&marks, &next, w.len) {
+            return marks;
         }
-        ends = next;
-        luts += 1;
+        marks = next;
     }
-    ends
+    marks
 }
 
 // Whether none of n marks is set.
-fn none_marked(ends: &[usize], n: usize) -> bool
-    requires { n ≤ length ends.now }
-    ensures { Tells result ((i : ℕ) → i < n → get_or ends.now i 0 ≡ 0) }
+fn none_marked(marks: &[bool], n: usize) -> bool
+    requires { n ≤ length marks.now }
+    ensures { Tells result ((i : ℕ) → i < n → get_or marks.now i false ≡ false) }
 {
-    let mut i = 0;
-    while i < n {
-        if ends[i] != 0 {
-            return false;
-        }
-        i += 1;
-    }
-    true
+    !marks[..n].contains(&true)
 }
 
 // Whether no LUT ends a chain of more than `period` LUTs.
-fn chains_short(
-    inputs: usize,
-    spots: &[usize],
-    sizes: &[usize],
-    nodes: &[usize],
-    backs: &[usize],
-    lags: &[i64],
-    n: usize,
-    period: usize,
-) -> bool
-    requires luts_placed { LutsPlaced spots.now sizes.now nodes.now backs.now lags.now n × (period ≤ most_period) }
-    requires luts_fed { LutsFed inputs spots.now sizes.now nodes.now n }
-    ensures { Tells result (NoneLong inputs spots.now sizes.now nodes.now backs.now lags.now n period) }
+fn chains_short(w: Luts, period: usize) -> bool
+    requires luts_placed { LutsPlaced w.spots.now w.sizes.now w.nodes.now w.backs.now w.lags.now w.len × (period ≤ most_period) }
+    requires luts_fed { LutsFed w.inputs w.spots.now w.sizes.now w.nodes.now w.len }
+    ensures { Tells result (NoneLong w.entry.inputs w.entry.spots.now w.entry.sizes.now w.entry.nodes.now w.entry.backs.now w.entry.lags.now w.entry.len period) }
 {
-    let ends = rounds(inputs, spots, sizes, nodes, backs, lags, n, period);
-    none_marked(&ends, n)
+    none_marked(&rounds(w, period), w.len)
 }
 
-// The number of the first of checks 16, 17 and 18 that the LUTs break, or 0.
+// Checks 16, 17 and 18 in this order.
 pub fn check_links(
     inputs: usize,
     gates: usize,
@@ -413,25 +281,33 @@ pub fn check_links(
     lags: &[i64],
     n: usize,
     period: usize,
-) -> usize
+) -> Result<(), Refusal>
     requires { Linking inputs gates outs.now delays.now outputs roots.now sizes.now nodes.now backs.now lags.now n period }
-    ensures { LinksTold inputs gates outs.now delays.now outputs roots.now sizes.now nodes.now backs.now lags.now n period result }
+    ensures { LinksTold inputs gates outs.now delays.now outputs roots.now sizes.now nodes.now backs.now lags.now n period (code_of result) }
 {
     let spots = places(roots, n);
-    if !luts_fed(inputs, &spots, sizes, nodes, n) {
-        return 16;
+    let w = Luts {
+        inputs,
+        spots: &spots,
+        sizes,
+        nodes,
+        backs,
+        lags,
+        len: n,
+    };
+    let e = Ends {
+        outputs,
+        outs,
+        delays,
+    };
+    if !luts_fed(w) || !outputs_fed(w, e) {
+        return Err(Refusal::Unfed);
     }
-    if !outputs_fed(inputs, &spots, n, outs, outputs) {
-        return 16;
+    if !luts_enough(w) || !outputs_enough(w, e) {
+        return Err(Refusal::NegativeCount);
     }
-    if !luts_enough(inputs, &spots, sizes, nodes, backs, lags, n) {
-        return 17;
+    if !chains_short(w, period) {
+        return Err(Refusal::LongChain);
     }
-    if !outputs_enough(inputs, &spots, lags, n, outs, delays, outputs) {
-        return 17;
-    }
-    if !chains_short(inputs, &spots, sizes, nodes, backs, lags, n, period) {
-        return 18;
-    }
-    0
+    Ok(())
 }

@@ -1,16 +1,6 @@
-use borrow.Author.Count.{below_more}
-use borrow.Author.Tests.{not-true, not-false}
-use mathlib.Core.Path.{◌≡◌, refl}
-use Prim.Native.Nat.{ℕ, ◌-◌, ◌≤◌, ◌<◌}
-use native.Mathlib.Omega.{arith}
-use lib.ListN.{get_or}
-use Rattle.sequences.specs.TestLaws.{tells_all, tells-not}
+use Rattle.std.proofs.Common.{ℕ, ◌<◌}
 use Rattle.cover_links.specs.LinkPlaces.{LeafEnough}
-use Rattle.cover_links.specs.LinkPlaceLaws.{leaf-asked}
 use Rattle.cover_links.proofs.lut_enough.Given as goal
 
 abbrev pub invariant-loop-j : goal.invariant-loop-j
-invariant-loop-j l = (l.j ≤ l.m) × (l.m ≡ get_or l.sizes l.i 0) × ((k : ℕ) → k < l.j → LeafEnough l.inputs l.spots l.nodes l.backs l.lags l.i k)
-
-abbrev pub decreases-loop-j : goal.decreases-loop-j
-decreases-loop-j l = l.m - l.j
+invariant-loop-j l = (k : ℕ) → k < l.j → LeafEnough l.w.inputs l.w.spots.now l.w.nodes.now l.w.backs.now l.w.lags.now l.i k

@@ -1,13 +1,6 @@
-use borrow.Author.Count.{below_more}
-use borrow.Author.Tests.{not-true, not-false}
-use Prim.Native.Nat.{ℕ, ◌-◌, ◌≤◌, ◌<◌}
-use native.Mathlib.Omega.{arith}
-use Rattle.sequences.specs.TestLaws.{tells_all, tells-not}
+use Rattle.std.proofs.Common.{ℕ, ◌<◌}
 use Rattle.cover_links.specs.LinkPlaces.{LutFed}
 use Rattle.cover_links.proofs.luts_fed.Given as goal
 
 abbrev pub invariant-loop-i : goal.invariant-loop-i
-invariant-loop-i l = (l.i ≤ l.n) × ((k : ℕ) → k < l.i → LutFed l.inputs l.spots l.sizes l.nodes l.n k)
-
-abbrev pub decreases-loop-i : goal.decreases-loop-i
-decreases-loop-i l = l.n - l.i
+invariant-loop-i l = (k : ℕ) → k < l.i → LutFed l.w.inputs l.w.spots.now l.w.sizes.now l.w.nodes.now l.w.len k

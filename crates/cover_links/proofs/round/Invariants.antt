@@ -1,14 +1,8 @@
-use mathlib.Core.Path.{◌≡◌, refl, ◌∙◌}
-use Prim.Native.Nat.{ℕ, ◌-◌, ◌≤◌, ◌<◌}
-use native.Mathlib.Omega.{arith}
-use lib.ListN.{length, get_or, length-set}
-use Rattle.cone_copies.specs.CopyListLaws.{each_set}
-use Rattle.cover_links.specs.LinkPlaces.{LutLong, Marked, Marks, most}
+use Rattle.std.proofs.Common.{◌≡◌, ℕ, ◌<◌, false, length, get_or}
+use Rattle.sequences.specs.Tests.{Tells}
+use Rattle.cover_links.specs.LinkPlaces.{LutLong, Marked, most}
 use Rattle.cover_links.proofs.round.Given as goal
 
 abbrev pub invariant-loop-i : goal.invariant-loop-i
 invariant-loop-i l =
-    (l.i ≤ l.n) × (length l.next ≡ most) × ((k : ℕ) → k < l.i → Marks (get_or l.next k 0) (LutLong (Marked l.ends) l.inputs l.spots l.sizes l.nodes l.backs l.lags k))
-
-abbrev pub decreases-loop-i : goal.decreases-loop-i
-decreases-loop-i l = l.n - l.i
+    (length l.next ≡ most) × ((k : ℕ) → k < l.i → Tells (get_or l.next k false) (LutLong (Marked l.marks) l.w.inputs l.w.spots.now l.w.sizes.now l.w.nodes.now l.w.backs.now l.w.lags.now k))
