@@ -65,23 +65,23 @@ module _ {R : Rules} (o : Offered R) (s : List ℕ) where
 -- ---- what stands behind a root
 
 -- a leaf count that was read is at most k
-pub size_few : (k n : ℕ) (t u : List ℕ) → field_byte (Cover Size) k t ≡ got n u → n ≤ k
+pub size_few : (k n : ℕ) (t u : List ℕ) → field_byte (Cover (Size k)) t ≡ got n u → n ≤ k
 size_few k n t u e = (between-true 1 k n (byte-got 13 13 (between 1 k) t n u e)).1
 
 module _ (s : List ℕ) (at k : ℕ) where
-  pub size-stops : {j : ℕ} → field_byte (Cover Size) k (drop at s) ≡ refused j → (w : Bool) (nodes root : ℕ) → lut_body w nodes k root (drop at s) ≡ refused j
+  pub size-stops : {j : ℕ} → field_byte (Cover (Size k)) (drop at s) ≡ refused j → (w : Bool) (nodes root : ℕ) → lut_body w nodes k root (drop at s) ≡ refused j
   size-stops f w nodes root = body_stages w nodes k root (drop at s) ∙ then-stops (from_size w nodes root) f
 
-  module _ (n : ℕ) (u : List ℕ) (f : field_byte (Cover Size) k (drop at s) ≡ got n u) (p : ℕ) (is : p ≡ 2 ^ n) where
-    size-goes : (w : Bool) (nodes root : ℕ) → lut_body w nodes k root (drop at s) ≡ and_then (field_byte (Cover Map) p u) (from_map w nodes root n)
+  module _ (n : ℕ) (u : List ℕ) (f : field_byte (Cover (Size k)) (drop at s) ≡ got n u) (p : ℕ) (is : p ≡ 2 ^ n) where
+    size-goes : (w : Bool) (nodes root : ℕ) → lut_body w nodes k root (drop at s) ≡ and_then (field_byte (Cover (Map p)) u) (from_map w nodes root n)
     size-goes w nodes root =
         body_stages w nodes k root (drop at s) ∙ then-goes (from_size w nodes root) f
-        ∙ ap (λ (x : ℕ). and_then (field_byte (Cover Map) x u) (from_map w nodes root n)) (sym is)
+        ∙ ap (λ (x : ℕ). and_then (field_byte (Cover (Map x)) u) (from_map w nodes root n)) (sym is)
 
-    pub map-stops : {j : ℕ} → field_byte (Cover Map) p u ≡ refused j → (w : Bool) (nodes root : ℕ) → lut_body w nodes k root (drop at s) ≡ refused j
+    pub map-stops : {j : ℕ} → field_byte (Cover (Map p)) u ≡ refused j → (w : Bool) (nodes root : ℕ) → lut_body w nodes k root (drop at s) ≡ refused j
     map-stops g w nodes root = size-goes w nodes root ∙ then-stops (from_map w nodes root n) g
 
-    pub head-goes : (m end : ℕ) → field_byte (Cover Map) p u ≡ got m (drop end s) → k ≤ most_k → HeadRead s at k (Ok (record { value = record { size = n; map = m }; at = end }))
+    pub head-goes : (m end : ℕ) → field_byte (Cover (Map p)) u ≡ got m (drop end s) → k ≤ most_k → HeadRead s at k (Ok (record { value = record { size = n; map = m }; at = end }))
     head-goes m end g six =
         let few = size_few k n (drop at s) u f in
         record { result = λ w nodes root. size-goes w nodes root ∙ then-goes (from_map w nodes root n) g; few = omega arith }
@@ -94,19 +94,19 @@ leaves-made b n m S D backs long hs hd sp =
     ∙ listed-first (copies-listed (take n S) backs) (copies-listed S backs) n (λ i l. ap (λ (x : ℕ). copy x (get_or backs i 0)) (take-alike n S hs i))
 
 module _ (w : Bool) (s : List ℕ) (at nodes n map : ℕ) where
-  pub nodes-stop : {j : ℕ} → times n (field_number w Leaf nodes) (drop at s) ≡ refused j → (root : ℕ) → from_map w nodes root n map (drop at s) ≡ refused j
+  pub nodes-stop : {j : ℕ} → times n (field_number w (Leaf nodes)) (drop at s) ≡ refused j → (root : ℕ) → from_map w nodes root n map (drop at s) ≡ refused j
   nodes-stop e root = then-stops (from_nodes w root n map) e
 
-  module _ (us t : List ℕ) (e : times n (field_number w Leaf nodes) (drop at s) ≡ got us t) (m : ℕ) (em : m ≡ ones (map % 64)) where
-    nodes-go : (root : ℕ) → from_map w nodes root n map (drop at s) ≡ and_then (times m (field_number true Depth 0) t) (from_depths w root n map us)
+  module _ (us t : List ℕ) (e : times n (field_number w (Leaf nodes)) (drop at s) ≡ got us t) (m : ℕ) (em : m ≡ ones (map % 64)) where
+    nodes-go : (root : ℕ) → from_map w nodes root n map (drop at s) ≡ and_then (times m (field_number true Depth) t) (from_depths w root n map us)
     unfolding depth_reader
     nodes-go root =
-        then-goes (from_nodes w root n map) e ∙ ap (λ (x : ℕ). and_then (times x (field_number true Depth 0) t) (from_depths w root n map us)) (sym em)
+        then-goes (from_nodes w root n map) e ∙ ap (λ (x : ℕ). and_then (times x (field_number true Depth) t) (from_depths w root n map us)) (sym em)
 
-    pub depths-stop : {j : ℕ} → times m (field_number true Depth 0) t ≡ refused j → (root : ℕ) → from_map w nodes root n map (drop at s) ≡ refused j
+    pub depths-stop : {j : ℕ} → times m (field_number true Depth) t ≡ refused j → (root : ℕ) → from_map w nodes root n map (drop at s) ≡ refused j
     depths-stop f root = nodes-go root ∙ then-stops (from_depths w root n map us) f
 
-    module _ (ds u : List ℕ) (f : times m (field_number true Depth 0) t ≡ got ds u) (L : List Copy) (is : leaves_from (map % 64) us ds ≡ L) where
+    module _ (ds u : List ℕ) (f : times m (field_number true Depth) t ≡ got ds u) (L : List Copy) (is : leaves_from (map % 64) us ds ≡ L) where
       depths-go : (root : ℕ) → from_map w nodes root n map (drop at s) ≡ and_then (check (rising_leaves L) 13 L u) (from_leaves w root n map)
       depths-go root =
           nodes-go root ∙ then-goes (from_depths w root n map us) f
@@ -120,20 +120,20 @@ module _ (w : Bool) (s : List ℕ) (at nodes n map : ℕ) where
 
 -- the lag and the table, where q lags and b table bytes are read
 module _ (w : Bool) (n map q b : ℕ) (eq : q ≡ map / 64) (eb : b ≡ table_bytes n) (root : ℕ) (L : List Copy) (t : List ℕ) where
-  lags-at : from_leaves w root n map L t ≡ and_then (times q (field_number w Lag 0) t) (from_lags w root n L)
-  lags-at = ap (λ (x : ℕ). and_then (times x (field_number w Lag 0) t) (from_lags w root n L)) (sym eq)
+  lags-at : from_leaves w root n map L t ≡ and_then (times q (field_number w Lag) t) (from_lags w root n L)
+  lags-at = ap (λ (x : ℕ). and_then (times x (field_number w Lag) t) (from_lags w root n L)) (sym eq)
 
-  pub lags-stop : {j : ℕ} → times q (field_number w Lag 0) t ≡ refused j → from_leaves w root n map L t ≡ refused j
+  pub lags-stop : {j : ℕ} → times q (field_number w Lag) t ≡ refused j → from_leaves w root n map L t ≡ refused j
   lags-stop e = lags-at ∙ then-stops (from_lags w root n L) e
 
-  module _ (lags u : List ℕ) (e : times q (field_number w Lag 0) t ≡ got lags u) where
-    lags-go : from_leaves w root n map L t ≡ and_then (times b (field_byte (Cover Table) n) u) (from_table w root L lags)
-    lags-go = lags-at ∙ then-goes (from_lags w root n L) e ∙ ap (λ (x : ℕ). and_then (times x (field_byte (Cover Table) n) u) (from_table w root L lags)) (sym eb)
+  module _ (lags u : List ℕ) (e : times q (field_number w Lag) t ≡ got lags u) where
+    lags-go : from_leaves w root n map L t ≡ and_then (times b (field_byte (Cover (Table n))) u) (from_table w root L lags)
+    lags-go = lags-at ∙ then-goes (from_lags w root n L) e ∙ ap (λ (x : ℕ). and_then (times x (field_byte (Cover (Table n))) u) (from_table w root L lags)) (sym eb)
 
-    pub table-stops : {j : ℕ} → times b (field_byte (Cover Table) n) u ≡ refused j → from_leaves w root n map L t ≡ refused j
+    pub table-stops : {j : ℕ} → times b (field_byte (Cover (Table n))) u ≡ refused j → from_leaves w root n map L t ≡ refused j
     table-stops f = lags-go ∙ then-stops (from_table w root L lags) f
 
-    pub tail-goes : (T v : List ℕ) → times b (field_byte (Cover Table) n) u ≡ got T v → (z : ℤ) (table : ℕ) → z ≡ from_signed w (first lags) → table ≡ from_bytes T
+    pub tail-goes : (T v : List ℕ) → times b (field_byte (Cover (Table n))) u ≡ got T v → (z : ℤ) (table : ℕ) → z ≡ from_signed w (first lags) → table ≡ from_bytes T
         → from_leaves w root n map L t ≡ got (record { root = root; leaves = L; lag = z; table = table }) v
     tail-goes T v f z table ez et =
         lags-go ∙ then-goes (from_table w root L lags) f

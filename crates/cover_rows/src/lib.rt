@@ -70,8 +70,8 @@ pub fn read_front(bytes: &[u8], rules: Rules) -> Result<Read<Front>, Refusal>
     requires { Offered rules }
     ensures { FrontRead rules bytes.now result }
 {
-    let period = read_number(bytes, 0, period_field(rules), 0, rules.wide)?;
-    let count = read_number(bytes, period.at, luts_field(rules), 0, rules.wide)?;
+    let period = read_number(bytes, 0, period_field(rules), rules.wide)?;
+    let count = read_number(bytes, period.at, luts_field(rules), rules.wide)?;
     let value = Front {
         period: period.value,
         luts: count.value,
@@ -95,9 +95,9 @@ fn read_head(bytes: &[u8], at: usize, k: usize) -> Result<Read<Head>, Refusal>
     requires { k ≤ most_k }
     ensures { HeadRead bytes.now at k result }
 {
-    let size = read_byte(bytes, at, Field::Cover(CoverField::Size), k)?;
+    let size = read_byte(bytes, at, Field::Cover(CoverField::Size(k)))?;
     let n = usize::from(size.value);
-    let map = read_byte(bytes, size.at, Field::Cover(CoverField::Map), power(n))?;
+    let map = read_byte(bytes, size.at, Field::Cover(CoverField::Map(power(n))))?;
     let value = Head {
         size: n,
         map: map.value,
@@ -138,11 +138,11 @@ fn spread(map: u8, n: usize, depths: [usize; ITEMS]) -> [usize; ITEMS]
     so.backs
 }
 
-// Whether one leaf comes before another.
-fn comes_before(node: usize, back: usize, next_node: usize, next_back: usize) -> bool
-    ensures { result ≡ before (copy node back) (copy next_node next_back) }
+// Whether one leaf, a node and a d, comes before another.
+fn comes_before(leaf: (usize, usize), next: (usize, usize)) -> bool
+    ensures { result ≡ before (copy leaf.0 leaf.1) (copy next.0 next.1) }
 {
-    node < next_node || (node == next_node && back < next_back)
+    leaf < next
 }
 
 // Whether n leaves rise.
@@ -151,7 +151,7 @@ fn rising(nodes: [usize; ITEMS], backs: [usize; ITEMS], n: usize) -> bool
     ensures { result ≡ rising_leaves (copies_from nodes backs 0 n) }
 {
     for i in 1..n {
-        if !comes_before(nodes[i - 1], backs[i - 1], nodes[i], backs[i]) {
+        if !comes_before((nodes[i - 1], backs[i - 1]), (nodes[i], backs[i])) {
             return false;
         }
     }
@@ -172,17 +172,10 @@ fn read_leaves(
     let Read {
         value: sources,
         at: depths_at,
-    } = read_numbers(bytes, at, head.size, NumberField::Leaf, nodes, two)?;
+    } = read_numbers(bytes, at, head.size, NumberField::Leaf(nodes), two)?;
     let bits = head.map % 64;
     let m = count_of(bits);
-    let Read { value: depths, at } = read_numbers(
-        bytes,
-        depths_at,
-        m,
-        NumberField::Depth,
-        0,
-        true,
-    )?;
+    let Read { value: depths, at } = read_numbers(bytes, depths_at, m, NumberField::Depth, true)?;
     let backs = spread(bits, head.size, depths);
     if !rising(sources, backs, head.size) {
         return Err(Refusal::Layout);
@@ -220,14 +213,13 @@ fn read_tail(bytes: &[u8], at: usize, head: Head, two: bool) -> Result<Read<Tail
     ensures { TailRead two bytes.now at head.size head.map result }
 {
     let q = usize::from(head.map) / 64;
-    let lags = read_numbers(bytes, at, q, NumberField::Lag, 0, two)?;
+    let lags = read_numbers(bytes, at, q, NumberField::Lag, two)?;
     let b = table_bytes(head.size);
     let table = read_items(
         bytes,
         lags.at,
         b,
-        Field::Cover(CoverField::Table),
-        head.size,
+        Field::Cover(CoverField::Table(head.size)),
     )?;
     let value = Tail {
         lag: lag_of_number(lags.value[0], two),
@@ -278,6 +270,6 @@ pub fn read_lut(
     requires { k ≤ most_k }
     ensures { LutRead two bytes.now at nodes k least result }
 {
-    let root = read_number(bytes, at, NumberField::Root(least), nodes, two)?;
+    let root = read_number(bytes, at, NumberField::Root { least, nodes }, two)?;
     read_body(bytes, root.at, nodes, k, root.value, two)
 }

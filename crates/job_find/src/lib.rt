@@ -27,7 +27,11 @@ fn look_luts(
     let mut next = at;
     let mut least = 0;
     for _i in 0..n {
-        let root = read_number(bytes, next, NumberField::Root(least), ANY_NODE, two)?;
+        let field = NumberField::Root {
+            least,
+            nodes: ANY_NODE,
+        };
+        let root = read_number(bytes, next, field, two)?;
         let r = root.value;
         if r == g {
             return Ok(Some(next));

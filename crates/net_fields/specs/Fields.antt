@@ -10,26 +10,26 @@ use Rattle.net_fields.specs.declared.CoverField.TheVariants as cover
 use Rattle.net_fields.specs.declared.NumberField.{NumberField}
 use Rattle.net_fields.specs.declared.NumberField.TheVariants.{Gates, Source, Period, Luts, Root, Leaf, Depth, Lag, ShortGates}
 
-abbrev pub allowed_of : Field → ℕ → ℕ → Bool
-allowed_of (Net Inputs) limit = is_head
-allowed_of (Net Outputs) limit = between 1 most_outputs
-allowed_of (Net PinMap) limit = between 1 63
-allowed_of (Net RegisterMap) limit = only_bits 8 limit
-allowed_of (Net Count) limit = between 1 most_count
-allowed_of (Net Table) limit = table_byte limit
-allowed_of (Net OutputMap) limit = λ b. leb b 1
-allowed_of (Net Past) limit = is_past
-allowed_of (Cover cover.Size) limit = between 1 limit
-allowed_of (Cover cover.Map) limit = λ b. ltb b 128 && ltb (b % 64) limit
-allowed_of (Cover cover.Table) limit = table_byte limit
+abbrev pub allowed_of : Field → ℕ → Bool
+allowed_of (Net Inputs) = is_head
+allowed_of (Net Outputs) = between 1 most_outputs
+allowed_of (Net PinMap) = between 1 63
+allowed_of (Net (RegisterMap pins)) = only_bits 8 pins
+allowed_of (Net Count) = between 1 most_count
+allowed_of (Net (Table pins)) = table_byte pins
+allowed_of (Net OutputMap) = λ b. leb b 1
+allowed_of (Net Past) = is_past
+allowed_of (Cover (cover.Size k)) = between 1 k
+allowed_of (Cover (cover.Map maps)) = λ b. ltb b 128 && ltb (b % 64) maps
+allowed_of (Cover (cover.Table leaves)) = table_byte leaves
 
 abbrev pub refusal_of : Field → ℕ
 refusal_of (Net Inputs) = 5
 refusal_of (Net Outputs) = 5
 refusal_of (Net PinMap) = 6
-refusal_of (Net RegisterMap) = 6
+refusal_of (Net (RegisterMap pins)) = 6
 refusal_of (Net Count) = 6
-refusal_of (Net Table) = 6
+refusal_of (Net (Table pins)) = 6
 refusal_of (Net OutputMap) = 6
 refusal_of (Net Past) = 6
 refusal_of (Cover f) = 13
@@ -40,44 +40,44 @@ early_of (Net f) = 4
 early_of (Cover f) = 13
 
 -- one byte of a field
-abbrev pub field_byte : Field → ℕ → Reader ℕ
-field_byte f limit = byte (early_of f) (refusal_of f) (allowed_of f limit)
+abbrev pub field_byte : Field → Reader ℕ
+field_byte f = byte (early_of f) (refusal_of f) (allowed_of f)
 
 -- ---- numbers, of one byte or two
 
-abbrev pub allowed_number : NumberField → ℕ → ℕ → Bool
-allowed_number Gates limit = between 1 most_gates
-allowed_number Source limit = λ n. ltb n limit
-allowed_number Period limit = between 1 most_period
-allowed_number Luts limit = between 1 most_luts
-allowed_number (Root least) limit = λ n. leb least n && ltb n limit
-allowed_number Leaf limit = λ n. ltb n limit
-allowed_number Depth limit = λ n. not (eqb n 0)
-allowed_number Lag limit = λ n. not (eqb n 0)
-allowed_number ShortGates limit = between 1 short_gates
+abbrev pub allowed_number : NumberField → ℕ → Bool
+allowed_number Gates = between 1 most_gates
+allowed_number (Source nodes) = λ n. ltb n nodes
+allowed_number Period = between 1 most_period
+allowed_number Luts = between 1 most_luts
+allowed_number (Root least nodes) = λ n. leb least n && ltb n nodes
+allowed_number (Leaf nodes) = λ n. ltb n nodes
+allowed_number Depth = λ n. not (eqb n 0)
+allowed_number Lag = λ n. not (eqb n 0)
+allowed_number ShortGates = between 1 short_gates
 
 abbrev pub number_refusal : NumberField → ℕ
 number_refusal Gates = 5
-number_refusal Source = 6
+number_refusal (Source nodes) = 6
 number_refusal Period = 13
 number_refusal Luts = 13
-number_refusal (Root least) = 13
-number_refusal Leaf = 13
+number_refusal (Root least nodes) = 13
+number_refusal (Leaf nodes) = 13
 number_refusal Depth = 13
 number_refusal Lag = 13
 number_refusal ShortGates = 5
 
 abbrev pub number_early : NumberField → ℕ
 number_early Gates = 4
-number_early Source = 4
+number_early (Source nodes) = 4
 number_early Period = 13
 number_early Luts = 13
-number_early (Root least) = 13
-number_early Leaf = 13
+number_early (Root least nodes) = 13
+number_early (Leaf nodes) = 13
 number_early Depth = 13
 number_early Lag = 13
 number_early ShortGates = 4
 
 -- one number of a field
-abbrev pub field_number : Bool → NumberField → ℕ → Reader ℕ
-field_number two f limit = number two (number_early f) (number_refusal f) (allowed_number f limit)
+abbrev pub field_number : Bool → NumberField → Reader ℕ
+field_number two f = number two (number_early f) (number_refusal f) (allowed_number f)

@@ -17,8 +17,8 @@ pub record Values (n : ℕ) (l : List ℕ) : Type 0 where
   pub long : length l ≡ most_items
 
 -- n bytes of a field from place `at` on are read, and the values behind them are 0
-pub record ItemsRead (s : List ℕ) (at n : ℕ) (f : Field) (limit : ℕ) (r : Result (Read (List ℕ)) Refusal) : Type 0 where
-  pub result : times n (field_byte f limit) (drop at s) ≡ outcome (take n) s r
+pub record ItemsRead (s : List ℕ) (at n : ℕ) (f : Field) (r : Result (Read (List ℕ)) Refusal) : Type 0 where
+  pub result : times n (field_byte f) (drop at s) ≡ outcome (take n) s r
   pub values : IfOk r (λ x. Values n x.value)
 
 -- the numbers of one byte, or of two
@@ -26,8 +26,8 @@ abbrev pub number_room : Bool → ℕ
 number_room two = cond two depth_room 256
 
 -- a number of a field at place `at` is read
-pub record NumberRead (two : Bool) (s : List ℕ) (at : ℕ) (f : NumberField) (limit : ℕ) (r : Result (Read ℕ) Refusal) : Type 0 where
-  pub result : field_number two f limit (drop at s) ≡ outcome (λ n. n) s r
+pub record NumberRead (two : Bool) (s : List ℕ) (at : ℕ) (f : NumberField) (r : Result (Read ℕ) Refusal) : Type 0 where
+  pub result : field_number two f (drop at s) ≡ outcome (λ n. n) s r
   pub small : IfOk r (λ x. x.value < number_room two)
 
 -- numbers of one byte, or of two
@@ -35,8 +35,8 @@ abbrev pub Small : Bool → List ℕ → Type 0
 Small two l = (i : ℕ) → get_or l i 0 < number_room two
 
 -- n numbers of a field from place `at` on are read, and the values behind them are 0
-pub record NumbersRead (two : Bool) (s : List ℕ) (at n : ℕ) (f : NumberField) (limit : ℕ) (r : Result (Read (List ℕ)) Refusal) : Type 0 where
-  pub result : times n (field_number two f limit) (drop at s) ≡ outcome (take n) s r
+pub record NumbersRead (two : Bool) (s : List ℕ) (at n : ℕ) (f : NumberField) (r : Result (Read (List ℕ)) Refusal) : Type 0 where
+  pub result : times n (field_number two f) (drop at s) ≡ outcome (take n) s r
   pub values : IfOk r (λ x. Values n x.value)
   pub small : IfOk r (λ x. Small two x.value)
 

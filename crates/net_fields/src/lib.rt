@@ -7,7 +7,7 @@ ghost use Rattle.limits.specs.Limits.{depth_room, most_items, most_pins};
 ghost use Rattle.limits.specs.Courses.{Offered};
 ghost use Rattle.net_model.specs.Tables.{bit};
 ghost use Rattle.net_bytes.specs.Reading.{between, check, number};
-ghost use Rattle.net_bytes.specs.Walk.{is_head, from_bytes, net_number, table_byte};
+ghost use Rattle.net_bytes.specs.Walk.{is_head, from_bytes, net_number, only_bits, table_byte};
 ghost use Rattle.net_fields.specs.Fields.{allowed_of, refusal_of, early_of, field_byte, allowed_number, number_refusal, number_early, field_number};
 ghost use Rattle.net_fields.specs.Outcomes.{outcome};
 ghost use Rattle.refusals.specs.Refusals.{number_of};
@@ -24,22 +24,24 @@ pub enum NetField {
     Inputs,
     Outputs,
     PinMap,
-    RegisterMap,
+    // Behind this pin map.
+    RegisterMap(u8),
     Count,
-    Table,
+    // Of so many pins.
+    Table(usize),
     OutputMap,
     Past,
 }
 
-// What a number of a net record or of a cover record may be. A root has the least one allowed.
+// What a number of a net record or of a cover record may be. A source and a leaf are below the number of nodes, and a root is from the least one on.
 #[derive(Clone, Copy)]
 pub enum NumberField {
     Gates,
-    Source,
+    Source(usize),
     Period,
     Luts,
-    Root(usize),
-    Leaf,
+    Root { least: usize, nodes: usize },
+    Leaf(usize),
     Depth,
     Lag,
     ShortGates,
@@ -48,9 +50,12 @@ pub enum NumberField {
 // What a byte of a cover record may be.
 #[derive(Clone, Copy)]
 pub enum CoverField {
-    Size,
-    Map,
-    Table,
+    // At most k.
+    Size(usize),
+    // The leaf bits below 2 to the number of leaves.
+    Map(usize),
+    // Of so many leaves.
+    Table(usize),
 }
 
 // What a byte of a record may be.
@@ -74,18 +79,17 @@ pub fn ones_of(map: u8) -> u32
     map.count_ones()
 }
 
-// Whether a byte may stand in a field of a net. The limit is the pin map for a register map and the number of pins for a table; no other
-// field looks at it.
-fn net_allowed(field: NetField, byte: u8, limit: usize) -> bool
-    ensures { result ≡ allowed_of (Field.Net field) limit byte }
+// Whether a byte may stand in a field of a net.
+fn net_allowed(field: NetField, byte: u8) -> bool
+    ensures { result ≡ allowed_of (Field.Net field) byte }
 {
     match field {
         NetField::Inputs => inputs_byte(byte),
         NetField::Outputs => matches!(byte, 1..=OUTPUTS_BYTE),
         NetField::PinMap => matches!(byte, 1..=63),
-        NetField::RegisterMap => within(byte, limit),
+        NetField::RegisterMap(pins) => within(byte, pins),
         NetField::Count => matches!(byte, 1..=COUNT_BYTE),
-        NetField::Table => table_byte(limit, byte),
+        NetField::Table(pins) => table_byte(pins, byte),
         NetField::OutputMap => byte <= 1,
         NetField::Past => byte <= 7,
     }
@@ -98,34 +102,32 @@ fn inputs_byte(byte: u8) -> bool
     matches!(byte % 128, 1..=INPUTS_BYTE)
 }
 
-// Whether a byte may stand in a field of a cover. The limit is k for a size, 2 to the number of leaves for a map and the number of leaves
-// for a table.
-fn cover_allowed(field: CoverField, byte: u8, limit: usize) -> bool
-    ensures { result ≡ allowed_of (Field.Cover field) limit byte }
+// Whether a byte may stand in a field of a cover.
+fn cover_allowed(field: CoverField, byte: u8) -> bool
+    ensures { result ≡ allowed_of (Field.Cover field) byte }
 {
     match field {
-        CoverField::Size => 1 <= byte && usize::from(byte) <= limit,
-        CoverField::Map => byte < 128 && usize::from(byte % 64) < limit,
-        CoverField::Table => table_byte(limit, byte),
+        CoverField::Size(k) => 1 <= byte && usize::from(byte) <= k,
+        CoverField::Map(maps) => byte < 128 && usize::from(byte % 64) < maps,
+        CoverField::Table(leaves) => table_byte(leaves, byte),
     }
 }
 
 // Whether a byte may stand in a field.
-fn allowed(field: Field, byte: u8, limit: usize) -> bool
-    ensures { result ≡ allowed_of field limit byte }
+fn allowed(field: Field, byte: u8) -> bool
+    ensures { result ≡ allowed_of field byte }
 {
     match field {
-        Field::Net(f) => net_allowed(f, byte, limit),
-        Field::Cover(f) => cover_allowed(f, byte, limit),
+        Field::Net(f) => net_allowed(f, byte),
+        Field::Cover(f) => cover_allowed(f, byte),
     }
 }
 
 // Whether a map has only bits of another.
-fn within(map: u8, whole: usize) -> bool
-    ensures { result ≡ allowed_of (Field.Net NetField.RegisterMap) whole map }
+fn within(map: u8, whole: u8) -> bool
+    ensures { result ≡ only_bits 8 whole map }
 {
-    let m = usize::from(map);
-    m & whole == m
+    map & whole == map
 }
 
 // Whether a table byte of so many pins or leaves has no spare bit set.
@@ -171,14 +173,14 @@ fn early(field: Field) -> Refusal
 }
 
 // The byte at a place: refused where the bytes end, or where it may not stand in the field.
-pub fn read_byte(bytes: &[u8], at: usize, field: Field, limit: usize) -> Result<Read<u8>, Refusal>
-    ensures { field_byte field limit (drop at bytes.now) ≡ outcome (λ b. b) bytes.now result }
+pub fn read_byte(bytes: &[u8], at: usize, field: Field) -> Result<Read<u8>, Refusal>
+    ensures { field_byte field (drop at bytes.now) ≡ outcome (λ b. b) bytes.now result }
 {
     if bytes.len() <= at {
         return Err(early(field));
     }
     let value = bytes[at];
-    if !allowed(field, value, limit) {
+    if !allowed(field, value) {
         return Err(refusal(field));
     }
     Ok(Read { value, at: at + 1 })
@@ -190,15 +192,14 @@ pub fn read_items(
     at: usize,
     n: usize,
     field: Field,
-    limit: usize,
 ) -> Result<Read<[u8; ITEMS]>, Refusal>
     requires { n ≤ most_items }
-    ensures { ItemsRead bytes.now at n field limit result }
+    ensures { ItemsRead bytes.now at n field result }
 {
     let mut values = [0u8; ITEMS];
     let mut next = at;
     for i in 0..n {
-        let item = read_byte(bytes, next, field, limit)?;
+        let item = read_byte(bytes, next, field)?;
         values[i] = item.value;
         next = item.at;
     }
@@ -208,17 +209,17 @@ pub fn read_items(
     })
 }
 
-// Whether a number may stand in a field. The limit is the number of nodes for a source, a root and a leaf; no other field looks at it.
-fn number_allowed(field: NumberField, value: usize, limit: usize) -> bool
-    ensures { result ≡ allowed_number field limit value }
+// Whether a number may stand in a field.
+fn number_allowed(field: NumberField, value: usize) -> bool
+    ensures { result ≡ allowed_number field value }
 {
     match field {
         NumberField::Gates => matches!(value, 1..=GATES),
-        NumberField::Source => value < limit,
+        NumberField::Source(nodes) => value < nodes,
         NumberField::Period => matches!(value, 1..=PERIOD_NUMBER),
         NumberField::Luts => matches!(value, 1..=LUTS),
-        NumberField::Root(least) => least <= value && value < limit,
-        NumberField::Leaf => value < limit,
+        NumberField::Root { least, nodes } => least <= value && value < nodes,
+        NumberField::Leaf(nodes) => value < nodes,
         NumberField::Depth => value != 0,
         NumberField::Lag => value != 0,
         NumberField::ShortGates => matches!(value, 1..=SHORT_GATES),
@@ -231,7 +232,7 @@ fn number_refusal(field: NumberField) -> Refusal
 {
     match field {
         NumberField::Gates | NumberField::ShortGates => Refusal::Sizes,
-        NumberField::Source => Refusal::Value,
+        NumberField::Source(_) => Refusal::Value,
         _ => Refusal::Layout,
     }
 }
@@ -241,7 +242,7 @@ fn number_early(field: NumberField) -> Refusal
     ensures { number_of result ≡ number_early field }
 {
     match field {
-        NumberField::Gates | NumberField::Source | NumberField::ShortGates => Refusal::EarlyEnd,
+        NumberField::Gates | NumberField::Source(_) | NumberField::ShortGates => Refusal::EarlyEnd,
         _ => Refusal::Layout,
     }
 }
@@ -249,18 +250,19 @@ fn number_early(field: NumberField) -> Refusal
 // The kind of G under these rules.
 pub fn gates_field(rules: Rules) -> NumberField
     requires { Offered rules }
-    ensures { (two : Bool) (limit : ℕ) → field_number two result limit ≡ net_number two 5 (between 1 rules.gates) }
+    ensures { (two : Bool) → field_number two result ≡ net_number two 5 (between 1 rules.gates) }
 {
     if rules.gates == SHORT_GATES {
-        return NumberField::ShortGates;
+        NumberField::ShortGates
+    } else {
+        NumberField::Gates
     }
-    NumberField::Gates
 }
 
 // The kind of a record's period under these rules.
 pub fn period_field(rules: Rules) -> NumberField
     requires { Offered rules }
-    ensures { (two : Bool) (limit : ℕ) → field_number two result limit ≡ number two 13 13 (between 1 rules.period) }
+    ensures { (two : Bool) → field_number two result ≡ number two 13 13 (between 1 rules.period) }
 {
     NumberField::Period
 }
@@ -268,22 +270,17 @@ pub fn period_field(rules: Rules) -> NumberField
 // The kind of a record's LUT count under these rules.
 pub fn luts_field(rules: Rules) -> NumberField
     requires { Offered rules }
-    ensures { (two : Bool) (limit : ℕ) → field_number two result limit ≡ number two 13 13 (between 1 rules.luts) }
+    ensures { (two : Bool) → field_number two result ≡ number two 13 13 (between 1 rules.luts) }
 {
     NumberField::Luts
 }
 
 // A number behind its last byte, tested.
-fn tested(
-    field: NumberField,
-    value: usize,
-    limit: usize,
-    behind: usize,
-) -> Result<Read<usize>, Refusal>
-    ensures same { (s : List ℕ) → check (allowed_number field limit value) (number_refusal field) value (drop behind s) ≡ outcome (λ n. n) s result }
+fn tested(field: NumberField, value: usize, behind: usize) -> Result<Read<usize>, Refusal>
+    ensures same { (s : List ℕ) → check (allowed_number field value) (number_refusal field) value (drop behind s) ≡ outcome (λ n. n) s result }
     ensures small { IfOk result (λ r. r.value ≡ value) }
 {
-    if !number_allowed(field, value, limit) {
+    if !number_allowed(field, value) {
         return Err(number_refusal(field));
     }
     Ok(Read { value, at: behind })
@@ -293,33 +290,23 @@ fn tested(
 fn paired(low: u8, high: u8) -> usize
     ensures { (result ≡ low + 256 * high) × (result < depth_room) }
 {
-    usize::from(low) + 256 * usize::from(high)
+    usize::from(u16::from_le_bytes([low, high]))
 }
 
 // The number of one byte at a place.
-fn read_one(
-    bytes: &[u8],
-    at: usize,
-    field: NumberField,
-    limit: usize,
-) -> Result<Read<usize>, Refusal>
-    ensures { NumberRead false bytes.now at field limit result }
+fn read_one(bytes: &[u8], at: usize, field: NumberField) -> Result<Read<usize>, Refusal>
+    ensures { NumberRead false bytes.now at field result }
 {
     if bytes.len() <= at {
         return Err(number_early(field));
     }
     let value = usize::from(bytes[at]);
-    tested(field, value, limit, at + 1)
+    tested(field, value, at + 1)
 }
 
 // The number of two bytes at a place.
-fn read_two(
-    bytes: &[u8],
-    at: usize,
-    field: NumberField,
-    limit: usize,
-) -> Result<Read<usize>, Refusal>
-    ensures { NumberRead true bytes.now at field limit result }
+fn read_two(bytes: &[u8], at: usize, field: NumberField) -> Result<Read<usize>, Refusal>
+    ensures { NumberRead true bytes.now at field result }
 {
     if bytes.len() <= at {
         return Err(number_early(field));
@@ -329,7 +316,7 @@ fn read_two(
         return Err(number_early(field));
     }
     let value = paired(bytes[at], bytes[second]);
-    tested(field, value, limit, second + 1)
+    tested(field, value, second + 1)
 }
 
 // The number at a place, of one byte or of two: refused where the bytes end, or where it may not stand in the field.
@@ -337,15 +324,14 @@ pub fn read_number(
     bytes: &[u8],
     at: usize,
     field: NumberField,
-    limit: usize,
     two: bool,
 ) -> Result<Read<usize>, Refusal>
-    ensures { NumberRead two bytes.now at field limit result }
+    ensures { NumberRead two bytes.now at field result }
 {
     if two {
-        read_two(bytes, at, field, limit)
+        read_two(bytes, at, field)
     } else {
-        read_one(bytes, at, field, limit)
+        read_one(bytes, at, field)
     }
 }
 
@@ -355,16 +341,15 @@ pub fn read_numbers(
     at: usize,
     n: usize,
     field: NumberField,
-    limit: usize,
     two: bool,
 ) -> Result<Read<[usize; ITEMS]>, Refusal>
     requires { n ≤ most_items }
-    ensures { NumbersRead two bytes.now at n field limit result }
+    ensures { NumbersRead two bytes.now at n field result }
 {
     let mut values = [0usize; ITEMS];
     let mut next = at;
     for i in 0..n {
-        let number = read_number(bytes, next, field, limit, two)?;
+        let number = read_number(bytes, next, field, two)?;
         values[i] = number.value;
         next = number.at;
     }
@@ -402,21 +387,9 @@ pub fn has(map: u8, i: usize) -> bool
     (usize::from(map) >> i) % 2 == 1
 }
 
-// One byte more below a number.
-fn joined(high: u64, low: u8) -> u64
-    requires { high < 2 ^ 56 }
-    ensures { result ≡ low + 256 * high }
-{
-    u64::from(low) + 256 * high
-}
-
 // The number of eight bytes, low byte first.
 pub fn number(values: [u8; ITEMS]) -> u64
     ensures { result ≡ from_bytes values }
 {
-    let mut n = 0;
-    for i in (0..ITEMS).rev() {
-        n = joined(n, values[i]);
-    }
-    n
+    u64::from_le_bytes(values)
 }

@@ -37,10 +37,10 @@ module _ (R : Rules) (s : List ℕ) (at : ℕ) where
   gates-number-stops e k i = body_stages R k i (drop at s) ∙ then-stops (from_gates R.wide k i) e
 
   module _ (g : ℕ) (t : List ℕ) (e : net_number R.wide 5 (between 1 R.gates) (drop at s) ≡ got g t) where
-    pub outputs-number-stops : {n : ℕ} → field_byte (OfNet Outputs) 0 t ≡ refused n → (k i : ℕ) → body_reader R k i (drop at s) ≡ refused n
+    pub outputs-number-stops : {n : ℕ} → field_byte (OfNet Outputs) t ≡ refused n → (k i : ℕ) → body_reader R k i (drop at s) ≡ refused n
     outputs-number-stops f k i = body_stages R k i (drop at s) ∙ then-goes (from_gates R.wide k i) e ∙ then-stops (from_sizes R.wide k i g) f
 
-    pub sizes-go : (o behind : ℕ) → field_byte (OfNet Outputs) 0 t ≡ got o (drop behind s)
+    pub sizes-go : (o behind : ℕ) → field_byte (OfNet Outputs) t ≡ got o (drop behind s)
         → SizesRead R s at (Ok (record { value = record { gates = g; outputs = o }; at = behind }))
     sizes-go o behind f =
         let few = (between-true 1 R.gates g (number-got R.wide 4 5 (between 1 R.gates) (drop at s) g t e)).1 in

@@ -173,7 +173,7 @@ fn follows(byte: u8) -> bool
 fn read_head(bytes: &[u8]) -> Result<Read<NetHead>, Refusal>
     ensures { HeadRead bytes.now result }
 {
-    let head = read_byte(bytes, 0, Field::Net(NetField::Inputs), 0)?;
+    let head = read_byte(bytes, 0, Field::Net(NetField::Inputs))?;
     let value = NetHead {
         inputs: usize::from(head.value % 128),
         section: follows(head.value),
@@ -187,8 +187,8 @@ fn read_sizes(bytes: &[u8], at: usize, rules: Rules) -> Result<Read<BodySizes>, 
     ensures { SizesRead rules bytes.now at result }
 {
     let field = gates_field(rules);
-    let gates = read_number(bytes, at, field, 0, rules.wide)?;
-    let outputs = read_byte(bytes, gates.at, Field::Net(NetField::Outputs), 0)?;
+    let gates = read_number(bytes, at, field, rules.wide)?;
+    let outputs = read_byte(bytes, gates.at, Field::Net(NetField::Outputs))?;
     let value = BodySizes {
         gates: gates.value,
         outputs: usize::from(outputs.value),
@@ -225,11 +225,11 @@ fn read_body(
 }
 
 // The number of bytes of the section.
-fn section_bytes(follows: bool, inputs: usize, gates: usize) -> usize
-    requires { (inputs ≤ most_inputs) × (gates ≤ most_gates) }
-    ensures { result ≡ cond follows (inputs + gates) 0 }
+fn section_bytes(follows: bool, s: NetSizes) -> usize
+    requires { (s.inputs ≤ most_inputs) × (s.gates ≤ most_gates) }
+    ensures { result ≡ cond follows (s.inputs + s.gates) 0 }
 {
-    if follows { inputs + gates } else { 0 }
+    if follows { s.inputs + s.gates } else { 0 }
 }
 
 // The walk: the net of the record in the slices and the place of its section, which is the rest of the bytes, or the first refusal met.
@@ -247,7 +247,7 @@ pub fn read_drawn(
     let head = read_head(bytes)?;
     let body = read_body(bytes, head.at, k, head.value.inputs, net, tables, rules)?;
     let sizes = body.value;
-    let n = section_bytes(head.value.section, sizes.inputs, sizes.gates);
+    let n = section_bytes(head.value.section, sizes);
     let end = read_section(bytes, body.at, n)?;
     if end < bytes.len() {
         return Err(Refusal::BytesBehind);

@@ -20,10 +20,10 @@ use Rattle.net_rows.specs.RowLaws.{pins_from-alike}
 use Rattle.net_rows.specs.RowParts.{MapsRead}
 
 module _ (s : List ℕ) (at k : ℕ) where
-  pub pin-map-stops : {n : ℕ} → field_byte (Net PinMap) 0 (drop at s) ≡ refused n → (wide : Bool) (nodes : ℕ) → gate_reader wide k nodes (drop at s) ≡ refused n
+  pub pin-map-stops : {n : ℕ} → field_byte (Net PinMap) (drop at s) ≡ refused n → (wide : Bool) (nodes : ℕ) → gate_reader wide k nodes (drop at s) ≡ refused n
   pin-map-stops e wide nodes = gate_stages wide k nodes (drop at s) ∙ then-stops (from_pin_map wide k nodes) e
 
-  module _ (p after : ℕ) (here : field_byte (Net PinMap) 0 (drop at s) ≡ got p (drop after s)) where
+  module _ (p after : ℕ) (here : field_byte (Net PinMap) (drop at s) ≡ got p (drop after s)) where
     pin-map-goes : (wide : Bool) (nodes : ℕ) → gate_reader wide k nodes (drop at s) ≡ from_pin_map wide k nodes p (drop after s)
     pin-map-goes wide nodes = gate_stages wide k nodes (drop at s) ∙ then-goes (from_pin_map wide k nodes) here
 
@@ -37,11 +37,11 @@ module _ (s : List ℕ) (at k : ℕ) where
     width-goes h wide nodes = pin-map-goes wide nodes
         ∙ ap (λ (t : Bool). and_then (check t 7 (ones p) (drop after s)) (from_width wide nodes p)) (le-leb (ones p) k h)
 
-    pub maps-stop : ones p ≤ k → {n : ℕ} → field_byte (Net RegisterMap) p (drop after s) ≡ refused n
+    pub maps-stop : ones p ≤ k → {n : ℕ} → field_byte (Net (RegisterMap p)) (drop after s) ≡ refused n
         → (wide : Bool) (nodes : ℕ) → gate_reader wide k nodes (drop at s) ≡ refused n
     maps-stop h f wide nodes = width-goes h wide nodes ∙ then-stops (from_maps wide nodes p (ones p)) f
 
-    pub maps-go : ones p ≤ k → (r end : ℕ) → field_byte (Net RegisterMap) p (drop after s) ≡ got r (drop end s)
+    pub maps-go : ones p ≤ k → (r end : ℕ) → field_byte (Net (RegisterMap p)) (drop after s) ≡ got r (drop end s)
         → MapsRead s at k (Ok (record { value = record { pins = p; registers = r }; at = end }))
     maps-go h r end f =
         let range = between-true 1 63 p (byte-got 4 6 (between 1 63) (drop at s) p (drop after s) here) in
@@ -53,28 +53,28 @@ module _ (s : List ℕ) (at k : ℕ) where
 
 -- the lists behind the maps, where m pins, c counts and b table bytes are read
 module _ (wide : Bool) (nodes p r m c b : ℕ) (em : m ≡ ones p) (ec : c ≡ ones r) (eb : b ≡ table_bytes m) (t : List ℕ) where
-  pub sources-stop : {n : ℕ} → times m (field_number wide Source nodes) t ≡ refused n → from_maps wide nodes p (ones p) r t ≡ refused n
+  pub sources-stop : {n : ℕ} → times m (field_number wide (Source nodes)) t ≡ refused n → from_maps wide nodes p (ones p) r t ≡ refused n
   sources-stop e = ap (λ (x : ℕ). from_maps wide nodes p x r t) (sym em) ∙ then-stops (from_sources m p r) e
 
-  module _ (S u : List ℕ) (e : times m (field_number wide Source nodes) t ≡ got S u) where
-    sources-go : from_maps wide nodes p (ones p) r t ≡ and_then (times c (field_byte (Net Count) 0) u) (from_counts m p r S)
+  module _ (S u : List ℕ) (e : times m (field_number wide (Source nodes)) t ≡ got S u) where
+    sources-go : from_maps wide nodes p (ones p) r t ≡ and_then (times c (field_byte (Net Count)) u) (from_counts m p r S)
     sources-go =
         ap (λ (x : ℕ). from_maps wide nodes p x r t) (sym em) ∙ then-goes (from_sources m p r) e
-        ∙ ap (λ (x : ℕ). and_then (times x (field_byte (Net Count) 0) u) (from_counts m p r S)) (sym ec)
+        ∙ ap (λ (x : ℕ). and_then (times x (field_byte (Net Count)) u) (from_counts m p r S)) (sym ec)
 
-    pub counts-stop : {n : ℕ} → times c (field_byte (Net Count) 0) u ≡ refused n → from_maps wide nodes p (ones p) r t ≡ refused n
+    pub counts-stop : {n : ℕ} → times c (field_byte (Net Count)) u ≡ refused n → from_maps wide nodes p (ones p) r t ≡ refused n
     counts-stop f = sources-go ∙ then-stops (from_counts m p r S) f
 
-    module _ (C w : List ℕ) (f : times c (field_byte (Net Count) 0) u ≡ got C w) where
-      counts-go : from_maps wide nodes p (ones p) r t ≡ and_then (times b (field_byte (Net Table) m) w) (from_table p r S C)
+    module _ (C w : List ℕ) (f : times c (field_byte (Net Count)) u ≡ got C w) where
+      counts-go : from_maps wide nodes p (ones p) r t ≡ and_then (times b (field_byte (Net (Table m))) w) (from_table p r S C)
       counts-go =
           sources-go ∙ then-goes (from_counts m p r S) f
-          ∙ ap (λ (x : ℕ). and_then (times x (field_byte (Net Table) m) w) (from_table p r S C)) (sym eb)
+          ∙ ap (λ (x : ℕ). and_then (times x (field_byte (Net (Table m))) w) (from_table p r S C)) (sym eb)
 
-      pub table-stops : {n : ℕ} → times b (field_byte (Net Table) m) w ≡ refused n → from_maps wide nodes p (ones p) r t ≡ refused n
+      pub table-stops : {n : ℕ} → times b (field_byte (Net (Table m))) w ≡ refused n → from_maps wide nodes p (ones p) r t ≡ refused n
       table-stops g = counts-go ∙ then-stops (from_table p r S C) g
 
-      pub lists-go : (T z : List ℕ) → times b (field_byte (Net Table) m) w ≡ got T z → from_maps wide nodes p (ones p) r t ≡ got (made_gate p r S C T) z
+      pub lists-go : (T z : List ℕ) → times b (field_byte (Net (Table m))) w ≡ got T z → from_maps wide nodes p (ones p) r t ≡ got (made_gate p r S C T) z
       lists-go T z g = counts-go ∙ then-goes (from_table p r S C) g
 
 -- a gate of lists with zeros behind

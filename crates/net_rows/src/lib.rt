@@ -104,13 +104,12 @@ fn spread(maps: Maps, counts: [u8; ITEMS]) -> [u8; ITEMS]
 fn read_maps(bytes: &[u8], at: usize, k: u32) -> Result<Read<Maps>, Refusal>
     ensures { MapsRead bytes.now at k result }
 {
-    let pins = read_byte(bytes, at, Field::Net(NetField::PinMap), 0)?;
+    let pins = read_byte(bytes, at, Field::Net(NetField::PinMap))?;
     let map = pins.value;
     if k < ones_of(map) {
         return Err(Refusal::WideGate);
     }
-    let whole = usize::from(map);
-    let registers = read_byte(bytes, pins.at, Field::Net(NetField::RegisterMap), whole)?;
+    let registers = read_byte(bytes, pins.at, Field::Net(NetField::RegisterMap(map)))?;
     Ok(Read {
         value: Maps {
             pins: map,
@@ -135,14 +134,14 @@ fn read_lists(
     let Read {
         value: sources,
         at: counts_at,
-    } = read_numbers(bytes, at, m, NumberField::Source, nodes, rules.wide)?;
+    } = read_numbers(bytes, at, m, NumberField::Source(nodes), rules.wide)?;
     let r = count_of(maps.registers);
     let Read {
         value: counts,
         at: table_at,
-    } = read_items(bytes, counts_at, r, Field::Net(NetField::Count), 0)?;
+    } = read_items(bytes, counts_at, r, Field::Net(NetField::Count))?;
     let b = table_bytes(m);
-    let Read { value: table, at } = read_items(bytes, table_at, b, Field::Net(NetField::Table), m)?;
+    let Read { value: table, at } = read_items(bytes, table_at, b, Field::Net(NetField::Table(m)))?;
     let value = Lists {
         sources,
         counts,
@@ -190,10 +189,10 @@ pub fn read_output(
 ) -> Result<Read<OutputRow>, Refusal>
     ensures { OutputRead rules.wide bytes.now at nodes result }
 {
-    let map = read_byte(bytes, at, Field::Net(NetField::OutputMap), 0)?;
-    let source = read_number(bytes, map.at, NumberField::Source, nodes, rules.wide)?;
+    let map = read_byte(bytes, at, Field::Net(NetField::OutputMap))?;
+    let source = read_number(bytes, map.at, NumberField::Source(nodes), rules.wide)?;
     let m = usize::from(map.value);
-    let counts = read_items(bytes, source.at, m, Field::Net(NetField::Count), 0)?;
+    let counts = read_items(bytes, source.at, m, Field::Net(NetField::Count))?;
     let value = OutputRow {
         source: source.value,
         count: counts.value[0],

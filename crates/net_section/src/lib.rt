@@ -12,7 +12,7 @@ pub fn read_section(bytes: &[u8], at: usize, n: usize) -> Result<usize, Refusal>
 {
     let mut next = at;
     for _i in 0..n {
-        let past = read_byte(bytes, next, Field::Net(NetField::Past), 0)?;
+        let past = read_byte(bytes, next, Field::Net(NetField::Past))?;
         next = past.at;
     }
     Ok(next)

@@ -10,17 +10,17 @@ ghost use Rattle.text_readings.specs.ReadingText.{sizes_text, reading_text};
 
 use inputs::{byte_at, net_length, place_behind};
 use limits::{GATES, PACKED, long_course};
-use net_reader::read_net;
+use net_reader::{NetSizes, read_net};
 use text_digits::{put_byte, put_field, write_refusal};
 
 // The numbers of inputs, gates and outputs on a line.
-fn write_sizes(inputs: usize, gates: usize, outputs: usize, out: &mut [u8]) -> usize
+fn write_sizes(z: NetSizes, out: &mut [u8]) -> usize
     requires { line_room ≤ length out.old }
-    ensures { Wrote (sizes_text inputs gates outputs) out.old out.new result }
+    ensures { Wrote (sizes_text z.inputs z.gates z.outputs) out.old out.new result }
 {
-    let a = put_field(b"read ", inputs, 0, out);
-    let b = put_field(b" ", gates, a, out);
-    let c = put_field(b" ", outputs, b, out);
+    let a = put_field(b"read ", z.inputs, 0, out);
+    let b = put_field(b" ", z.gates, a, out);
+    let c = put_field(b" ", z.outputs, b, out);
     put_byte(10, c, out)
 }
 
@@ -32,7 +32,7 @@ fn write_reading(net: &[u8], k: u32, out: &mut [u8]) -> usize
     let mut packed = [0usize; PACKED];
     let mut tables = [0u64; GATES];
     match read_net(net, k, long_course(), &mut packed, &mut tables) {
-        Ok(z) => write_sizes(z.inputs, z.gates, z.outputs, out),
+        Ok(z) => write_sizes(z, out),
         Err(refusal) => write_refusal(usize::from(u8::from(refusal)), out),
     }
 }

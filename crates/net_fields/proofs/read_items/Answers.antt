@@ -5,7 +5,7 @@ use Rattle.std.proofs.lemmas.Result.{err_from_is_err_and}
 use Rattle.net_fields.proofs.read_items.Goals as goal
 
 pub loop-i-init : goal.loop-i-init
-loop-i-init c = let a = c.args in items_none most_items (field_byte a.field a.limit) a.bytes.now a.at a.n
+loop-i-init c = let a = c.args in items_none most_items (field_byte a.field) a.bytes.now a.at a.n
 
 pub returns-in_err-item : goal.returns-in_err-item
 returns-in_err-item c =
@@ -14,7 +14,7 @@ returns-in_err-item c =
     let p = err_from_is_err_and c.from_residual.result c.from_residual.ensures.1 in
     rw (p.1, p.2)
     (record {
-      result = items_stop most_items (field_byte a.field a.limit) a.bytes.now a.at a.n l.values l.next l.i l.invariant c.loop-i-test.true c.in_err-item.ensures;
+      result = items_stop most_items (field_byte a.field) a.bytes.now a.at a.n l.values l.next l.i l.invariant c.loop-i-test.true c.in_err-item.ensures;
       values = tt;
     })
 
@@ -23,16 +23,16 @@ loop-i-preserved c =
     let a = c.args in
     let l = c.loop-i in
     let b = c.in_ok-item in
-    items_one most_items (field_byte a.field a.limit) a.bytes.now a.at a.n l.values l.next l.i l.invariant c.loop-i-test.true c.requires b.item.value b.item.at b.ensures
+    items_one most_items (field_byte a.field) a.bytes.now a.at a.n l.values l.next l.i l.invariant c.loop-i-test.true c.requires b.item.value b.item.at b.ensures
 
 pub returns : goal.returns
 returns c =
     let a = c.args in
     let l = c.loop-i in
     record {
-      result = items_all most_items (field_byte a.field a.limit) a.bytes.now a.at a.n l.values l.next l.i l.invariant c.loop-i-test.false;
+      result = items_all most_items (field_byte a.field) a.bytes.now a.at a.n l.values l.next l.i l.invariant c.loop-i-test.false;
       values = record {
-        spare = items_spare most_items (field_byte a.field a.limit) a.bytes.now a.at a.n l.values l.next l.i l.invariant;
+        spare = items_spare most_items (field_byte a.field) a.bytes.now a.at a.n l.values l.next l.i l.invariant;
         long = l.invariant.long;
       };
     }

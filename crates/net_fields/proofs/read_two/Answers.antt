@@ -8,7 +8,7 @@ pub returns-then-bytes-second : goal.returns-then-bytes-second
 returns-then-bytes-second c =
     let a = c.args in
     record {
-      result = two-cut (number_early a.field) (number_refusal a.field) (allowed_number a.field a.limit) a.bytes.now a.at (omega arith) (omega arith)
+      result = two-cut (number_early a.field) (number_refusal a.field) (allowed_number a.field) a.bytes.now a.at (omega arith) (omega arith)
           ∙ ap refused (sym c.number_early-then-bytes-second.ensures);
       small = tt;
     }

@@ -8,7 +8,7 @@ pub returns-in_err-gates : goal.returns-in_err-gates
 returns-in_err-gates c =
     let a = c.args in
     let s = a.bytes.now in
-    let is = ap (λ (m : Reader ℕ). m (drop a.at s)) (sym (c.gates_field-field.ensures a.rules.wide 0)) ∙ c.in_err-gates.ensures.result in
+    let is = ap (λ (m : Reader ℕ). m (drop a.at s)) (sym (c.gates_field-field.ensures a.rules.wide)) ∙ c.in_err-gates.ensures.result in
     let p = err_from_is_err_and c.from_residual.result c.from_residual.ensures.1 in
     rw (p.1, p.2) (record { result = gates-number-stops a.rules s a.at is; gates = tt; outputs = tt })
 
@@ -17,7 +17,7 @@ returns-in_err-outputs c =
     let a = c.args in
     let s = a.bytes.now in
     let g = c.in_ok-gates.gates in
-    let is = ap (λ (m : Reader ℕ). m (drop a.at s)) (sym (c.gates_field-field.ensures a.rules.wide 0)) ∙ c.in_ok-gates.ensures.result in
+    let is = ap (λ (m : Reader ℕ). m (drop a.at s)) (sym (c.gates_field-field.ensures a.rules.wide)) ∙ c.in_ok-gates.ensures.result in
     let p = err_from_is_err_and c.from_residual-in_err-outputs.result c.from_residual-in_err-outputs.ensures.1 in
     rw (p.1, p.2) (record { result = outputs-number-stops a.rules s a.at g.value (drop g.at s) is c.in_err-outputs.ensures; gates = tt; outputs = tt })
 
@@ -26,6 +26,6 @@ returns c =
     let a = c.args in
     let s = a.bytes.now in
     let g = c.in_ok-gates.gates in
-    let is = ap (λ (m : Reader ℕ). m (drop a.at s)) (sym (c.gates_field-field.ensures a.rules.wide 0)) ∙ c.in_ok-gates.ensures.result in
+    let is = ap (λ (m : Reader ℕ). m (drop a.at s)) (sym (c.gates_field-field.ensures a.rules.wide)) ∙ c.in_ok-gates.ensures.result in
     let o = c.in_ok-outputs in
     rw c.from.ensures (sizes-go a.rules s a.at g.value (drop g.at s) is o.outputs.value o.outputs.at o.ensures)
