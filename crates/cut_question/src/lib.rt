@@ -3,6 +3,7 @@
 
 ghost use Rattle.std.specs.Prelude.{◌+◌, ◌≤◌, is_some, unwrap_or, IfSome};
 ghost use Rattle.cut_circuit.specs.Packed.{packed_of};
+ghost use Rattle.cut_search.specs.Wired.{wired};
 ghost use Rattle.cut_least.specs.CutRounds.{Cleared, CutAsked};
 ghost use Rattle.cut_question.specs.Question.{Asks, Decides, Takes, Written};
 ghost use Rattle.cut_question.specs.Separating.{AtRest, SeparateAsked, SeenKept, LeavesSeen};
@@ -11,12 +12,11 @@ use cut_circuit::Extent;
 use cut_forced::{Query, few_outside, force, unforce};
 use cut_kept::keep_cut;
 use cut_least::{clear, leaves, min_cut};
+use cut_search::Wires;
 
 // Whether the forced set of the first f members has a cut of at most k leaves: they are kept, and the table is cleared again.
 fn separate(
-    s: Extent,
-    net: &[usize],
-    slots: &[u32],
+    w: Wires,
     table: &mut [u8],
     list: &mut [u32],
     stack: &mut [u32],
@@ -25,35 +25,23 @@ fn separate(
     f: usize,
     q: Query,
 ) -> bool
-    requires { SeparateAsked (packed_of s net.now slots.now) members.old f table.old list.old stack.old counts.old q.k q.gate }
+    requires { SeparateAsked (wired w) members.old f table.old list.old stack.old counts.old q.k q.gate }
     ensures cleared { Cleared table.new list.new }
-    ensures kept { SeenKept (packed_of s net.now slots.now) q.k q.gate members.old members.new result }
+    ensures kept { SeenKept (wired w.entry) q.k q.gate members.old members.new result }
 {
-    let least = min_cut(
-        s,
-        net,
-        slots,
-        table,
-        list,
-        stack,
-        counts,
-        &members[..f],
-        q.k,
-    );
+    let least = min_cut(w, table, list, stack, counts, &members[..f], q.k);
     let Some(r) = least else {
         clear(table, list);
         return false;
     };
-    keep_cut(s, table, list, members, q, r);
+    keep_cut(w.s, table, list, members, q, r);
     clear(table, list);
     true
 }
 
 // How many leaves the minimum cut of the forced set has, where they are at most k: they are written, and the table is cleared again.
 fn separate_leaves(
-    s: Extent,
-    net: &[usize],
-    slots: &[u32],
+    w: Wires,
     table: &mut [u8],
     list: &mut [u32],
     stack: &mut [u32],
@@ -63,15 +51,15 @@ fn separate_leaves(
     backs: &mut [usize],
     k: usize,
 ) -> Option<usize>
-    requires cut_asked { CutAsked (packed_of s net.now slots.now) members.now table.old list.old stack.old counts.old k }
-    requires takes { Takes (packed_of s net.now slots.now) k nodes.old backs.old }
+    requires cut_asked { CutAsked (wired w) members.now table.old list.old stack.old counts.old k }
+    requires takes { Takes (wired w) k nodes.old backs.old }
     ensures cleared { Cleared table.new list.new }
-    ensures seen { LeavesSeen (packed_of s net.now slots.now) k nodes.new backs.new (unwrap_or result (k + 1)) }
+    ensures seen { LeavesSeen (wired w.entry) k nodes.new backs.new (unwrap_or result (k + 1)) }
     ensures most { IfSome result (λ r. r ≤ k) }
 {
-    let least = min_cut(s, net, slots, table, list, stack, counts, members, k);
+    let least = min_cut(w, table, list, stack, counts, members, k);
     if least.is_some() {
-        leaves(s, table, list, nodes, backs);
+        leaves(w.s, table, list, nodes, backs);
     }
     clear(table, list);
     least
@@ -106,7 +94,8 @@ pub fn question(
         unforce(s, slots, &members[..f]);
         return true;
     }
-    let found = separate(s, net, slots, table, list, stack, counts, members, f, q);
+    let w = Wires { s, net, slots };
+    let found = separate(w, table, list, stack, counts, members, f, q);
     unforce(s, slots, &members[..f]);
     found
 }
@@ -141,10 +130,9 @@ pub fn chosen(
             return None;
         }
     };
+    let w = Wires { s, net, slots };
     let least = separate_leaves(
-        s,
-        net,
-        slots,
+        w,
         table,
         list,
         stack,

@@ -3,16 +3,25 @@
 
 ghost use Rattle.std.specs.Prelude.{◌≡◌, true, false, suc, ◌+◌, ◌-◌, ◌*◌, ◌/◌, ◌^◌, ◌≤◌, ◌<◌, length, get_or, drop, is_some, IfSome};
 ghost use Rattle.cut_circuit.specs.Circuit.{ending_at};
-ghost use Rattle.cut_circuit.specs.Packed.{packed_of, sources_at, counts_at, nexts_at, heads_at};
+ghost use Rattle.cut_circuit.specs.Packed.{sources_at, counts_at, nexts_at, heads_at};
 ghost use Rattle.cut_search.specs.SearchTable.{view_of, Touched, Noted, with_in, with_out, with_flow};
 ghost use Rattle.cut_search.specs.SearchParts.{TouchTold, ListRoom, MarkedOutTold, CandidateAsked, CandidateTold, SeekAsked, SeekTold, EntryTold, WayPlace, WayTold};
 ghost use Rattle.cut_search.specs.Stacks.{turn_at, frames_of};
 ghost use Rattle.cut_search.specs.StackParts.{PushAsked, Pushed};
+ghost use Rattle.cut_search.specs.Wired.{wired};
 ghost use Rattle.cut_search.specs.Steps.{ComeAsked, ComeTold, LeaveAsked, LeaveTold, StepAsked, StepTold, RunAsked, RunTold, UnwindAsked, UnwindTold, MemberAsked, MemberTold, SearchAsked, RootsAsked, Turning, SearchTold};
 
 use cut_circuit::{Extent, first_of, is_forced, number_at, pins_of, put_number, source};
 use inputs::narrow;
 use limits::PINS;
+
+// What a search reads: the net, and its forced copies.
+#[derive(Clone, Copy)]
+pub struct Wires<'a> {
+    pub s: Extent,
+    pub net: &'a [usize],
+    pub slots: &'a [u32],
+}
 
 // ---- the byte of a copy
 
@@ -181,19 +190,19 @@ fn entry(s: Extent, net: &[usize], table: &[u8], y: usize) -> Option<usize>
     successor(s, &net[a..], &net[b..], &net[d..], &net[c..], table, y)
 }
 
-// Where way w out of x leads: to the source of pin w - 1, or for 0 to x itself; nowhere if that source is forced, x carries no unit, or the copy is marked out.
-fn way(s: Extent, net: &[usize], slots: &[u32], table: &[u8], x: usize, w: usize) -> Option<usize>
-    requires { WayPlace (packed_of s net.now slots.now) table.now x w }
-    ensures { WayTold (packed_of s net.now slots.now) table.now x w result }
+// Where way i out of x leads: to the source of pin i - 1, or for 0 to x itself; nowhere if that source is forced, x carries no unit, or the copy is marked out.
+fn way(w: Wires, table: &[u8], x: usize, i: usize) -> Option<usize>
+    requires { WayPlace (wired w) table.now x i }
+    ensures { WayTold (wired w.entry) table.now x i result }
 {
-    if w == 0 {
+    if i == 0 {
         if flow_at(table, x) == 0 || out_at(table, x) {
             return None;
         }
         return Some(x);
     }
-    let y = source(s, net, x, w - 1);
-    if is_forced(s, slots, y) || out_at(table, y) {
+    let y = source(w.s, w.net, x, i - 1);
+    if is_forced(w.s, w.slots, y) || out_at(table, y) {
         return None;
     }
     Some(y)
@@ -226,21 +235,12 @@ fn push(stack: &mut [u32], x: usize, i: usize)
 }
 
 // Comes to e, which is marked in: it is opened where its node has room, or where it carries only its last turn is taken.
-fn come(
-    s: Extent,
-    net: &[usize],
-    slots: &[u32],
-    table: &mut [u8],
-    stack: &mut [u32],
-    counts: &mut [u32],
-    f: usize,
-    e: usize,
-)
-    requires { ComeAsked (packed_of s net.now slots.now) f table.old stack.old counts.old e }
-    ensures { ComeTold (packed_of s net.now slots.now) f table.old stack.old counts.old table.new stack.new counts.new e }
+fn come(w: Wires, table: &mut [u8], stack: &mut [u32], counts: &mut [u32], f: usize, e: usize)
+    requires { ComeAsked (wired w) f table.old stack.old counts.old e }
+    ensures { ComeTold (wired w.entry) f table.old stack.old counts.old table.new stack.new counts.new e }
 {
     set_in(table, e);
-    let u = e / s.width;
+    let u = e / w.s.width;
     let c = number_at(counts, u);
     if c <= f {
         put_number(counts, u, c + 1);
@@ -248,85 +248,79 @@ fn come(
         return;
     }
     if flow_at(table, e) > 0 {
-        push(stack, e, pins_of(s, net, e) + 1);
+        push(stack, e, pins_of(w.s, w.net, e) + 1);
     }
 }
 
 // Goes out of y, which is marked out: whether it is an open terminal, which takes a unit.
 fn leave(
-    s: Extent,
-    net: &[usize],
-    slots: &[u32],
+    w: Wires,
     table: &mut [u8],
     stack: &mut [u32],
     counts: &mut [u32],
     f: usize,
     y: usize,
 ) -> bool
-    requires { LeaveAsked (packed_of s net.now slots.now) f table.old stack.old counts.old y }
-    ensures { LeaveTold (packed_of s net.now slots.now) f table.old stack.old counts.old table.new stack.new counts.new y result }
+    requires { LeaveAsked (wired w) f table.old stack.old counts.old y }
+    ensures { LeaveTold (wired w.entry) f table.old stack.old counts.old table.new stack.new counts.new y result }
 {
-    if is_open(s, table, y) {
+    if is_open(w.s, table, y) {
         set_flow(table, y, 7);
         return true;
     }
-    let Some(e) = entry(s, net, table, y) else {
+    let Some(e) = entry(w.s, w.net, table, y) else {
         return false;
     };
     if in_at(table, e) {
         return false;
     }
-    come(s, net, slots, table, stack, counts, f, e);
+    come(w, table, stack, counts, f, e);
     false
 }
 
 // Takes the next turn of the top frame, or takes it off: whether a unit was found.
 fn step(
-    s: Extent,
-    net: &[usize],
-    slots: &[u32],
+    w: Wires,
     table: &mut [u8],
     list: &mut [u32],
     stack: &mut [u32],
     counts: &mut [u32],
     f: usize,
 ) -> bool
-    requires { StepAsked (packed_of s net.now slots.now) f table.old list.old stack.old counts.old }
-    ensures { StepTold (packed_of s net.now slots.now) f table.old stack.old counts.old table.new list.new stack.new counts.new result }
+    requires { StepAsked (wired w) f table.old list.old stack.old counts.old }
+    ensures { StepTold (wired w.entry) f table.old stack.old counts.old table.new list.new stack.new counts.new result }
 {
     let d = number_at(stack, 0);
     let top = number_at(stack, d);
     let x = top / 16;
-    let n = pins_of(s, net, x);
+    let n = pins_of(w.s, w.net, x);
     if n + 1 < top % 16 {
         put_number(stack, 0, d - 1);
         return false;
     }
-    let w = turn(n, first_of(s, net, x), top % 16);
+    let i = turn(n, first_of(w.s, w.net, x), top % 16);
     put_number(stack, d, top + 1);
-    let Some(y) = way(s, net, slots, table, x, w) else {
+    let Some(y) = way(w, table, x, i) else {
         return false;
     };
     mark_out(table, list, y);
-    leave(s, net, slots, table, stack, counts, f, y)
+    leave(w, table, stack, counts, f, y)
 }
 
 // Takes steps until the stack is empty or a unit was found: whether one was.
 fn run(
-    s: Extent,
-    net: &[usize],
-    slots: &[u32],
+    w: Wires,
     table: &mut [u8],
     list: &mut [u32],
     stack: &mut [u32],
     counts: &mut [u32],
     f: usize,
 ) -> bool
-    requires { RunAsked (packed_of s net.now slots.now) f table.old list.old stack.old counts.old }
-    ensures { RunTold (packed_of s net.now slots.now) f table.old stack.old counts.old table.new list.new stack.new counts.new result }
+    requires { RunAsked (wired w) f table.old list.old stack.old counts.old }
+    ensures { RunTold (wired w.entry) f table.old stack.old counts.old table.new list.new stack.new counts.new result }
 {
     while number_at(stack, 0) > 0 {
-        if step(s, net, slots, table, list, stack, counts, f) {
+        if step(w, table, list, stack, counts, f) {
             return true;
         }
     }
@@ -334,17 +328,17 @@ fn run(
 }
 
 // Takes the stack down to its lowest frame; each copy taken off gets its unit by the way that it took last.
-fn unwind(s: Extent, net: &[usize], slots: &[u32], table: &mut [u8], stack: &mut [u32])
-    requires { UnwindAsked (packed_of s net.now slots.now) table.old stack.old }
-    ensures { UnwindTold (packed_of s net.now slots.now) table.old stack.old table.new }
+fn unwind(w: Wires, table: &mut [u8], stack: &mut [u32])
+    requires { UnwindAsked (wired w) table.old stack.old }
+    ensures { UnwindTold (wired w.entry) table.old stack.old table.new }
 {
     while number_at(stack, 0) > 1 {
         let d = number_at(stack, 0);
         let top = number_at(stack, d);
         let x = top / 16;
-        let n = pins_of(s, net, x);
-        let w = turn(n, first_of(s, net, x), top % 16 - 1);
-        set_flow(table, x, narrow(w));
+        let n = pins_of(w.s, w.net, x);
+        let i = turn(n, first_of(w.s, w.net, x), top % 16 - 1);
+        set_flow(table, x, narrow(i));
         put_number(stack, 0, d - 1);
     }
 }
@@ -353,9 +347,7 @@ fn unwind(s: Extent, net: &[usize], slots: &[u32], table: &mut [u8], stack: &mut
 
 // Searches for a unit from the forced copy x: whether there is one.
 fn try_member(
-    s: Extent,
-    net: &[usize],
-    slots: &[u32],
+    w: Wires,
     table: &mut [u8],
     list: &mut [u32],
     stack: &mut [u32],
@@ -363,19 +355,19 @@ fn try_member(
     f: usize,
     x: usize,
 ) -> bool
-    requires { MemberAsked (packed_of s net.now slots.now) f table.old list.old stack.old counts.old x }
-    ensures { MemberTold (packed_of s net.now slots.now) f table.old stack.old counts.old table.new list.new stack.new counts.new x result }
+    requires { MemberAsked (wired w) f table.old list.old stack.old counts.old x }
+    ensures { MemberTold (wired w.entry) f table.old stack.old counts.old table.new list.new stack.new counts.new x result }
 {
-    let u = x / s.width;
+    let u = x / w.s.width;
     let c = number_at(counts, u);
     if f < c {
         return false;
     }
     put_number(counts, u, c + 1);
     push(stack, x, 0);
-    let found = run(s, net, slots, table, list, stack, counts, f);
+    let found = run(w, table, list, stack, counts, f);
     if found {
-        unwind(s, net, slots, table, stack);
+        unwind(w, table, stack);
     }
     found
 }
@@ -394,9 +386,7 @@ fn place_at(n: usize, from: usize, j: usize) -> usize
 
 // The same for all members of the forced set, those from a place on first, from an empty stack and counters at 0: the place of the member that a unit was found from.
 fn try_members(
-    s: Extent,
-    net: &[usize],
-    slots: &[u32],
+    w: Wires,
     table: &mut [u8],
     list: &mut [u32],
     stack: &mut [u32],
@@ -405,15 +395,15 @@ fn try_members(
     members: &[u32],
     from: usize,
 ) -> Option<usize>
-    requires roots_asked { RootsAsked (packed_of s net.now slots.now) f members.now table.old list.old stack.old counts.old }
+    requires roots_asked { RootsAsked (wired w) f members.now table.old list.old stack.old counts.old }
     requires from_in_bounds { from ≤ length members.now }
-    ensures search_told { SearchTold (packed_of s net.now slots.now) f table.old table.new list.new (is_some result) }
+    ensures search_told { SearchTold (wired w.entry) f table.old table.new list.new (is_some result) }
     ensures place { IfSome result (λ i. i < length members.now) }
 {
     for j in 0..members.len() {
         let i = place_at(members.len(), from, j);
         let x = number_at(members, i);
-        if try_member(s, net, slots, table, list, stack, counts, f, x) {
+        if try_member(w, table, list, stack, counts, f, x) {
             return Some(i);
         }
     }
@@ -422,9 +412,7 @@ fn try_members(
 
 // Searches for one more unit than the f that flow, from no marks: the place of the member that it was found from.
 pub fn search(
-    s: Extent,
-    net: &[usize],
-    slots: &[u32],
+    w: Wires,
     table: &mut [u8],
     list: &mut [u32],
     stack: &mut [u32],
@@ -433,12 +421,12 @@ pub fn search(
     members: &[u32],
     from: usize,
 ) -> Option<usize>
-    requires search_asked { SearchAsked (packed_of s net.now slots.now) f members.now table.old list.old stack.old counts.old }
+    requires search_asked { SearchAsked (wired w) f members.now table.old list.old stack.old counts.old }
     requires from_in_bounds { from ≤ length members.now }
-    ensures search_told { SearchTold (packed_of s net.now slots.now) f table.old table.new list.new (is_some result) }
+    ensures search_told { SearchTold (wired w.entry) f table.old table.new list.new (is_some result) }
     ensures place { IfSome result (λ i. i < length members.now) }
 {
     counts.fill(0);
     put_number(stack, 0, 0);
-    try_members(s, net, slots, table, list, stack, counts, f, members, from)
+    try_members(w, table, list, stack, counts, f, members, from)
 }

@@ -13,7 +13,7 @@ leaves-requires c =
 pub returns : goal.returns
 returns c =
     let count = unwrap_or c.min_cut-least.result (c.args.k + 1) in
-    let told : LeavesTold c.args.s.width c.args.k count c.min_cut-least.new.table c.if-is_some.nodes c.if-is_some.backs =
+    let told : LeavesTold c.args.w.s.width c.args.k count c.min_cut-least.new.table c.if-is_some.nodes c.if-is_some.backs =
     elim c.if-is_some.branch [
       | then-is_some w ↦ λ h. rw (w.nodes-is, w.backs-is) (w.leaves.result, w.leaves.ensures)
       | else-is_some w ↦ λ h. absurd (let l = count-many {k = c.args.k} c.min_cut-least.result (sym c.is_some.ensures ∙ w.if-is_some.false) in omega (arith, h, l))

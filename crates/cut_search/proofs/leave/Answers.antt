@@ -1,5 +1,5 @@
 use Rattle.std.proofs.Common.{sym, subst, List, arith, true}
-use Rattle.cut_circuit.specs.Packed.{packed_of}
+use Rattle.cut_search.specs.Wired.{wired}
 use Rattle.cut_search.specs.CopyLaws.{seek_asked}
 use Rattle.cut_search.specs.ComeLaws.{leave_inside, leave_wide, leave_entry, leave_open, leave_last, leave_met, leave_asked, leave_come}
 use Rattle.cut_search.specs.Steps.{LeaveTold}
@@ -14,7 +14,7 @@ set_flow-requires c = record { c_bound = leave_inside c.requires; n_bound = omeg
 pub returns-then-is_open : goal.returns-then-is_open
 returns-then-is_open c =
     let k = c.is_open.ensures.yes c.if-is_open.true in
-    subst (λ (t : List _). LeaveTold (packed_of c.args.s c.args.net.now c.args.slots.now) c.args.f c.args.table.now c.args.stack.now c.args.counts.now t c.args.stack.now c.args.counts.now c.args.y true) (sym c.set_flow.ensures)
+    subst (λ (t : List _). LeaveTold (wired c.args.w) c.args.f c.args.table.now c.args.stack.now c.args.counts.now t c.args.stack.now c.args.counts.now c.args.y true) (sym c.set_flow.ensures)
     (leave_open c.requires k.0 k.1)
 
 pub entry-requires : goal.entry-requires

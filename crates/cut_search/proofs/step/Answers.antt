@@ -19,30 +19,30 @@ returns-then-n-top c = read-popped c.requires c.number_at-d.ensures c.number_at-
 pub first_of-requires : goal.first_of-requires
 first_of-requires c = gate-plain (read_firsts c.requires c.number_at-d.ensures c.number_at-top.ensures)
 
-pub turn-w-requires : goal.turn-w-requires
-turn-w-requires c = read_first c.requires c.number_at-d.ensures c.number_at-top.ensures c.pins_of-n.ensures c.first_of.ensures
+pub turn-i-requires : goal.turn-i-requires
+turn-i-requires c = read_first c.requires c.number_at-d.ensures c.number_at-top.ensures c.pins_of-n.ensures c.first_of.ensures
 
 pub way-requires : goal.way-requires
-way-requires c = read-way c.requires c.number_at-d.ensures c.number_at-top.ensures c.pins_of-n.ensures (omega (arith, c.if-n-top.false)) c.first_of.ensures c.turn-w.ensures
+way-requires c = read-way c.requires c.number_at-d.ensures c.number_at-top.ensures c.pins_of-n.ensures (omega (arith, c.if-n-top.false)) c.first_of.ensures c.turn-i.ensures
 
 pub put_number-requires-2 : goal.put_number-requires-2
 put_number-requires-2 c = record { i_bound = read-depth c.requires c.number_at-d.ensures refl; n_bound = read_fits c.requires c.number_at-d.ensures c.number_at-top.ensures c.pins_of-n.ensures (omega (arith, c.if-n-top.false)) }
 
 pub returns-in_default : goal.returns-in_default
 returns-in_default c =
-    read-barred c.requires c.number_at-d.ensures c.number_at-top.ensures c.pins_of-n.ensures (omega (arith, c.if-n-top.false)) c.first_of.ensures c.turn-w.ensures (rw c.in_default.is at c.way.ensures)
+    read-barred c.requires c.number_at-d.ensures c.number_at-top.ensures c.pins_of-n.ensures (omega (arith, c.if-n-top.false)) c.first_of.ensures c.turn-i.ensures (rw c.in_default.is at c.way.ensures)
     c.put_number-2.ensures
 
 pub mark_out-requires : goal.mark_out-requires
 mark_out-requires c = let o = c.in-Some.ensures in
-    record { c_bound = o.inside; noted = c.requires.asked.noted; list_room = read-room c.requires c.number_at-d.ensures c.number_at-top.ensures c.pins_of-n.ensures (omega (arith, c.if-n-top.false)) c.first_of.ensures c.turn-w.ensures o; c_bound_2 = (omega (arith, o.inside, c.requires.asked.store.room, c.requires.asked.fixed.small), c.requires.asked.brief); c_value = o.fresh }
+    record { c_bound = o.inside; noted = c.requires.asked.noted; list_room = read-room c.requires c.number_at-d.ensures c.number_at-top.ensures c.pins_of-n.ensures (omega (arith, c.if-n-top.false)) c.first_of.ensures c.turn-i.ensures o; c_bound_2 = (omega (arith, o.inside, c.requires.asked.store.room, c.requires.asked.fixed.small), c.requires.asked.brief); c_value = o.fresh }
 
 pub leave-requires : goal.leave-requires
 leave-requires c =
-    read_leave c.requires c.number_at-d.ensures c.number_at-top.ensures c.pins_of-n.ensures (omega (arith, c.if-n-top.false)) c.first_of.ensures c.turn-w.ensures c.in-Some.ensures
+    read_leave c.requires c.number_at-d.ensures c.number_at-top.ensures c.pins_of-n.ensures (omega (arith, c.if-n-top.false)) c.first_of.ensures c.turn-i.ensures c.in-Some.ensures
     c.mark_out.ensures c.mark_out.auto.table c.put_number-2.ensures
 
 pub returns : goal.returns
 returns c =
-    read_left c.requires c.number_at-d.ensures c.number_at-top.ensures c.pins_of-n.ensures (omega (arith, c.if-n-top.false)) c.first_of.ensures c.turn-w.ensures c.in-Some.ensures
+    read_left c.requires c.number_at-d.ensures c.number_at-top.ensures c.pins_of-n.ensures (omega (arith, c.if-n-top.false)) c.first_of.ensures c.turn-i.ensures c.in-Some.ensures
     c.mark_out.ensures c.mark_out.auto.table c.put_number-2.ensures c.leave.ensures

@@ -5,27 +5,27 @@ use Rattle.cut_search.specs.UnwindLaws.{unwind_end, down-inside, down-pins, down
 use Rattle.cut_search.proofs.unwind.Goals as goal
 
 pub pins_of-n-requires : goal.pins_of-n-requires
-pins_of-n-requires c = gate-plain (down-pins c.loop-s.invariant.asked (omega (arith, c.number_at.ensures, c.loop-s-test.true)) c.number_at-d.ensures c.number_at-top.ensures)
+pins_of-n-requires c = gate-plain (down-pins c.loop-stack.invariant.asked (omega (arith, c.number_at.ensures, c.loop-stack-test.true)) c.number_at-d.ensures c.number_at-top.ensures)
 
 pub first_of-requires : goal.first_of-requires
-first_of-requires c = gate-plain (down-firsts c.loop-s.invariant.asked (omega (arith, c.number_at.ensures, c.loop-s-test.true)) c.number_at-d.ensures c.number_at-top.ensures)
+first_of-requires c = gate-plain (down-firsts c.loop-stack.invariant.asked (omega (arith, c.number_at.ensures, c.loop-stack-test.true)) c.number_at-d.ensures c.number_at-top.ensures)
 
 pub overflow_sub-top : goal.overflow_sub-top
-overflow_sub-top c = omega (arith, down-begun c.loop-s.invariant.asked (omega (arith, c.number_at.ensures, c.loop-s-test.true)) c.number_at-d.ensures c.number_at-top.ensures)
+overflow_sub-top c = omega (arith, down-begun c.loop-stack.invariant.asked (omega (arith, c.number_at.ensures, c.loop-stack-test.true)) c.number_at-d.ensures c.number_at-top.ensures)
 
-pub turn-w-requires : goal.turn-w-requires
-turn-w-requires c = down-first c.loop-s.invariant.asked (omega (arith, c.number_at.ensures, c.loop-s-test.true)) c.number_at-d.ensures c.number_at-top.ensures c.pins_of-n.ensures c.first_of.ensures
+pub turn-i-requires : goal.turn-i-requires
+turn-i-requires c = down-first c.loop-stack.invariant.asked (omega (arith, c.number_at.ensures, c.loop-stack-test.true)) c.number_at-d.ensures c.number_at-top.ensures c.pins_of-n.ensures c.first_of.ensures
 
 pub narrow-requires : goal.narrow-requires
-narrow-requires c = omega (arith, down-small c.loop-s.invariant.asked (omega (arith, c.number_at.ensures, c.loop-s-test.true)) c.number_at-d.ensures c.number_at-top.ensures c.pins_of-n.ensures c.first_of.ensures c.turn-w.ensures)
+narrow-requires c = omega (arith, down-small c.loop-stack.invariant.asked (omega (arith, c.number_at.ensures, c.loop-stack-test.true)) c.number_at-d.ensures c.number_at-top.ensures c.pins_of-n.ensures c.first_of.ensures c.turn-i.ensures)
 
 pub set_flow-requires : goal.set_flow-requires
-set_flow-requires c = record { c_bound = down-inside c.loop-s.invariant.asked (omega (arith, c.number_at.ensures, c.loop-s-test.true)) c.number_at-d.ensures c.number_at-top.ensures; n_bound = omega (arith, c.narrow.ensures, down-small c.loop-s.invariant.asked (omega (arith, c.number_at.ensures, c.loop-s-test.true)) c.number_at-d.ensures c.number_at-top.ensures c.pins_of-n.ensures c.first_of.ensures c.turn-w.ensures) }
+set_flow-requires c = record { c_bound = down-inside c.loop-stack.invariant.asked (omega (arith, c.number_at.ensures, c.loop-stack-test.true)) c.number_at-d.ensures c.number_at-top.ensures; n_bound = omega (arith, c.narrow.ensures, down-small c.loop-stack.invariant.asked (omega (arith, c.number_at.ensures, c.loop-stack-test.true)) c.number_at-d.ensures c.number_at-top.ensures c.pins_of-n.ensures c.first_of.ensures c.turn-i.ensures) }
 
-pub loop-s-preserved : goal.loop-s-preserved
-loop-s-preserved c =
-    down_step c.loop-s.invariant.asked (omega (arith, c.number_at.ensures, c.loop-s-test.true)) c.number_at-d.ensures c.number_at-top.ensures c.pins_of-n.ensures c.first_of.ensures (c.narrow.ensures ∙ c.turn-w.ensures)
-    c.loop-s.invariant c.set_flow.ensures c.set_flow.auto.table c.put_number.ensures
+pub loop-stack-preserved : goal.loop-stack-preserved
+loop-stack-preserved c =
+    down_step c.loop-stack.invariant.asked (omega (arith, c.number_at.ensures, c.loop-stack-test.true)) c.number_at-d.ensures c.number_at-top.ensures c.pins_of-n.ensures c.first_of.ensures (c.narrow.ensures ∙ c.turn-i.ensures)
+    c.loop-stack.invariant c.set_flow.ensures c.set_flow.auto.table c.put_number.ensures
 
 pub returns : goal.returns
-returns c = unwind_end c.loop-s.invariant (omega (arith, c.number_at.ensures, c.loop-s-test.false))
+returns c = unwind_end c.loop-stack.invariant (omega (arith, c.number_at.ensures, c.loop-stack-test.false))
