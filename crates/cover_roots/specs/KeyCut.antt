@@ -84,9 +84,9 @@ module _ {M : Mode} (s : Extent) (net slots : List ℕ) (b : ℕ) {ls : List ℤ
         (subst (λ (lab : ℕ → ℤ). LowCutIn M c.net k φ lab v (lab v)) label_is (c.key.cut v is_gate))
 
     -- **There is a cut,**
-    pub told-found : {found : Bool} → Decides (packed_of (bordered s b) net slots) ls φ k g h found → found ≡ true
-    told-found {found = true} a = refl
-    told-found {found = false} a = absurd (a.none c.net (holds_of b slots c.holds) c.ranked c.loopless M h near refl key-cut)
+    pub told-few : {found : Bool} → Decides (packed_of (bordered s b) net slots) ls φ k g h found → found ≡ true
+    told-few {found = true} a = refl
+    told-few {found = false} a = absurd (a.none c.net (holds_of b slots c.holds) c.ranked c.loopless M h near refl key-cut)
 
     -- **and its leaves are the key's.**
     pub told-leaves : {r : ℕ} {nodes backs : List ℕ} → r ≤ k → Written (packed_of (bordered s b) net slots) ls φ k g h nodes backs r → copies_from nodes backs 0 r ≡ c.key.leaves v

@@ -22,7 +22,7 @@ use Rattle.cover_roots.specs.Choosing.{Chooses, Keyed, Reads, RootsTold}
 use Rattle.cover_roots.specs.RootMarks.{IsAt, Among, Marks, left}
 use Rattle.cover_roots.specs.RootMarksLaws.{left-falls, marks-none, marks-behind}
 use Rattle.cut_circuit.specs.Bridge.{gate-of}
-use Rattle.cover_roots.specs.KeyCut.{told-found, told-leaves, copies-same}
+use Rattle.cover_roots.specs.KeyCut.{told-few, told-leaves, copies-same}
 use Rattle.cover_roots.specs.RootRounds.{CutWritten, Beside, LeavesKept, RowKept, LeafGate, Stored, Taken, Done, Choosing}
 use Rattle.signed.specs.Range.{label_in}
 use Rattle.cut_question.specs.Question.{Decides, Written}
@@ -39,7 +39,7 @@ pub cut-written : {M : Mode} {s e : Extent} {net slots : List ℕ} {ls : List �
     → CutWritten M (packed_of s net []) ls φ k g nodes backs found
 cut-written {M} {s} {e} {net} {slots} {ls} {φ} {k} g {h} {found = None} l B a few w z =
     let a' = subst (λ (x : Extent). Decides (packed_of x net slots) ls φ k g h false) (bordering_is B) a in
-    record { leaves = λ c. absurd (false≢true (told-found s net slots e.border g l c z B.border a')) }
+    record { leaves = λ c. absurd (false≢true (told-few s net slots e.border g l c z B.border a')) }
 cut-written {M} {s} {e} {net} {slots} {ls} {φ} {k} g {h} {found = Some r} {nodes} {backs} l B a few w z =
     let w' = subst (λ (x : Extent). Written (packed_of x net slots) ls φ k g h nodes backs r) (bordering_is B) w in
     record { leaves = λ c. (r, refl, few, told-leaves s net slots e.border g l c z B.border few w') }
