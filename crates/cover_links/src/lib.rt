@@ -11,6 +11,7 @@ ghost use Rattle.cover_links.specs.LinkPlaces.{Spotted, Found, LutFed, LutsFed, 
 ghost use Rattle.cover_links.specs.Links.{Linking, LinksTold};
 
 use limits::{LUTS, NODES, PINS};
+use net_marks::Ends;
 use refusals::Refusal;
 
 // The LUTs: LUT i has sizes[i] leaves from place PINS·i on. Node u has the LUT spots[u], or none where that is not below len.
@@ -23,14 +24,6 @@ struct Luts<'a> {
     backs: &'a [usize],
     lags: &'a [i64],
     len: usize,
-}
-
-// A net's outputs: output o reads node outs[o] through delays[o] registers.
-#[derive(Clone, Copy)]
-struct Ends<'a> {
-    outputs: usize,
-    outs: &'a [usize],
-    delays: &'a [usize],
 }
 
 // The place of each node's LUT, by node; n where there is none.
@@ -225,12 +218,7 @@ fn same(a: &[bool], b: &[bool], n: usize) -> bool
     requires { (n ≤ length a.now) × (n ≤ length b.now) }
     ensures { Tells result (Same a.now b.now n) }
 {
-    for i in 0..n {
-        if a[i] != b[i] {
-            return false;
-        }
-    }
-    true
+    a[..n] == b[..n]
 }
 
 // The marks of the LUTs that end a chain of period + 1 LUTs. All end a chain of 1 LUT, and a round asks for one LUT more; marks that a round leaves as they are stay so.

@@ -8,15 +8,7 @@ ghost use Rattle.net_marks.specs.Marks.{Marked, Low};
 ghost use Rattle.net_leading.specs.Heading.{Told, Heading, PushPins, PushOuts, HeadGate, PushSweep, Headed, Counted, HeadCheck};
 
 use limits::PINS;
-use net_marks::{Wiring, all_marked, zero};
-
-// A net's outputs: output i reads node outs[i] through delays[i] registers.
-#[derive(Clone, Copy)]
-struct Ends<'a> {
-    outputs: usize,
-    outs: &'a [usize],
-    delays: &'a [usize],
-}
+use net_marks::{Ends, Wiring, all_marked, zero};
 
 // Whether a node is an input or a gate with a mark of at most this value.
 fn settled(inputs: usize, seen: &[usize], node: usize, value: usize) -> bool

@@ -1,4 +1,4 @@
-// What the reader and the checks 9, 10 and 11 share: a net's wiring; marks of gates, which are numbers other than 0; numbers stored in a row.
+// What the reader and the checks of nets and covers share: a net's wiring and outputs; marks of gates, which are numbers other than 0; numbers stored in a row.
 #![tactic(auto)]
 
 ghost use Rattle.std.specs.Prelude.{◌≡◌, true, false, ℕ, ◌+◌, ◌-◌, ◌≤◌, ◌<◌, length, get_or};
@@ -14,6 +14,14 @@ pub struct Wiring<'a> {
     pub pins: &'a [usize],
     pub sources: &'a [usize],
     pub counts: &'a [usize],
+}
+
+// A net's outputs: output i reads node outs[i] through delays[i] registers.
+#[derive(Clone, Copy)]
+pub struct Ends<'a> {
+    pub outputs: usize,
+    pub outs: &'a [usize],
+    pub delays: &'a [usize],
 }
 
 // Whether a node is an input or a marked gate. A mark is a number other than 0.
