@@ -7,3 +7,4 @@ pub mod ForcedPinLaws
 pub mod GrowLaws
 pub mod ForcedLaws
 pub mod OutsideLaws
+pub mod Asked

@@ -8,6 +8,7 @@ ghost use Rattle.net_model.specs.Copies.{copy};
 ghost use Rattle.label_theory.specs.Labels.{Low};
 ghost use Rattle.signed.specs.Range.{label_in};
 ghost use Rattle.cut_circuit.specs.Packed.{packed_of, SlotAsked};
+ghost use Rattle.cut_forced.specs.Asked.{unforced};
 ghost use Rattle.cut_forced.specs.Slots.{holding, Unmarked};
 ghost use Rattle.cut_forced.specs.Outside.{OneMore, OutsideAsked, PinsOutside, FewAsked, FewTold};
 ghost use Rattle.cut_forced.specs.Forcing.{target, HoldAsked, Added, AddAsked, LowAsked, PinAsked, PinTold, MemberAsked, MemberTold, GrowAsked, GrowTold, ForceAsked, ForceTold, SameFrom, Listed};
@@ -23,6 +24,15 @@ pub struct Query {
     pub k: usize,
     pub gate: usize,
     pub height: i64,
+}
+
+// What is asked of a net: the question, and the labels that answer it.
+#[derive(Clone, Copy)]
+pub struct Ask<'a> {
+    pub s: Extent,
+    pub net: &'a [usize],
+    pub labels: &'a [i64],
+    pub q: Query,
 }
 
 // Whether the copy y is low enough for a leaf.
@@ -80,65 +90,52 @@ fn add(
 
 // Looks at pin j of the member x: its source may be a leaf, or is forced.
 fn force_pin(
-    s: Extent,
-    net: &[usize],
+    a: Ask,
     slots: &mut [u32],
     members: &mut [u32],
-    labels: &[i64],
-    q: Query,
     m: usize,
     x: usize,
     j: usize,
 ) -> Result<usize, usize>
-    requires { PinAsked (packed_of s net.now []) labels.now q.phi q.k slots.old members.old m x j }
-    ensures { PinTold s.inputs s.gates s.width s.border labels.now q.phi q.height q.k slots.old members.old m (feeder (packed_of s net.now []) x j) slots.new members.new result }
+    requires { PinAsked (unforced a) a.labels.now a.q.phi a.q.k slots.old members.old m x j }
+    ensures { PinTold a.entry.s.inputs a.entry.s.gates a.entry.s.width a.entry.s.border a.entry.labels.now a.entry.q.phi a.entry.q.height a.entry.q.k slots.old members.old m (feeder (unforced a.entry) x j) slots.new members.new result }
 {
-    let y = source(s, net, x, j);
-    if low(s.width, labels, q.phi, q.height, y) {
+    let y = source(a.s, a.net, x, j);
+    if low(a.s.width, a.labels, a.q.phi, a.q.height, y) {
         return Ok(m);
     }
-    add(s, slots, members, q.k, m, y)
+    add(a.s, slots, members, a.q.k, m, y)
 }
 
 // Looks at all pins of the member x.
 fn force_pins(
-    s: Extent,
-    net: &[usize],
+    a: Ask,
     slots: &mut [u32],
     members: &mut [u32],
-    labels: &[i64],
-    q: Query,
     m: usize,
     x: usize,
 ) -> Result<usize, usize>
-    requires { MemberAsked (packed_of s net.now []) labels.now q.phi q.height q.k slots.old members.old m x }
-    ensures { MemberTold (packed_of s net.now []) labels.now q.phi q.height q.k slots.old members.old m x slots.new members.new result }
+    requires { MemberAsked (unforced a) a.labels.now a.q.phi a.q.height a.q.k slots.old members.old m x }
+    ensures { MemberTold (unforced a.entry) a.entry.labels.now a.entry.q.phi a.entry.q.height a.entry.q.k slots.old members.old m x slots.new members.new result }
 {
-    let n = pins_of(s, net, x);
+    let n = pins_of(a.s, a.net, x);
     let mut c = m;
     for j in 0..n {
-        c = force_pin(s, net, slots, members, labels, q, c, x, j)?;
+        c = force_pin(a, slots, members, c, x, j)?;
     }
     Ok(c)
 }
 
 // Looks at all members, those that are added too.
-fn grow(
-    s: Extent,
-    net: &[usize],
-    slots: &mut [u32],
-    members: &mut [u32],
-    labels: &[i64],
-    q: Query,
-) -> Result<usize, usize>
-    requires { GrowAsked (packed_of s net.now []) labels.now q.phi q.height q.k slots.old members.old }
-    ensures { GrowTold (packed_of s net.now []) labels.now q.phi q.height q.k slots.old members.old slots.new members.new result }
+fn grow(a: Ask, slots: &mut [u32], members: &mut [u32]) -> Result<usize, usize>
+    requires { GrowAsked (unforced a) a.labels.now a.q.phi a.q.height a.q.k slots.old members.old }
+    ensures { GrowTold (unforced a.entry) a.entry.labels.now a.entry.q.phi a.entry.q.height a.entry.q.k slots.old members.old slots.new members.new result }
 {
     let mut m = 1;
     let mut i = 0;
     while i < m {
         let x = number_at(members, i);
-        m = force_pins(s, net, slots, members, labels, q, m, x)?;
+        m = force_pins(a, slots, members, m, x)?;
         i += 1;
     }
     Ok(m)
@@ -146,24 +143,17 @@ fn grow(
 
 // The forced set of gate g and threshold h, in slots and listed: how many copies it has; where there is no cut, how many were forced till then.
 // What stands behind the places of the members is kept.
-pub fn force(
-    s: Extent,
-    net: &[usize],
-    slots: &mut [u32],
-    members: &mut [u32],
-    labels: &[i64],
-    q: Query,
-) -> Result<usize, usize>
-    requires { ForceAsked (packed_of s net.now []) labels.now q.phi q.k q.gate slots.old members.old }
-    ensures told { ForceTold (packed_of s net.now []) (target labels.now q.phi (s.inputs + q.gate) q.height) q.k slots.new members.new result }
-    ensures behind { SameFrom (q.k * s.gates) members.old members.new }
+pub fn force(a: Ask, slots: &mut [u32], members: &mut [u32]) -> Result<usize, usize>
+    requires { ForceAsked (unforced a) a.labels.now a.q.phi a.q.k a.q.gate slots.old members.old }
+    ensures told { ForceTold (unforced a.entry) (target a.entry.labels.now a.entry.q.phi (a.entry.s.inputs + a.entry.q.gate) a.entry.q.height) a.entry.q.k slots.new members.new result }
+    ensures behind { SameFrom (a.entry.q.k * a.entry.s.gates) members.old members.new }
 {
-    let g = q.gate;
-    let x = (s.inputs + g) * s.width;
-    let most = q.k * s.gates;
-    hold(s.gates, slots, g, 0, 0);
+    let g = a.q.gate;
+    let x = (a.s.inputs + g) * a.s.width;
+    let most = a.q.k * a.s.gates;
+    hold(a.s.gates, slots, g, 0, 0);
     put_number(members, 0, x);
-    grow(s, net, slots, &mut members[..most], labels, q)
+    grow(a, slots, &mut members[..most])
 }
 
 // Takes the forced copies of the members' gates away.

@@ -9,7 +9,7 @@ ghost use Rattle.cut_question.specs.Question.{Asks, Decides, Takes, Written};
 ghost use Rattle.cut_question.specs.Separating.{AtRest, SeparateAsked, SeenKept, LeavesSeen};
 
 use cut_circuit::Extent;
-use cut_forced::{Query, few_outside, force, unforce};
+use cut_forced::{Ask, Query, few_outside, force, unforce};
 use cut_kept::keep_cut;
 use cut_least::{clear, leaves, min_cut};
 use cut_search::Wires;
@@ -83,7 +83,8 @@ pub fn question(
     ensures rest { AtRest (packed_of s net.now slots.new) table.new list.new stack.new counts.new members.new }
     ensures answer { Decides (packed_of s net.now slots.old) labels.now q.phi q.k q.gate q.height result }
 {
-    let f = match force(s, net, slots, members, labels, q) {
+    let a = Ask { s, net, labels, q };
+    let f = match force(a, slots, members) {
         Ok(f) => f,
         Err(f) => {
             unforce(s, slots, &members[..f]);
@@ -123,7 +124,8 @@ pub fn chosen(
     ensures most { IfSome result (λ r. r ≤ q.k) }
     ensures written { IfSome result (λ r. Written (packed_of s net.now slots.old) labels.now q.phi q.k q.gate q.height nodes.new backs.new r) }
 {
-    let f = match force(s, net, slots, members, labels, q) {
+    let a = Ask { s, net, labels, q };
+    let f = match force(a, slots, members) {
         Ok(f) => f,
         Err(f) => {
             unforce(s, slots, &members[..f]);
