@@ -51,12 +51,7 @@ fn lut_fed(w: Luts, i: usize) -> bool
     requires { LeafRoom w.spots.now w.sizes.now w.nodes.now w.len × (i < w.len) }
     ensures { Tells result (LutFed w.entry.inputs w.entry.spots.now w.entry.sizes.now w.entry.nodes.now w.entry.len i) }
 {
-    for j in 0..w.sizes[i] {
-        if !is_fed(w, w.nodes[PINS * i + j]) {
-            return false;
-        }
-    }
-    true
+    (0..w.sizes[i]).all(|j| is_fed(w, w.nodes[PINS * i + j]))
 }
 
 // Whether each leaf of each LUT is an input or has a LUT.
@@ -64,12 +59,7 @@ fn luts_fed(w: Luts) -> bool
     requires { LeafRoom w.spots.now w.sizes.now w.nodes.now w.len }
     ensures { Tells result (LutsFed w.entry.inputs w.entry.spots.now w.entry.sizes.now w.entry.nodes.now w.entry.len) }
 {
-    for i in 0..w.len {
-        if !lut_fed(w, i) {
-            return false;
-        }
-    }
-    true
+    (0..w.len).all(|i| lut_fed(w, i))
 }
 
 // Whether each output's source is an input or has a LUT.
@@ -77,12 +67,7 @@ fn outputs_fed(w: Luts, e: Ends) -> bool
     requires { (e.outputs ≤ length e.outs.now) × ((o : ℕ) → o < e.outputs → get_or e.outs.now o 0 < length w.spots.now) }
     ensures { Tells result (OutputsFed w.entry.inputs w.entry.spots.now w.entry.len e.entry.outs.now e.entry.outputs) }
 {
-    for o in 0..e.outputs {
-        if !is_fed(w, e.outs[o]) {
-            return false;
-        }
-    }
-    true
+    (0..e.outputs).all(|o| is_fed(w, e.outs[o]))
 }
 
 // The lag of LUT i, raised by 256.
@@ -122,12 +107,7 @@ fn lut_enough(w: Luts, i: usize) -> bool
     requires luts_fed { LutsFed w.inputs w.spots.now w.sizes.now w.nodes.now w.len }
     ensures { Tells result (LutEnough w.entry.inputs w.entry.spots.now w.entry.sizes.now w.entry.nodes.now w.entry.backs.now w.entry.lags.now i) }
 {
-    for j in 0..w.sizes[i] {
-        if !leaf_enough(w, i, j) {
-            return false;
-        }
-    }
-    true
+    (0..w.sizes[i]).all(|j| leaf_enough(w, i, j))
 }
 
 // Whether each leaf of each LUT has 0 registers or more.
@@ -136,12 +116,7 @@ fn luts_enough(w: Luts) -> bool
     requires luts_fed { LutsFed w.inputs w.spots.now w.sizes.now w.nodes.now w.len }
     ensures { Tells result (LutsEnough w.entry.inputs w.entry.spots.now w.entry.sizes.now w.entry.nodes.now w.entry.backs.now w.entry.lags.now w.entry.len) }
 {
-    for i in 0..w.len {
-        if !lut_enough(w, i) {
-            return false;
-        }
-    }
-    true
+    (0..w.len).all(|i| lut_enough(w, i))
 }
 
 // Whether output o has 0 registers or more.
@@ -160,12 +135,7 @@ fn outputs_enough(w: Luts, e: Ends) -> bool
     requires outputs_fed { OutputsFed w.inputs w.spots.now w.len e.outs.now e.outputs }
     ensures { Tells result (OutputsEnough w.entry.inputs w.entry.spots.now w.entry.lags.now e.entry.outs.now e.entry.delays.now e.entry.outputs) }
 {
-    for o in 0..e.outputs {
-        if !output_enough(w, e, o) {
-            return false;
-        }
-    }
-    true
+    (0..e.outputs).all(|o| output_enough(w, e, o))
 }
 
 // Whether leaf j of LUT i is a gate, joined with 0 registers, whose LUT is marked.
@@ -192,12 +162,7 @@ fn lut_long(w: Luts, i: usize, marks: &[bool]) -> bool
     requires luts_fed { LutsFed w.inputs w.spots.now w.sizes.now w.nodes.now w.len }
     ensures { Tells result (LutLong (Marked marks.now) w.entry.inputs w.entry.spots.now w.entry.sizes.now w.entry.nodes.now w.entry.backs.now w.entry.lags.now i) }
 {
-    for j in 0..w.sizes[i] {
-        if leaf_long(w, i, j, marks) {
-            return true;
-        }
-    }
-    false
+    (0..w.sizes[i]).any(|j| leaf_long(w, i, j, marks))
 }
 
 // One round: a LUT's next mark from the marks of the LUTs that feed it without registers.
