@@ -1,17 +1,17 @@
 -- Laws of the largest counts and their sum: it is M, or more.
-use Rattle.std.specs.Prelude.{◌≡◌, refl, length, get_or}
-use Rattle.std.proofs.Common.{sym, ◌∙◌, not-suc-le-zero}
+use Rattle.std.specs.Prelude.{◌≡◌, get_or}
+use Rattle.std.proofs.Common.{sym, not-suc-le-zero}
 use Rattle.std.proofs.Math.Path.{ap, subst}
 use mathlib.Core.List.{List}
-use Prim.Native.Nat.{ℕ, zero, suc, max, ◌+◌, ◌-◌, ◌*◌, ◌≤◌, ◌<◌}
+use Prim.Native.Nat.{ℕ, suc, max, ◌+◌, ◌-◌, ◌*◌, ◌≤◌, ◌<◌}
 use Rattle.std.proofs.Math.Decide.{ℕ_discrete}
 use native.Mathlib.Omega.{arith}
 use Rattle.sequences.specs.Member.{◌∈◌}
 use Rattle.sequences.specs.Decide.{count-from}
 use Rattle.sequences.specs.Sum.{sum}
-use Rattle.net_model.specs.Net.{Net, Pin, pins}
-use Rattle.net_model.specs.Arrays.{stride, pins_in}
-use Rattle.net_model.specs.ArrayLaws.{pins_in_in, pin_at}
+use Rattle.net_model.specs.Net.{Net, Pin}
+use Rattle.net_model.specs.Arrays.{stride}
+use Rattle.net_model.specs.ArrayLaws.{pins_in_in}
 use Rattle.net_model.specs.Wired.{Wired}
 use Rattle.limits.specs.Limits.{most_count}
 use Rattle.cone_theory.specs.FewCopies.{gate_numbers}
@@ -21,12 +21,12 @@ use Rattle.job_plan.specs.Counts.{MostCount, Counted, SumCounts}
 pub most-none : (co : List ℕ) (at : ℕ) → MostCount co at 0 0
 most-none co at = record { above = λ j h. absurd (not-suc-le-zero h); least = λ c f. omega arith }
 
-pub most-next : (co : List ℕ) (at n r : ℕ) → MostCount co at n r → MostCount co at (n + 1) (max r (get_or co (at + n) 0))
-most-next co at n r m = record { above = λ j k. go j k (ℕ_discrete j n); least = λ c f. let a = m.least c (λ j k. f j (omega arith)) in let b = f n (omega arith) in omega arith }
+pub most-next : {co : List ℕ} {at n r t : ℕ} → MostCount co at n r → t ≡ max r (get_or co (at + n) 0) → MostCount co at (n + 1) t
+most-next {co} {at} {n} {r} {t} m e = record { above = λ j k. go j k (ℕ_discrete j n); least = λ c f. let a = m.least c (λ j k. f j (omega arith)) in let b = f n (omega arith) in omega arith }
   where
-    go : (j : ℕ) → j < n + 1 → Dec (j ≡ n) → get_or co (at + j) 0 ≤ max r (get_or co (at + n) 0)
-    go j k (yes e) = omega (arith, ap (λ (x : ℕ). get_or co (at + x) 0) e)
-    go j k (no d) = let a = m.above j (omega arith) in omega arith
+    go : (j : ℕ) → j < n + 1 → Dec (j ≡ n) → get_or co (at + j) 0 ≤ t
+    go j k (yes q) = omega (arith, e, ap (λ (x : ℕ). get_or co (at + x) 0) q)
+    go j k (no d) = let a = m.above j (omega arith) in omega (arith, e)
 
 pub most-all : (co : List ℕ) (at j n r : ℕ) → j ≤ n → n ≤ j → MostCount co at j r → MostCount co at n r
 most-all co at j n r h k m = record { above = λ i l. m.above i (omega arith); least = λ c f. m.least c (λ i l. f i (omega arith)) }

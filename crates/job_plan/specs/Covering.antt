@@ -1,10 +1,10 @@
 -- What was found, chosen and tabulated is the written cover.
-use Rattle.std.specs.Prelude.{◌≡◌, refl, List, map, ℕ, ◌+◌, ◌*◌, ◌≤◌, ◌<◌, ℤ, pos, length, get_or, drop}
+use Rattle.std.specs.Prelude.{◌≡◌, refl, Some, None, List, map, ℕ, ◌+◌, ◌*◌, ◌≤◌, ◌<◌, ℤ, length, get_or, drop}
 use Rattle.std.proofs.Math.Path.{sym, ap, subst}
 use Rattle.std.proofs.Common.{ap₂, ◌∙◌, arith}
 use Rattle.integers.specs.Lag.{lag}
 use Rattle.sequences.specs.Member.{◌∈◌}
-use Rattle.net_model.specs.Net.{Net, IsGate}
+use Rattle.net_model.specs.Net.{Net}
 use Rattle.net_model.specs.Arrays.{stride, pins_in, copies_from}
 use Rattle.net_model.specs.ArrayLaws.{length-copies_from}
 use Rattle.net_model.specs.Wired.{Wired}
@@ -15,12 +15,11 @@ use Rattle.net_model.specs.Tables.{table_of}
 use Rattle.net_model.specs.FullTables.{repeated_table, full_of}
 use Rattle.cone_values.specs.FullTableLaws.{full-low, full-repeated}
 use Rattle.label_theory.specs.Labels.{Mode, ReachableIn}
-use Rattle.cover_theory.specs.Key.{KeyIn, Root, Entry, entries}
+use Rattle.cover_theory.specs.Key.{KeyIn, Root, entries}
 use Rattle.cover_period.specs.KeyOf.{key_of, entry_of, root-gate}
 use Rattle.cover_period.specs.KeyUnique.{numbers_unique}
-use Rattle.cover_records.specs.Kept.{Kept, kept, short_table, entry_at, entries_from, entries_in, Whole}
+use Rattle.cover_records.specs.Kept.{Kept, kept, short_table, entry_at, entries_in}
 use Rattle.cone_table.specs.ConeWords.{Tabled}
-use Rattle.cut_circuit.specs.Bridge.{Holds}
 use Rattle.signed.specs.Range.{label_in}
 use Rattle.cut_circuit.specs.Packed.{sources_at, counts_at}
 use Rattle.cut_circuit.specs.declared.Extent.{Extent}
@@ -28,35 +27,26 @@ use Rattle.label_visit.specs.LabelVisits.{Suits, wiring, tops_in}
 use Rattle.label_sweep.specs.Sweeps.{outs_in, delays_in}
 use Rattle.cover_roots.specs.Choosing.{Keyed, RootsTold}
 use Rattle.cone_luts.specs.Luts.{Tabulated}
-use Rattle.job_plan.specs.Found.{cap_in, PeriodFound}
+use Rattle.job_plan.specs.Found.{cap_in, Found, Missed}
 use Rattle.job_plan.specs.Entries.{roots_from, entries-roots, roots_in, in_roots, roots-rising}
-use Rattle.job_plan.specs.Planned.{Covered, Planned, CoverTold}
+use Rattle.job_plan.specs.Planned.{Covered, CoverTold}
 
 -- the labels of a key are those that it was made of
 key-label : {M : Mode} {N : Net} {k φ : ℕ} (P : Passed N k) (r : ReachableIn M N k φ) (u : ℕ) → (key_of P r).label u ≡ r.label u
 unfolding key_of
 key-label P r u = refl
 
-module _ {M : Mode} {s : Extent} {n : ℕ} {net ts : List ℕ} {k target : ℕ} {ls : List ℤ} {marks sizes nodes backs luts : List ℕ} where
-  -- the target is not reachable
-  pub told_none : {r : ℕ} → PeriodFound M (wiring s net) k target (tops_in s net (cap_in M)) (outs_in s net) (delays_in s net n) n ls r → r ≡ 0
-      → CoverTold M s n net ts k target (kept s.inputs s.gates 0 ls marks sizes nodes backs luts)
-  told_none f e = record {
-    cover = λ N S P T o. record {
-      none = λ z. ((f.none e).0, (f.none e).1 N S o);
-      some = λ h. absurd (nothing h);
-    };
-  }
-    where
-      nothing : 1 ≤ 0 → ⊥
-      nothing h = omega arith
+-- the target is not reachable
+pub told_none : {M : Mode} {s : Extent} {n : ℕ} {net ts : List ℕ} {k target : ℕ} {a : ℕ → Kept} → Missed M (wiring s net) k target (tops_in s net (cap_in M)) (outs_in s net) (delays_in s net n) n
+    → CoverTold M s n net ts k target a None
+told_none f = record { cover = λ N S P T o. (f.0, f.1 N S o) }
 
 module _ {M : Mode} {s : Extent} {net os oc : List ℕ} {n : ℕ} {tops : List ℕ} {k target : ℕ} {ls : List ℤ} {marks sizes nodes backs : List ℕ} where
-  module _ {r : ℕ} (six : k ≤ stride) (f : PeriodFound M (wiring s net) k target tops os oc n ls r) (one : 1 ≤ r)
+  module _ {r : ℕ} (six : k ≤ stride) (f : Found M (wiring s net) k target tops os oc n ls r)
       (told : RootsTold M (wiring s net) ls os n r k marks sizes nodes backs)
       (N : Net) (S : Suits M (wiring s net) k tops N) (P : Passed N k) (o : N.outputs ≡ pins_in os oc 0 n) where
     reachable : ReachableIn M N k r
-    reachable = let l = f.labels one N S P o in record { label = label_in ls; least = l.0; outputs = l.1 }
+    reachable = let l = f.labels N S P o in record { label = label_in ls; least = l.0; outputs = l.1 }
 
     wired : Wired N s.inputs s.gates net (drop (sources_at s.gates) net) (drop (counts_at s.gates) net)
     wired = let h = S.holds in record { inputs = h.inputs; gates = h.gates; wiring = h.lists }
@@ -155,9 +145,9 @@ module _ {M : Mode} {s : Extent} {net os oc : List ℕ} {n : ℕ} {tops : List �
       pub covered : Covered M N k target a
       unfolding keyed
       covered = record {
-        positive = one;
-        given = f.given one;
-        least = λ z. f.least one z N S P o;
+        positive = f.positive;
+        given = f.given;
+        least = λ z. f.least z N S P o;
         key = key;
         same = same_entries;
         labels = λ v g. label_is v;
@@ -168,12 +158,7 @@ module _ {M : Mode} {s : Extent} {net os oc : List ℕ} {n : ℕ} {tops : List �
 
 -- **the cover**
 pub told-cover : {M : Mode} {s : Extent} {n : ℕ} {net ts : List ℕ} {k target : ℕ} {ls : List ℤ} {marks sizes nodes backs luts : List ℕ} {r : ℕ} → k ≤ stride
-    → PeriodFound M (wiring s net) k target (tops_in s net (cap_in M)) (outs_in s net) (delays_in s net n) n ls r → ¬ (r ≡ 0) → RootsTold M (wiring s net) ls (outs_in s net) n r k marks sizes nodes backs
+    → Found M (wiring s net) k target (tops_in s net (cap_in M)) (outs_in s net) (delays_in s net n) n ls r → RootsTold M (wiring s net) ls (outs_in s net) n r k marks sizes nodes backs
     → Tabulated s.inputs s.gates net (drop (sources_at s.gates) net) (drop (counts_at s.gates) net) ts marks sizes nodes backs luts s.gates
-    → CoverTold M s n net ts k target (kept s.inputs s.gates r ls marks sizes nodes backs luts)
-told-cover {luts = luts} six f z told tab = record {
-  cover = λ N S P T o. record {
-    none = λ e. absurd (z e);
-    some = λ h. covered six f h told N S P o luts tab T;
-  };
-}
+    → CoverTold M s n net ts k target (λ φ. kept s.inputs s.gates φ ls marks sizes nodes backs luts) (Some r)
+told-cover {luts = luts} six f told tab = record { cover = λ N S P T o. covered six f told N S P o luts tab T }

@@ -1,9 +1,9 @@
 -- The engine's arrays: at rest at the start, and what the choice of the roots and the tables ask.
-use Rattle.std.specs.Prelude.{◌≡◌, refl, List, [], ◌∷◌, ◌++◌, ℕ, zero, suc, ◌+◌, ◌-◌, ◌*◌, ◌≤◌, ℤ, length, take, drop, replicate}
+use Rattle.std.specs.Prelude.{◌≡◌, refl, List, [], ◌∷◌, ◌++◌, ℕ, zero, suc, ◌+◌, ◌*◌, ◌≤◌, ℤ, length, take, drop, replicate}
 use Rattle.std.proofs.Common.{sym, subst, ◌∙◌, mul-le-mul_right, arith, length-append, length-drop, length-take-le, take_at, get_or-drop}
 use Rattle.std.proofs.lemmas.List.{length-replicate}
 use Rattle.sequences.specs.Zeros.{zeros}
-use Rattle.limits.specs.Limits.{most_gates, most_pins, most_copies, most_nodes, most_table, most_list, most_stack, most_held}
+use Rattle.limits.specs.Limits.{most_gates, most_pins, most_copies, most_nodes, most_list, most_stack, most_held}
 use Rattle.cover_records.specs.Rows.{sizes_in, nodes_in, backs_in}
 use Rattle.cone_descent.specs.Descent.{Clear}
 use Rattle.label_theory.specs.Labels.{Mode}
@@ -17,7 +17,7 @@ use Rattle.label_visit.specs.LabelVisits.{wiring, tops_in}
 use Rattle.label_sweep.specs.Sweeps.{outs_in, delays_in}
 use Rattle.cover_roots.specs.Choosing.{Chooses, RootsTold}
 use Rattle.cone_luts.specs.Luts.{Tabulates}
-use Rattle.job_plan.specs.Found.{cap_in, PeriodFound}
+use Rattle.job_plan.specs.Found.{cap_in, Found}
 use Rattle.job_plan.specs.Planned.{Engine, Roomy}
 use Rattle.job_plan.specs.Covering.{few-leaves, rising-leaves}
 
@@ -70,7 +70,7 @@ module _ {M : Mode} {s : Extent} {n : ℕ} {net ts : List ℕ} {k target : ℕ} 
     kept = kept-none (unbordered (packed_of s net (replicate most_held 0))) (replicate most_members 0) (let c = length-replicate {A = ℕ} most_members 0 in let b = e.wires.gates in omega arith) (zeros most_members);
   }
 
-  pub engine_chooses : {rows luts : List ℕ} {ls' : List ℤ} {r : ℕ} → Roomy s.gates rows luts → PeriodFound M (wiring s net) k target (tops_in s net (cap_in M)) (outs_in s net) (delays_in s net n) n ls' r
+  pub engine_chooses : {rows luts : List ℕ} {ls' : List ℤ} {r : ℕ} → Roomy s.gates rows luts → Found M (wiring s net) k target (tops_in s net (cap_in M)) (outs_in s net) (delays_in s net n) n ls' r
       → Chooses (wiring s net) ls' r k rows
   engine_chooses {r = r} room f = record {
     asking = record {
@@ -90,10 +90,10 @@ module _ {M : Mode} {s : Extent} {n : ℕ} {net ts : List ℕ} {k target : ℕ} 
   }
 
   pub engine_tabulates : {rows₀ luts rows : List ℕ} {ls' : List ℤ} {r : ℕ} → Roomy s.gates rows₀ luts → length rows ≡ length rows₀
-      → PeriodFound M (wiring s net) k target (tops_in s net (cap_in M)) (outs_in s net) (delays_in s net n) n ls' r → ¬ (r ≡ 0)
+      → Found M (wiring s net) k target (tops_in s net (cap_in M)) (outs_in s net) (delays_in s net n) n ls' r
       → RootsTold M (wiring s net) ls' (outs_in s net) n r k rows (sizes_in s.gates rows) (nodes_in s.gates rows) (backs_in s.gates rows)
       → Tabulates s.inputs s.gates net (drop (sources_at s.gates) net) (drop (counts_at s.gates) net) ts rows (sizes_in s.gates rows) (nodes_in s.gates rows) (backs_in s.gates rows)
-  engine_tabulates {rows = rows} room a f z told =
+  engine_tabulates {rows = rows} room a f told =
       let m = room.at_rows in
       record {
         wires = e.wires;
@@ -102,6 +102,6 @@ module _ {M : Mode} {s : Extent} {n : ℕ} {net ts : List ℕ} {k target : ℕ} 
         at_sizes = omega (arith, m, a, length-drop s.gates rows);
         at_nodes = omega (arith, m, a, length-drop (2 * s.gates) rows);
         at_backs = omega (arith, m, a, length-drop ((2 + most_pins) * s.gates) rows);
-        few = few-leaves e.few f (omega arith) told e.model e.suits e.passed e.ended;
-        rising = rising-leaves e.few f (omega arith) told e.model e.suits e.passed e.ended;
+        few = few-leaves e.few f told e.model e.suits e.passed e.ended;
+        rising = rising-leaves e.few f told e.model e.suits e.passed e.ended;
       }

@@ -1,5 +1,5 @@
 -- Definitions: the period of a cover and its labelling, for a target or the least.
-use Rattle.std.specs.Prelude.{◌≡◌, List, ℕ, ◌≤◌, ℤ}
+use Rattle.std.specs.Prelude.{◌≡◌, List, Option, MatchOption, ℕ, ◌≤◌, ℤ}
 use Rattle.net_model.specs.Net.{Net}
 use Rattle.net_model.specs.Arrays.{pins_in}
 use Rattle.net_model.specs.Checks.{Passed}
@@ -26,11 +26,19 @@ pub record PeriodAsked (s : Extent) (net : List ℕ) (ls : List ℤ) (tops order
   pub few : s.gates ≤ most_period
   pub near : target ≤ most_period
 
--- r is 0 where the target is not reachable; else the target, or the least period for target 0, with its least labelling, for every net that suits
-pub record PeriodFound (M : Mode) (C : Circuit) (k target : ℕ) (tops os oc : List ℕ) (n : ℕ) (ls : List ℤ) (r : ℕ) : Type 0 where
+-- φ is the target, or the least period for target 0, and the labels are its least labelling, for every net that suits
+pub record Found (M : Mode) (C : Circuit) (k target : ℕ) (tops os oc : List ℕ) (n : ℕ) (ls : List ℤ) (φ : ℕ) : Type 0 where
   pub fine : Fine C ls
-  pub bound : r ≤ most_period
-  pub none : r ≡ 0 → (1 ≤ target) × ((N : Net) → Suits M C k tops N → N.outputs ≡ pins_in os oc 0 n → ¬ ReachableIn M N k target)
-  pub given : 1 ≤ r → 1 ≤ target → r ≡ target
-  pub least : 1 ≤ r → target ≡ 0 → (N : Net) → Suits M C k tops N → Passed N k → N.outputs ≡ pins_in os oc 0 n → FirstReached M N k r
-  pub labels : 1 ≤ r → (N : Net) → Suits M C k tops N → Passed N k → N.outputs ≡ pins_in os oc 0 n → LeastIn M N k r (label_in ls) × OutputsMet N r (label_in ls)
+  pub positive : 1 ≤ φ
+  pub bound : φ ≤ most_period
+  pub given : 1 ≤ target → φ ≡ target
+  pub least : target ≡ 0 → (N : Net) → Suits M C k tops N → Passed N k → N.outputs ≡ pins_in os oc 0 n → FirstReached M N k φ
+  pub labels : (N : Net) → Suits M C k tops N → Passed N k → N.outputs ≡ pins_in os oc 0 n → LeastIn M N k φ (label_in ls) × OutputsMet N φ (label_in ls)
+
+-- the target is not reachable, in any net that suits
+abbrev pub Missed : Mode → Circuit → ℕ → ℕ → List ℕ → List ℕ → List ℕ → ℕ → Type 0
+Missed M C k target tops os oc n = (1 ≤ target) × ((N : Net) → Suits M C k tops N → N.outputs ≡ pins_in os oc 0 n → ¬ ReachableIn M N k target)
+
+-- the period, where there is one
+abbrev pub PeriodFound : Mode → Circuit → ℕ → ℕ → List ℕ → List ℕ → List ℕ → ℕ → List ℤ → Option ℕ → Type 0
+PeriodFound M C k target tops os oc n ls r = MatchOption r (Missed M C k target tops os oc n) (λ φ. Found M C k target tops os oc n ls φ)

@@ -1,5 +1,5 @@
 -- Definitions: what the arrays of a cover hold: the period, the labels and the LUTs of a net's written cover.
-use Rattle.std.specs.Prelude.{◌≡◌, List, ℕ, ◌+◌, ◌*◌, ◌-◌, ◌≤◌, ◌<◌, ℤ, pos, length, get_or, drop, replicate}
+use Rattle.std.specs.Prelude.{◌≡◌, List, Option, MatchOption, ℕ, ◌+◌, ◌*◌, ◌≤◌, ◌<◌, ℤ, pos, length, get_or, drop, replicate}
 use Rattle.net_model.specs.Net.{Net, IsGate}
 use Rattle.net_model.specs.Arrays.{stride, pins_in, net_in}
 use Rattle.net_model.specs.Checks.{Passed}
@@ -38,10 +38,9 @@ pub record Covered (M : Mode) (N : Net) (k target : ℕ) (a : Kept) : Type 0 whe
   pub few : (g : ℕ) → g < a.gates → ¬ (get_or a.marks g 0 ≡ 0) → get_or a.sizes g 0 ≤ stride
   pub whole : Whole a
 
--- A period of 0 says that the target is not reachable; else the cover is there.
-pub record Planned (M : Mode) (N : Net) (k target : ℕ) (a : Kept) : Type 0 where
-  pub none : a.period ≡ 0 → (1 ≤ target) × (¬ ReachableIn M N k target)
-  pub some : 1 ≤ a.period → Covered M N k target a
+-- The target is not reachable, or the cover with the period found is there.
+abbrev pub Planned : Mode → Net → ℕ → ℕ → (ℕ → Kept) → Option ℕ → Type 0
+Planned M N k target a r = MatchOption r ((1 ≤ target) × (¬ ReachableIn M N k target)) (λ φ. Covered M N k target (a φ))
 
 -- A net read and checked, in slices.
 pub record Planning (k target : ℕ) (z : NetSizes) (net ts : List ℕ) : Type 0 where
@@ -82,5 +81,7 @@ pub record Engine (M : Mode) (s : Extent) (n : ℕ) (net ts : List ℕ) (k targe
   pub few : k ≤ stride
 
 -- the cover, for every net that suits
-pub record CoverTold (M : Mode) (s : Extent) (n : ℕ) (net ts : List ℕ) (k target : ℕ) (a : Kept) : Type 0 where
-  pub cover : (N : Net) → Suits M (wiring s net) k (tops_in s net (cap_in M)) N → Passed N k → Tabled N s.inputs s.gates ts → N.outputs ≡ pins_in (outs_in s net) (delays_in s net n) 0 n → Planned M N k target a
+pub record CoverTold (M : Mode) (s : Extent) (n : ℕ) (net ts : List ℕ) (k target : ℕ) (a : ℕ → Kept) (r : Option ℕ) : Type 0 where
+  pub cover :
+      (N : Net) → Suits M (wiring s net) k (tops_in s net (cap_in M)) N → Passed N k → Tabled N s.inputs s.gates ts → N.outputs ≡ pins_in (outs_in s net) (delays_in s net n) 0 n
+      → Planned M N k target a r

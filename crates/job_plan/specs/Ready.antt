@@ -1,12 +1,11 @@
 -- From a net read and checked to the engine's arrays.
-use Rattle.std.specs.Prelude.{◌≡◌, refl, List, [], ◌∷◌, ◌++◌, ℕ, zero, suc, ◌+◌, ◌-◌, ◌*◌, ◌≤◌, ◌<◌, ℤ, pos, length, get_or, take, drop, replicate}
-use Rattle.std.proofs.Common.{sym, ap, subst, ◌∙◌, mul-le-mul, mul-le-mul_left, mul-le-mul_right, arith, take_at, get_or-drop}
-use Rattle.std.proofs.Math.Decide.{dec_lt}
+use Rattle.std.specs.Prelude.{◌≡◌, Option, Some, None, refl, List, ◌++◌, ℕ, ◌+◌, ◌-◌, ◌*◌, ◌≤◌, ◌<◌, ℤ, pos, length, get_or, take, drop, replicate}
+use Rattle.std.proofs.Common.{sym, ap, subst, ◌∙◌, mul-le-mul, mul-le-mul_left, arith, take_at, get_or-drop}
 use Rattle.std.proofs.lemmas.List.{length-replicate}
 use Rattle.std.proofs.Math.ListN.{get_or-append}
 use Rattle.net_model.specs.Net.{Net, Gate}
-use Rattle.net_model.specs.Arrays.{Arrays, stride, pins_in, gates_in, net_in}
-use Rattle.net_model.specs.ArrayLaws.{gate-net_in, gate_at, outputs-net_in}
+use Rattle.net_model.specs.Arrays.{Arrays, stride, pins_in, net_in}
+use Rattle.net_model.specs.ArrayLaws.{gate-net_in, outputs-net_in}
 use Rattle.net_model.specs.Wired.{Wired}
 use Rattle.net_model.specs.WiredLaws.{net_in-wired}
 use Rattle.net_model.specs.Checks.{Passed}
@@ -26,7 +25,6 @@ use Rattle.net_reader.specs.Rooms.{NetRoom}
 use Rattle.net_reader.specs.ReadWires.{read-wires, kept-facts, kept-room}
 use Rattle.net_reader.specs.WalkFacts.{WalkFacts}
 use Rattle.net_reader.specs.declared.NetSizes.{NetSizes}
-use Rattle.net_checks.specs.Graphs.{Graph}
 use Rattle.cone_copies.specs.CopyLists.{SmallWires}
 use Rattle.cone_table.specs.ConeWords.{Tabled}
 use Rattle.cut_circuit.specs.Circuit.{Layout}
@@ -34,10 +32,10 @@ use Rattle.cut_circuit.specs.Packed.{packed_of}
 use Rattle.cut_circuit.specs.declared.Extent.{Extent}
 use Rattle.cut_circuit.specs.PinLinks.{LinkAsked, LinkedIn, Links}
 use Rattle.cut_circuit.specs.PinLinksLaws.{chains}
-use Rattle.label_sweep.specs.Sweeps.{Sized, Ordered, order_in, outs_in, delays_in}
+use Rattle.label_sweep.specs.Sweeps.{order_in, outs_in, delays_in}
 use Rattle.label_visit.specs.LabelVisits.{Ceiled, Suits, wiring, Ceilings, tops_in}
 use Rattle.label_visit.specs.TopLaws.{tops-own, top-capped, capped}
-use Rattle.job_plan.specs.Counts.{Counted, SumCounts, Extending, extent_by, ExtentOf}
+use Rattle.job_plan.specs.Counts.{SumCounts, Extending, extent_by, ExtentOf}
 use Rattle.job_plan.specs.CountLaws.{sum-reach}
 use Rattle.job_plan.specs.Found.{cap_in, PeriodAsked}
 use Rattle.job_plan.specs.Planned.{Covered, Planned, Planning, Roomy, Engine, CoverTold}
@@ -279,16 +277,17 @@ module _ {k target : ℕ} {z : NetSizes} {net ts : List ℕ} (p : Planning k tar
     }
 
     -- **the cover, with its labels in front of a longer array**
-    plan_planned : {M : Mode} {ls : List ℤ} {rows luts : List ℕ} {r : ℕ} (rest : List ℤ) → length ls ≡ I + G
-        → CoverTold M extent z.outputs net ts k target (kept_in I G r ls rows luts)
-        → Planned M N k target (kept_in I G r (ls ++ rest) rows luts)
-    plan_planned {M} {ls} {rows} {luts} {r} rest e told = relabel (told.cover N (suits M) p.passed tabled outputs_are)
+    plan_planned : {M : Mode} {ls : List ℤ} {rows luts : List ℕ} (r : Option ℕ) (rest : List ℤ) → length ls ≡ I + G
+        → CoverTold M extent z.outputs net ts k target (λ φ. kept_in I G φ ls rows luts) r
+        → Planned M N k target (λ φ. kept_in I G φ (ls ++ rest) rows luts) r
+    plan_planned {M} {ls} {rows} {luts} r rest e told = relabel r (told.cover N (suits M) p.passed tabled outputs_are)
       where
         same : (u : ℕ) → u < I + G → get_or ls u (pos 0) ≡ get_or (ls ++ rest) u (pos 0)
         same u h = sym (get_or-append ls rest (pos 0) u (omega (arith, e, h)))
 
-        relabel : Planned M N k target (kept_in I G r ls rows luts) → Planned M N k target (kept_in I G r (ls ++ rest) rows luts)
-        relabel q = record { none = q.none; some = λ h. covered_with same (q.some h) wired.inputs wired.gates }
+        relabel : (r : Option ℕ) → Planned M N k target (λ φ. kept_in I G φ ls rows luts) r → Planned M N k target (λ φ. kept_in I G φ (ls ++ rest) rows luts) r
+        relabel None q = q
+        relabel (Some φ) q = covered_with same q wired.inputs wired.gates
 
 -- ---- the same for the extent that the program makes
 module _ {k target : ℕ} {z : NetSizes} {net ts : List ℕ} (p : Planning k target z net ts) {s : Extent} (x : ExtentOf z net k s) where
@@ -306,13 +305,13 @@ module _ {k target : ℕ} {z : NetSizes} {net ts : List ℕ} (p : Planning k tar
   pub planned-room : {rows luts : List ℕ} → Roomy z.gates rows luts → Roomy s.gates rows luts
   planned-room {rows} {luts} r = subst (λ (y : Extent). Roomy y.gates rows luts) (sym x.is) r
 
-  pub planned-cover : {M : Mode} {N : Net} → net_in (arrays_of z net ts) ≡ N → {ls : List ℤ} {rows luts : List ℕ} {r : ℕ} (rest : List ℤ) → length ls ≡ z.inputs + z.gates
-      → CoverTold M s z.outputs net ts k target (kept_in s.inputs s.gates r ls rows luts)
-      → Planned M N k target (kept_in z.inputs z.gates r (ls ++ rest) rows luts)
-  planned-cover {M} same {ls} {rows} {luts} {r} rest e told =
-      subst (λ (N : Net). Planned M N k target (kept_in z.inputs z.gates r (ls ++ rest) rows luts)) same
-      (plan_planned p x.sum rest e
-      (subst (λ (y : Extent). CoverTold M y z.outputs net ts k target (kept_in y.inputs y.gates r ls rows luts)) x.is told))
+  pub planned-cover : {M : Mode} {N : Net} → net_in (arrays_of z net ts) ≡ N → {ls : List ℤ} {rows luts : List ℕ} (r : Option ℕ) (rest : List ℤ) → length ls ≡ z.inputs + z.gates
+      → CoverTold M s z.outputs net ts k target (λ φ. kept_in s.inputs s.gates φ ls rows luts) r
+      → Planned M N k target (λ φ. kept_in z.inputs z.gates φ (ls ++ rest) rows luts) r
+  planned-cover {M} same {ls} {rows} {luts} r rest e told =
+      subst (λ (N : Net). Planned M N k target (λ φ. kept_in z.inputs z.gates φ (ls ++ rest) rows luts) r) same
+      (plan_planned p x.sum r rest e
+      (subst (λ (y : Extent). CoverTold M y z.outputs net ts k target (λ φ. kept_in y.inputs y.gates φ ls rows luts) r) x.is told))
 
 -- slices of zeros have room for a cover
 pub zero_room : (G : ℕ) → G ≤ most_gates → Roomy G (replicate most_rows 0) (replicate most_gates 0)

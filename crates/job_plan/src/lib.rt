@@ -22,7 +22,6 @@ use cut_circuit::{Extent, link};
 use cut_kept::ROW;
 use job_scratch::clear_first;
 use label_aim::Aim;
-use label_lines::greater;
 use label_period::least_period;
 use label_sweep::reach;
 use limits::{BEYOND, COPIES, GATES, HELD, LIST, NODES, PINS, STACK, TABLE};
@@ -37,10 +36,8 @@ fn most_count(counts: &[usize], at: usize, n: usize) -> usize
     ensures { MostCount counts.now at n result }
 {
     let mut most = 0;
-    let mut j = 0;
-    while j < n {
-        most = greater(most, counts[at + j]);
-        j += 1;
+    for j in 0..n {
+        most = most.max(counts[at + j]);
     }
     most
 }
@@ -51,12 +48,8 @@ fn sum_counts(gates: usize, pins: &[usize], counts: &[usize]) -> usize
     ensures { SumCounts gates pins.now counts.now 0 result }
 {
     let mut sum = 0;
-    let mut g = gates;
-    while 0 < g {
-        g -= 1;
-        let n = pins[g];
-        let c = most_count(counts, PINS * g, n);
-        sum += c;
+    for g in (0..gates).rev() {
+        sum += most_count(counts, PINS * g, pins[g]);
     }
     sum
 }
@@ -73,7 +66,7 @@ pub fn extent(z: NetSizes, net: &[usize], k: usize) -> Extent
         inputs: z.inputs,
         gates: z.gates,
         width: border + BEYOND,
-        border: border,
+        border,
     }
 }
 
@@ -81,13 +74,10 @@ pub fn extent(z: NetSizes, net: &[usize], k: usize) -> Extent
 fn cap_of(forward: bool) -> usize
     ensures { result ≡ cap_in (mode_of forward) }
 {
-    if forward {
-        return 1;
-    }
-    0
+    if forward { 1 } else { 0 }
 }
 
-// The target a.phi where it is reachable, or the least period for target 0, with the least labelling left in labels. 0: the target is not reachable.
+// The target a.phi where it is reachable, or the least period for target 0, with the least labelling left in labels.
 fn find_period(
     s: Extent,
     net: &[usize],
@@ -99,7 +89,7 @@ fn find_period(
     members: &mut [u32],
     labels: &mut [i64],
     a: Aim,
-) -> usize
+) -> Option<usize>
     requires at_rest { AtRest (packed_of s net.now slots.old) table.old list.old stack.old counts.old members.old }
     requires outputs_in_bounds { packed_room s.inputs s.gates a.outputs ≤ length net.now }
     requires period_asked { PeriodAsked s net.now labels.old (tops_in s net.now a.cap) (order_in s net.now) (outs_in s net.now) (delays_in s net.now a.outputs) a.outputs a.phi a.k × (a.trial ≡ false) }
@@ -107,19 +97,20 @@ fn find_period(
     ensures period_found { PeriodFound (mode_of a.forward) (wiring s net.now) a.k a.phi (tops_in s net.now a.cap) (outs_in s net.now) (delays_in s net.now a.outputs) a.outputs labels.new result }
 {
     if a.phi == 0 {
-        return least_period(
+        return Some(least_period(
             s, net, slots, table, list, stack, counts, members, labels, a,
-        );
+        ));
     }
     if reach(
         s, net, slots, table, list, stack, counts, members, labels, a,
     ) {
-        return a.phi;
+        Some(a.phi)
+    } else {
+        None
     }
-    0
 }
 
-// Period, labels, chosen roots, cuts and tables of a net with n outputs, with the engine's table lent, whose first bytes the questions take; the period is 0 where the target is not reachable.
+// Period, labels, chosen roots, cuts and tables of a net with n outputs, with the engine's table lent, whose first bytes the questions take; none where the target is not reachable.
 fn cover(
     s: Extent,
     n: usize,
@@ -132,10 +123,10 @@ fn cover(
     labels: &mut [i64],
     rows: &mut [usize],
     luts: &mut [u64],
-) -> usize
+) -> Option<usize>
     requires engine { Engine (mode_of forward) s n net.now tables.now k target table.old labels.old }
     requires roomy { Roomy s.gates rows.old luts.old }
-    ensures { CoverTold (mode_of forward) s n net.now tables.now k target (kept_in s.inputs s.gates result labels.new rows.new luts.new) }
+    ensures { CoverTold (mode_of forward) s n net.now tables.now k target (λ period. kept_in s.inputs s.gates period labels.new rows.new luts.new) result }
 {
     let end = (s.inputs + s.gates) * s.width;
     let mut slots = [0u32; HELD];
@@ -146,10 +137,10 @@ fn cover(
     let cap = cap_of(forward);
     let asked = Aim {
         phi: target,
-        k: k,
+        k,
         outputs: n,
-        cap: cap,
-        forward: forward,
+        cap,
+        forward,
         trial: false,
     };
     let phi = find_period(
@@ -163,18 +154,8 @@ fn cover(
         &mut members,
         labels,
         asked,
-    );
-    if phi == 0 {
-        return 0;
-    }
-    let found = Aim {
-        phi: phi,
-        k: k,
-        outputs: n,
-        cap: cap,
-        forward: forward,
-        trial: false,
-    };
+    )?;
+    let found = Aim { phi, ..asked };
     choose(
         s,
         net,
@@ -189,7 +170,7 @@ fn cover(
         rows,
     );
     tabulate(s.inputs, s.gates, net, tables, rows, luts, table);
-    phi
+    Some(phi)
 }
 
 // The same for a net read and checked, with its chains made. The first bytes of work are the engine's table.
@@ -204,10 +185,10 @@ pub fn plan(
     labels: &mut [i64],
     rows: &mut [usize],
     luts: &mut [u64],
-) -> usize
+) -> Option<usize>
     requires planning { Planning k target z net.old tables.now }
     requires most_table_in_bounds { (most_table ≤ length work.old) × (z.inputs + z.gates ≤ length labels.old) × Roomy z.gates rows.old luts.old }
-    ensures planned { Planned (mode_of forward) (net_in (arrays_of z net.old tables.now)) k target (kept_in z.inputs z.gates result labels.new rows.new luts.new) }
+    ensures planned { Planned (mode_of forward) (net_in (arrays_of z net.old tables.now)) k target (λ period. kept_in z.inputs z.gates period labels.new rows.new luts.new) result }
     ensures plan_kept { PlanKept z.inputs z.gates net.old net.new }
 {
     let all = z.inputs + z.gates;

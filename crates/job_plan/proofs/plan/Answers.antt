@@ -1,13 +1,11 @@
 use mathlib.Core.Path.{sym, ap, ◌∙◌}
-use Prim.Native.Nat.{ℕ, ◌+◌, ◌≤◌}
+use Prim.Native.Nat.{◌+◌, ◌≤◌}
 use native.Mathlib.Omega.{arith}
 use lib.ListN.{length, take, drop}
 use lib.Seq.{length-take-le}
 use Rattle.limits.specs.Limits.{most_table}
 use Rattle.label_aim.specs.Aims.{mode_of}
-use Rattle.job_plan.specs.Ready.{cleared-part, linked-kept, linked-net, linked_planning, plan_extending, planned-engine, planned-room, planned-cover}
-use Rattle.job_plan.specs.Engines.{length-behind}
-use Rattle.std.proofs.Common.{rules}
+use Rattle.job_plan.specs.Ready.{cleared-part, linked-kept, linked-net, linked_planning, planned-engine, planned-room, planned-cover}
 use Rattle.job_plan.proofs.plan.Goals as goal
 
 pub slice_bounds-cover-end-2 : goal.slice_bounds-cover-end-2
@@ -35,7 +33,7 @@ returns c = let cover = c.cover in
     let a = c.args in
     let p = (linked_planning c.requires.planning link.ensures) in
     record {
-      planned = planned-cover p c.extent-s.ensures (linked-net c.requires.planning link.ensures) (drop (a.z.inputs + a.z.gates) a.labels.now)
+      planned = planned-cover p c.extent-s.ensures (linked-net c.requires.planning link.ensures) cover.result (drop (a.z.inputs + a.z.gates) a.labels.now)
           (cover.auto.labels ∙ length-take-le (a.z.inputs + a.z.gates) a.labels.now c.requires.most_table_in_bounds.1) cover.ensures;
       plan_kept = record { kept = linked-kept c.requires.planning link.ensures; behind = link.ensures.apart.above };
     }

@@ -1,23 +1,18 @@
-use Prim.Native.Nat.{ℕ, ◌-◌, ◌≤◌}
-use native.Mathlib.Omega.{arith}
-use lib.ListN.{length}
+use Rattle.std.proofs.Common.{◌-◌, arith}
 use Rattle.limits.specs.Limits.{most_count}
-use Rattle.job_plan.specs.Counts.{SumCounts}
-use Rattle.job_plan.specs.CountLaws.{sum-none, sum-down, sum-all}
-use Rattle.std.proofs.Common.{rules}
+use Rattle.job_plan.specs.CountLaws.{sum-none, sum-down}
 use Rattle.job_plan.proofs.sum_counts.Goals as goal
 
 pub loop-g-init : goal.loop-g-init
-loop-g-init c = (omega arith, sum-none)
+loop-g-init c = sum-none
 
 pub overflow_add-sum : goal.overflow_add-sum
 overflow_add-sum c =
     let loop = c.loop-g in
-    let h = c.loop-g-test.true in let i = loop.invariant.0 in let p = c.requires in
-    let a = c.most_count-c.ensures.least most_count (λ j k. p.count (loop.g - 1) j (omega arith) k) in let b = loop.invariant.1.small in let q = p.gates in omega arith
+    let most = c.most_count-sum.ensures.least most_count (λ j k. c.requires.count (loop.g - 1) j (omega arith) k) in
+    let small = loop.invariant.small in
+    let few = c.requires.gates in
+    omega arith
 
 pub loop-g-preserved : goal.loop-g-preserved
-loop-g-preserved c =
-    let loop = c.loop-g in
-    let h = c.loop-g-test.true in let i = loop.invariant.0 in
-    (omega arith, sum-down loop.g loop.sum c.most_count-c.result h i c.requires loop.invariant.1 c.most_count-c.ensures)
+loop-g-preserved c = sum-down c.loop-g.g c.loop-g.sum c.most_count-sum.result c.loop-g-test.true (omega arith) c.requires c.loop-g.invariant c.most_count-sum.ensures
