@@ -1,5 +1,5 @@
 -- Definitions: checks 9 to 12 of a net read, and the cover: what they ask and tell.
-use Rattle.std.specs.Prelude.{◌≡◌, Bool, true, false, List, ℕ, ◌≤◌}
+use Rattle.std.specs.Prelude.{◌≡◌, Result, IfOk, Bool, true, false, List, ℕ, ◌≤◌}
 use Rattle.net_model.specs.Net.{Net}
 use Rattle.net_model.specs.Arrays.{net_in}
 use Rattle.net_model.specs.Checks.{Sound, Fits, Loopless, AllReached, AllLeading, Passed}
@@ -15,7 +15,8 @@ use Rattle.net_reader.specs.WalkFacts.{WalkFacts}
 use Rattle.net_reader.specs.declared.NetSizes.{NetSizes}
 use Rattle.net_checks.specs.Graphs.{Ordered}
 use Rattle.job_plan.specs.Planned.{Covered}
-use Rattle.job_settle.specs.declared.Settled.{Settled}
+use Rattle.refusals.specs.declared.Refusal.{Refusal}
+use Rattle.refusals.specs.Refusals.{code_of}
 
 -- a net read, in slices, for k and a target within the limits
 pub record Settling (k target : ℕ) (z : NetSizes) (net ts : List ℕ) : Type 0 where
@@ -41,13 +42,13 @@ pub record SettledNet (z : NetSizes) (net net' : List ℕ) (r : ℕ) : Type 0 wh
   pub kept : NetKept z.inputs z.gates net net'
   pub ordered : r ≡ 0 → Ordered z net'
 
--- wanted is the cover
-abbrev pub SettledAs : Mode → Bool → ℕ → ℕ → Net → Kept → ℕ → Type 0
-SettledAs M lacks k target N a r = Ended M lacks k target N (Covered M N k target a) r
+-- wanted is the cover with the period told
+abbrev pub SettledAs : Mode → Bool → ℕ → ℕ → Net → (ℕ → Kept) → Result ℕ Refusal → Type 0
+SettledAs M lacks k target N a r = Ended M lacks k target N (IfOk r (λ φ. Covered M N k target (a φ))) (code_of r)
 
 -- wanted is the least period alone
-abbrev pub LeastOf : ℕ → Net → Settled → Type 0
-LeastOf k N r = Ended plain false k 0 N (LeastPeriod N k r.period) r.refusal
+abbrev pub LeastOf : ℕ → Net → Result ℕ Refusal → Type 0
+LeastOf k N r = Ended plain false k 0 N (IfOk r (λ φ. LeastPeriod N k φ)) (code_of r)
 
 -- all passed, and what is wanted is there
 pub record Passing (lacks : Bool) (k : ℕ) (N : Net) (Wanted : Type 0) : Type 0 where

@@ -8,16 +8,16 @@ use Rattle.net_model.specs.WiredLaws.{net_in-wired}
 use Rattle.net_model.specs.Checks.{Passed}
 use Rattle.net_model.specs.PackedNet.{NetKept, order_at}
 use Rattle.net_model.specs.PackedNetLaws.{kept-net, kept_trans}
-use Rattle.label_theory.specs.Labels.{Mode, plain, forward}
+use Rattle.label_theory.specs.Labels.{Mode, plain, forward, ReachableIn}
 use Rattle.cover_theory.specs.Covers.{LeastPeriod}
 use Rattle.cover_records.specs.Kept.{Kept}
 use Rattle.cover_records.specs.Outcomes.{unmet}
 use Rattle.net_reader.specs.ReadAnswer.{arrays_of}
 use Rattle.net_reader.specs.ReadWires.{kept-facts, kept-room}
 use Rattle.net_reader.specs.declared.NetSizes.{NetSizes}
-use Rattle.net_checks.specs.Graphs.{NetOf, Graph, Says, passed, loop, unreached, unled, GraphTold}
-use Rattle.job_plan.specs.Planned.{Planned, Planning, PlanKept}
-use Rattle.job_settle.specs.Settling.{Settling, SettledNet, Ended, SettledAs, Passing, CoverSettled, loops, cut_off, idle, sectionless, unreachable, covered}
+use Rattle.net_checks.specs.Graphs.{Graph, Says, passed, loop, unreached, unled, GraphTold}
+use Rattle.job_plan.specs.Planned.{Covered, Planning, PlanKept}
+use Rattle.job_settle.specs.Settling.{Settling, SettledNet, Ended, Passing, CoverSettled, loops, cut_off, idle, sectionless, unreachable, covered}
 
 -- a net settled stays one where other parts of its slice are written
 module _ {k target : ℕ} {z : NetSizes} {net ts net' : List ℕ} (s : Settling k target z net ts) (q : NetKept z.inputs z.gates net net') where
@@ -106,15 +106,12 @@ module _ {k target : ℕ} {z : NetSizes} {net ts net' : List ℕ} {r : ℕ} (s :
     pub settled_lacks : {M : Mode} {lacks : Bool} {W : Type 0} → lacks ≡ true → Ended M lacks k target N W 21
     settled_lacks e = sectionless refl sure.passes e
 
-    module _ {M : Mode} {lacks : Bool} (l : lacks ≡ false) {a : Kept} (q : Planned M (net_in (arrays_of z net' ts)) k target a) where
-      planned : Planned M N k target a
-      planned = subst (λ (X : Net). Planned M X k target a) same q
+    module _ {M : Mode} {lacks : Bool} (l : lacks ≡ false) where
+      pub settled-none : {W : Type 0} {r' : ℕ} → (1 ≤ target) × (¬ ReachableIn M (net_in (arrays_of z net' ts)) k target) → r' ≡ unmet M → Ended M lacks k target N W r'
+      settled-none q e = unreachable e sure.passes l q.0 (subst (λ (X : Net). ¬ ReachableIn M X k target) same q.1)
 
-      pub settled-none : {W : Type 0} {r' : ℕ} → a.period ≡ 0 → r' ≡ unmet M → Ended M lacks k target N W r'
-      settled-none e u' = let u = planned.none e in unreachable u' sure.passes l u.0 u.1
-
-      pub settled-cover : ¬ (a.period ≡ 0) → SettledAs M lacks k target N a 0
-      settled-cover n = covered refl sure.passes l (planned.some (omega arith))
+      pub settled-cover : {a : Kept} → Covered M (net_in (arrays_of z net' ts)) k target a → Ended M lacks k target N (Covered M N k target a) 0
+      settled-cover {a} q = covered refl sure.passes l (subst (λ (X : Net). Covered M X k target a) same q)
 
     -- the least period is there
     pub settled-least : {φ : ℕ} → LeastPeriod (net_in (arrays_of z net' ts)) k φ → Ended plain false k target N (LeastPeriod N k φ) 0
@@ -143,8 +140,8 @@ ended-passing {M} {lacks} {k} {target} {N} {W} {r} e h = go e
     go (sectionless e P l) = absurd (none e (omega arith))
     go (unreachable e P l h' n) = absurd (none e (unmet-some M))
 
-pub cover-settled : {M : Mode} {lacks : Bool} {k target : ℕ} {N : Net} {a : Kept} {r : ℕ} → SettledAs M lacks k target N a r → r ≤ 0 → CoverSettled M lacks k target N a
-cover-settled s h = let p = ended-passing s h in record { passed = p.passed; sectioned = p.sectioned; cover = p.wanted }
+pub cover-settled : {M : Mode} {lacks : Bool} {k target : ℕ} {N : Net} {a : Kept} → Ended M lacks k target N (Covered M N k target a) 0 → CoverSettled M lacks k target N a
+cover-settled s = let p = ended-passing s (omega arith) in record { passed = p.passed; sectioned = p.sectioned; cover = p.wanted }
 
 pub settled-small : {M : Mode} {lacks : Bool} {k target : ℕ} {N : Net} {W : Type 0} {r : ℕ} → Ended M lacks k target N W r → r < 256
 settled-small (loops e n) = omega arith

@@ -9,11 +9,13 @@ ghost use Rattle.label_aim.specs.Aims.{mode_of};
 ghost use Rattle.cover_records.specs.Outcomes.{unmet};
 ghost use Rattle.cover_records.specs.Rows.{kept_in};
 ghost use Rattle.job_plan.specs.Planned.{Roomy};
+ghost use Rattle.refusals.specs.Refusals.{number_of, code_of};
 ghost use Rattle.job_settle.specs.Settling.{Settling, SettledNet, SettledAs};
 
 use job_plan::plan;
 use net_checks::check_graph;
 use net_reader::NetSizes;
+use refusals::Refusal;
 
 // What is asked of a net: the most leaves of a LUT, a target, whether covers are to be forward, and whether a run is wanted that the net has no section for.
 #[derive(Drop)]
@@ -24,24 +26,18 @@ pub struct Call {
     pub lacks: bool,
 }
 
-// The number of a refusal, 0 if there is none, and the period of the cover.
-#[derive(Drop)]
-pub struct Settled {
-    pub refusal: usize,
-    pub period: usize,
-}
-
-// The number that says that no cover meets the target.
-fn unmet_number(forward: bool) -> usize
-    ensures { result ≡ unmet (mode_of forward) }
+// What is told where no cover meets the target.
+fn unmet_of(forward: bool) -> Refusal
+    ensures { number_of result ≡ unmet (mode_of forward) }
 {
     if forward {
-        return 22;
+        Refusal::UnmetForward
+    } else {
+        Refusal::Unmet
     }
-    12
 }
 
-// Checks 9 to 11, 21 where a section is lacking, 12 or 22, and the cover: 0, or the number of the first that fails, and the period. The checks use seen and noted, a number a gate.
+// Checks 9 to 11, 21 where a section is lacking, 12 or 22, and the cover: its period, or what is wrong by the first that fails. The checks use seen and noted, a number a gate.
 pub fn settle(
     z: NetSizes,
     net: &mut [usize],
@@ -53,28 +49,19 @@ pub fn settle(
     labels: &mut [i64],
     rows: &mut [usize],
     luts: &mut [u64],
-) -> Settled
+) -> Result<usize, Refusal>
     requires settling { Settling call.k call.target z net.old tables.now }
     requires gates_in_bounds { (z.gates ≤ length seen.old) × (z.gates ≤ length noted.old) }
     requires most_table_in_bounds { (most_table ≤ length work.old) × (z.inputs + z.gates ≤ length labels.old) × Roomy z.gates rows.old luts.old }
-    ensures settled_as { SettledAs (mode_of call.forward) call.lacks call.k call.target (net_in (arrays_of z net.old tables.now)) (kept_in z.inputs z.gates result.period labels.new rows.new luts.new) result.refusal }
-    ensures settled_net { SettledNet z net.old net.new result.refusal }
+    ensures settled_as { SettledAs (mode_of call.forward) call.lacks call.k call.target (net_in (arrays_of z net.old tables.now)) (λ period. kept_in z.inputs z.gates period labels.new rows.new luts.new) result }
+    ensures settled_net { SettledNet z net.old net.new (code_of result) }
 {
     let gates = z.gates;
-    let r = check_graph(z, net, &mut seen[..gates], &mut noted[..gates]);
-    if r > 0 {
-        return Settled {
-            refusal: r,
-            period: 0,
-        };
-    }
+    check_graph(z, net, &mut seen[..gates], &mut noted[..gates])?;
     if call.lacks {
-        return Settled {
-            refusal: 21,
-            period: 0,
-        };
+        return Err(Refusal::NoSection);
     }
-    let phi = plan(
+    match plan(
         z,
         net,
         tables,
@@ -85,15 +72,8 @@ pub fn settle(
         labels,
         rows,
         luts,
-    );
-    if phi == 0 {
-        return Settled {
-            refusal: unmet_number(call.forward),
-            period: 0,
-        };
-    }
-    Settled {
-        refusal: 0,
-        period: phi,
+    ) {
+        Some(period) => Ok(period),
+        None => Err(unmet_of(call.forward)),
     }
 }
