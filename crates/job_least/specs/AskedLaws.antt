@@ -1,9 +1,8 @@
 -- From a net read and checked to the search for the least period, and back.
-use Rattle.std.specs.Prelude.{◌≡◌, refl, List, ℕ, ◌+◌, ◌*◌, ◌≤◌, ℤ, pos, length, replicate}
+use Rattle.std.specs.Prelude.{◌≡◌, refl, List, ℕ, ◌+◌, ◌*◌, ℤ, pos, length, replicate}
 use Rattle.std.proofs.Common.{ap, ◌∙◌}
 use Rattle.std.proofs.lemmas.List.{length-replicate}
 use Rattle.limits.specs.Limits.{most_pins, most_table}
-use Rattle.net_model.specs.Net.{Net}
 use Rattle.net_model.specs.Arrays.{net_in}
 use Rattle.net_reader.specs.ReadAnswer.{arrays_of}
 use Rattle.net_reader.specs.declared.NetSizes.{NetSizes}
@@ -14,7 +13,7 @@ use Rattle.cut_circuit.specs.declared.Extent.{Extent}
 use Rattle.label_visit.specs.LabelVisits.{wiring, tops_in}
 use Rattle.label_period.specs.PeriodSearchLaws.{first-least}
 use Rattle.job_plan.specs.Counts.{ExtentOf}
-use Rattle.job_plan.specs.Found.{PeriodAsked, PeriodFound}
+use Rattle.job_plan.specs.Found.{PeriodAsked, Found}
 use Rattle.label_sweep.specs.Sweeps.{outs_in, delays_in}
 use Rattle.job_plan.specs.Planned.{Planning}
 use Rattle.job_plan.specs.Ready.{planned-engine, planned-suits, planned-outputs}
@@ -55,6 +54,5 @@ asked-labels ls' e p = let z = p.sized in record {
 }
 
 -- the least period found is told
-pub period-told : {s : Extent} {n : ℕ} {net : List ℕ} {k : ℕ} {ls : List ℤ} {r : ℕ} → 1 ≤ r
-    → PeriodFound plain (wiring s net) k 0 (tops_in s net 0) (outs_in s net) (delays_in s net n) n ls r → LeastTold s n net k r
-period-told h q = record { least = λ N S P o. first-least P (q.least h refl N S P o) }
+pub period-told : {s : Extent} {n : ℕ} {net : List ℕ} {k : ℕ} {ls : List ℤ} {r : ℕ} → Found plain (wiring s net) k 0 (tops_in s net 0) (outs_in s net) (delays_in s net n) n ls r → LeastTold s n net k r
+period-told q = record { least = λ N S P o. first-least P (q.least refl N S P o) }

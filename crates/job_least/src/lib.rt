@@ -14,12 +14,12 @@ ghost use Rattle.job_least.specs.Asked.{LeastAsked, LeastTold};
 use cut_circuit::{Extent, link};
 use job_plan::{MEMBERS, extent};
 use job_scratch::clear_first;
-use job_settle::Settled;
 use label_aim::Aim;
 use label_period::least_period;
 use limits::{GATES, HELD, LIST, NODES, STACK, TABLE};
 use net_checks::check_graph;
 use net_reader::NetSizes;
+use refusals::Refusal;
 
 // The least period of a net with n outputs, with the engine's table lent.
 fn least_in(s: Extent, n: usize, net: &[usize], k: usize, table: &mut [u8]) -> usize
@@ -36,7 +36,7 @@ fn least_in(s: Extent, n: usize, net: &[usize], k: usize, table: &mut [u8]) -> u
     let mut labels = [0i64; NODES];
     let a = Aim {
         phi: 0,
-        k: k,
+        k,
         outputs: n,
         cap: 0,
         forward: false,
@@ -70,14 +70,14 @@ fn least(z: NetSizes, net: &mut [usize], tables: &[u64], k: usize, work: &mut [u
     least_in(s, z.outputs, net, k, &mut work[..end])
 }
 
-// Checks 9 to 11 and the least period: 0, or the number of the first that fails, and the period.
+// Checks 9 to 11 and the least period, or what is wrong by the first that fails.
 pub fn least_of(
     z: NetSizes,
     net: &mut [usize],
     tables: &[u64],
     k: usize,
     work: &mut [u8],
-) -> Settled
+) -> Result<usize, Refusal>
     requires settling { Settling k 0 z net.old tables.now }
     requires most_table_in_bounds { most_table ≤ length work.old }
     ensures least_of { LeastOf k (net_in (arrays_of z net.old tables.now)) result }
@@ -86,16 +86,6 @@ pub fn least_of(
     let mut seen = [0usize; GATES];
     let mut noted = [0usize; GATES];
     let gates = z.gates;
-    let r = check_graph(z, net, &mut seen[..gates], &mut noted[..gates]);
-    if r > 0 {
-        return Settled {
-            refusal: r,
-            period: 0,
-        };
-    }
-    let phi = least(z, net, tables, k, work);
-    Settled {
-        refusal: 0,
-        period: phi,
-    }
+    check_graph(z, net, &mut seen[..gates], &mut noted[..gates])?;
+    Ok(least(z, net, tables, k, work))
 }

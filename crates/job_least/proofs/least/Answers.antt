@@ -1,14 +1,13 @@
 use mathlib.Core.Path.{sym, ap, subst, ◌∙◌}
-use Prim.Native.Nat.{ℕ, ◌+◌, ◌≤◌}
+use Prim.Native.Nat.{◌≤◌}
 use native.Mathlib.Omega.{arith}
-use lib.ListN.{length, take, drop}
+use lib.ListN.{length, take}
 use lib.Seq.{length-take-le}
 use Rattle.limits.specs.Limits.{most_table}
 use Rattle.net_model.specs.Net.{Net}
 use Rattle.cover_theory.specs.Covers.{LeastPeriod}
-use Rattle.job_plan.specs.Ready.{cleared-part, linked-kept, linked-net, linked_planning, plan_extending}
+use Rattle.job_plan.specs.Ready.{cleared-part, linked-kept, linked-net, linked_planning}
 use Rattle.job_least.specs.AskedLaws.{plan_asked, plan_told}
-use Rattle.std.proofs.Common.{rules}
 use Rattle.job_least.proofs.least.Goals as goal
 
 pub slice_bounds-least_in-end-2 : goal.slice_bounds-least_in-end-2

@@ -1,5 +1,5 @@
 use mathlib.Core.Path.{refl, sym, ◌∙◌}
-use Prim.Native.Nat.{◌+◌, ◌*◌, ◌≤◌}
+use Prim.Native.Nat.{◌+◌, ◌≤◌}
 use native.Mathlib.Omega.{arith}
 use lib.IntN.{pos}
 use lib.ListN.{length, take, replicate, length-replicate}
@@ -9,7 +9,6 @@ use Rattle.label_period.specs.PeriodSearchLaws.{sized-less, ceilings-less}
 use Rattle.job_plan.specs.Engines.{engine-rest}
 use Rattle.job_plan.specs.FoundLaws.{found-least}
 use Rattle.job_least.specs.AskedLaws.{asked-labels, period-told}
-use Rattle.std.proofs.Common.{rules}
 use Rattle.job_least.proofs.least_in.Goals as goal
 
 pub least_period-requires : goal.least_period-requires
@@ -25,4 +24,4 @@ pub returns : goal.returns
 returns c =
     let e = c.requires.engine in
     let q = c.least_period.ensures.period in
-    period-told q.positive (found-least e.period.few refl q)
+    period-told (found-least e.period.few refl q)
