@@ -37,30 +37,30 @@ module _ (n i : ℕ) (row : Row) (old : List ℕ) (h : i < n) (room : (2 + 2 * m
   one : List ℕ
   one = set old i row.root
 
-  two : List ℕ
+  both : List ℕ
   unfolding one
-  two = set one (n + i) row.size
+  both = set one (n + i) row.size
 
   long-one : length one ≡ length old
   unfolding one
   long-one = length-set old i row.root
 
-  long-two : length two ≡ length old
-  unfolding one two
-  long-two = length-set one (n + i) row.size ∙ long-one
+  long-both : length both ≡ length old
+  unfolding one both
+  long-both = length-set one (n + i) row.size ∙ long-one
 
   -- a place that is neither of the two
-  other : (p : ℕ) → ¬ (p ≡ i) → ¬ (p ≡ n + i) → get_or two p 0 ≡ get_or old p 0
-  unfolding one two
+  other : (p : ℕ) → ¬ (p ≡ i) → ¬ (p ≡ n + i) → get_or both p 0 ≡ get_or old p 0
+  unfolding one both
   other p x y = get_or-set_other one (n + i) p row.size 0 y ∙ get_or-set_other old i p row.root 0 x
 
   -- a place before the leaves
-  before : (p : ℕ) → p < nodes_of n i → get_or new p 0 ≡ get_or two p 0
-  unfolding one two
+  before : (p : ℕ) → p < nodes_of n i → get_or new p 0 ≡ get_or both p 0
+  unfolding one both
   before p l = b.below p (omega arith) ∙ a.below p l
 
   pub row-stored : RowStored n i row old new
-  unfolding one two
+  unfolding one both
   row-stored = record {
     root = before i (omega arith) ∙ get_or-set_other one (n + i) i row.size 0 (omega arith) ∙ get_or-set_same old i row.root 0 (omega arith);
     size = before (n + i) (omega arith) ∙ get_or-set_same one (n + i) row.size 0 (omega (arith, long-one));
@@ -70,7 +70,7 @@ module _ (n i : ℕ) (row : Row) (old : List ℕ) (h : i < n) (room : (2 + 2 * m
     sizes = λ j l. before (n + j) (omega arith) ∙ other (n + j) (omega arith) (omega arith);
     nodes = λ m l. before (2 * n + m) (omega arith) ∙ other (2 * n + m) (omega arith) (omega arith);
     backs = λ m l. b.below ((2 + most_pins) * n + m) (omega arith) ∙ a.above ((2 + most_pins) * n + m) (omega arith) ∙ other ((2 + most_pins) * n + m) (omega arith) (omega arith);
-    long = b.long ∙ a.long ∙ long-two;
+    long = b.long ∙ a.long ∙ long-both;
   }
 
 entry-path : {r r' : ℕ} {L L' : List Copy} {z z' : ℤ} {t t' : ℕ} → r ≡ r' → L ≡ L' → z ≡ z' → t ≡ t'

@@ -26,12 +26,10 @@ fn store_row(rows: &mut [usize], n: usize, i: usize, row: Row)
     requires { (n ≤ most_luts) × (i < n) × ((2 + 2 * most_pins) * n ≤ length rows.old) }
     ensures { RowStored n i row rows.old rows.new }
 {
-    let nodes = row.nodes;
-    let backs = row.backs;
     rows[i] = row.root;
     rows[n + i] = row.size;
-    store(&nodes, PINS, rows, 2 * n + PINS * i);
-    store(&backs, PINS, rows, (2 + PINS) * n + PINS * i);
+    store(&row.nodes, PINS, rows, 2 * n + PINS * i);
+    store(&row.backs, PINS, rows, (2 + PINS) * n + PINS * i);
 }
 
 // A row is stored as LUT i of n.

@@ -146,10 +146,11 @@ fn comes_before(leaf: (usize, usize), next: (usize, usize)) -> bool
 }
 
 // Whether n leaves rise.
-fn rising(nodes: [usize; ITEMS], backs: [usize; ITEMS], n: usize) -> bool
+fn rising(leaves: Leaves, n: usize) -> bool
     requires { n ≤ most_pins }
-    ensures { result ≡ rising_leaves (copies_from nodes backs 0 n) }
+    ensures { result ≡ rising_leaves (copies_from leaves.nodes leaves.backs 0 n) }
 {
+    let Leaves { nodes, backs } = leaves;
     for i in 1..n {
         if !comes_before((nodes[i - 1], backs[i - 1]), (nodes[i], backs[i])) {
             return false;
@@ -170,20 +171,17 @@ fn read_leaves(
     ensures { LeavesRead two bytes.now at nodes head.size head.map result }
 {
     let Read {
-        value: sources,
+        value: nodes,
         at: depths_at,
     } = read_numbers(bytes, at, head.size, NumberField::Leaf(nodes), two)?;
     let bits = head.map % 64;
     let m = count_of(bits);
     let Read { value: depths, at } = read_numbers(bytes, depths_at, m, NumberField::Depth, true)?;
     let backs = spread(bits, head.size, depths);
-    if !rising(sources, backs, head.size) {
+    let value = Leaves { nodes, backs };
+    if !rising(value, head.size) {
         return Err(Refusal::Layout);
     }
-    let value = Leaves {
-        nodes: sources,
-        backs,
-    };
     Ok(Read { value, at })
 }
 

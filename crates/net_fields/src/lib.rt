@@ -384,7 +384,7 @@ pub fn has(map: u8, i: usize) -> bool
     requires { i < most_pins }
     ensures { result ≡ bit map i }
 {
-    (usize::from(map) >> i) % 2 == 1
+    (map >> i) % 2 == 1
 }
 
 // The number of eight bytes, low byte first.

@@ -97,10 +97,8 @@ fn store_gate(net: &mut [usize], tables: &mut [u64], gates: usize, g: usize, row
     requires { GateAsked net.old tables.old gates g row }
     ensures { GateStored net.old tables.old gates g row net.new tables.new }
 {
-    let sources = row.sources;
-    store(&sources, PINS, net, 2 * gates + PINS * g);
-    let counts = row.counts;
-    store_counts(&counts, net, (2 + PINS) * gates + PINS * g);
+    store(&row.sources, PINS, net, 2 * gates + PINS * g);
+    store_counts(&row.counts, net, (2 + PINS) * gates + PINS * g);
     net[g] = row.pins;
     tables[g] = row.table;
 }

@@ -1,8 +1,7 @@
-use Rattle.std.proofs.Common.{◌≡◌, length}
 use Rattle.cover_reader.specs.Reads.{held_in}
 use Rattle.cover_reader.specs.CandidateStoreLaws.{LutsSoFar}
 use Rattle.cover_reader.proofs.read_luts.Given as goal
 
 abbrev pub invariant-loop-i : goal.invariant-loop-i
 invariant-loop-i l =
-    LutsSoFar l.two l.bytes l.at l.nodes l.k l.inputs l.n (held_in l.n l.rows l.lags l.tables) l.next l.least l.i × (length l.rows ≡ length l.initial.rows) × (length l.lags ≡ length l.initial.lags) × (length l.tables ≡ length l.initial.tables)
+    LutsSoFar l.two l.bytes l.at l.nodes l.k l.inputs l.n (held_in l.n l.rows l.lags l.tables) l.next l.least l.i

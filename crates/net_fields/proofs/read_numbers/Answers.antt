@@ -7,7 +7,7 @@ use Rattle.std.proofs.lemmas.Result.{err_from_is_err_and}
 use Rattle.net_fields.proofs.read_numbers.Goals as goal
 
 pub loop-i-init : goal.loop-i-init
-loop-i-init c = let a = c.args in (items_none most_items (field_number a.two a.field) a.bytes.now a.at a.n, small-none a.two most_items)
+loop-i-init c = let a = c.args in record { read = items_none most_items (field_number a.two a.field) a.bytes.now a.at a.n; small = small-none a.two most_items }
 
 pub returns-in_err-number : goal.returns-in_err-number
 returns-in_err-number c =
@@ -16,7 +16,7 @@ returns-in_err-number c =
     let p = err_from_is_err_and c.from_residual.result c.from_residual.ensures.1 in
     rw (p.1, p.2)
     (record {
-      result = items_stop most_items (field_number a.two a.field) a.bytes.now a.at a.n l.values l.next l.i l.invariant.0 c.loop-i-test.true c.in_err-number.ensures.result;
+      result = items_stop most_items (field_number a.two a.field) a.bytes.now a.at a.n l.values l.next l.i l.invariant.read c.loop-i-test.true c.in_err-number.ensures.result;
       values = tt;
       small = tt;
     })
@@ -26,21 +26,22 @@ loop-i-preserved c =
     let a = c.args in
     let l = c.loop-i in
     let b = c.in_ok-number in
-    let m = l.invariant.0.most in
-    let long = l.invariant.0.long in (
-      items_one most_items (field_number a.two a.field) a.bytes.now a.at a.n l.values l.next l.i l.invariant.0 c.loop-i-test.true c.requires b.number.value b.number.at b.ensures.result,
-      small-set a.two l.values l.i b.number.value (omega arith) l.invariant.1 b.ensures.small,
-    )
+    let m = l.invariant.read.most in
+    let long = l.invariant.read.long in
+    record {
+      read = items_one most_items (field_number a.two a.field) a.bytes.now a.at a.n l.values l.next l.i l.invariant.read c.loop-i-test.true c.requires b.number.value b.number.at b.ensures.result;
+      small = small-set a.two l.values l.i b.number.value (omega arith) l.invariant.small b.ensures.small;
+    }
 
 pub returns : goal.returns
 returns c =
     let a = c.args in
     let l = c.loop-i in
     record {
-      result = items_all most_items (field_number a.two a.field) a.bytes.now a.at a.n l.values l.next l.i l.invariant.0 c.loop-i-test.false;
+      result = items_all most_items (field_number a.two a.field) a.bytes.now a.at a.n l.values l.next l.i l.invariant.read c.loop-i-test.false;
       values = record {
-        spare = items_spare most_items (field_number a.two a.field) a.bytes.now a.at a.n l.values l.next l.i l.invariant.0;
-        long = l.invariant.0.long;
+        spare = items_spare most_items (field_number a.two a.field) a.bytes.now a.at a.n l.values l.next l.i l.invariant.read;
+        long = l.invariant.read.long;
       };
-      small = l.invariant.1;
+      small = l.invariant.small;
     }

@@ -5,4 +5,4 @@ use Rattle.net_fields.specs.ItemsRead.{Small}
 use Rattle.net_fields.proofs.read_numbers.Given as goal
 
 abbrev pub invariant-loop-i : goal.invariant-loop-i
-invariant-loop-i l = ReadSoFar most_items (field_number l.two l.field) l.bytes l.at l.n l.values l.next l.i × Small l.two l.values
+invariant-loop-i l = record { read : ReadSoFar most_items (field_number l.two l.field) l.bytes l.at l.n l.values l.next l.i; small : Small l.two l.values }

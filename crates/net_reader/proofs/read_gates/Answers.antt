@@ -1,4 +1,4 @@
-use Rattle.std.proofs.Common.{refl, ◌∙◌, arith}
+use Rattle.std.proofs.Common.{arith}
 use Rattle.std.proofs.lemmas.Result.{err_from_is_err_and}
 use Rattle.net_reader.specs.NetStoreLaws.{gates-none, gates-one, gates-stop, gates-all}
 use Rattle.net_reader.proofs.read_gates.Goals as goal
@@ -6,7 +6,7 @@ use Rattle.net_reader.proofs.read_gates.Goals as goal
 pub loop-g-init : goal.loop-g-init
 loop-g-init c =
     let a = c.args in
-    (gates-none a.rules.wide a.bytes.now a.at a.k a.s a.net.now a.tables.now, refl, refl)
+    gates-none a.rules.wide a.bytes.now a.at a.k a.s a.net.now a.tables.now
 
 pub returns-in_err-row : goal.returns-in_err-row
 returns-in_err-row c =
@@ -15,7 +15,7 @@ returns-in_err-row c =
     let p = err_from_is_err_and c.from_residual.result c.from_residual.ensures.1 in
     rw (p.1, p.2)
     (record {
-      result = gates-stop a.rules.wide a.bytes.now a.at a.k a.s l.net l.tables l.next l.g l.invariant.0 c.loop-g-test.true c.in_err-row.ensures.result;
+      result = gates-stop a.rules.wide a.bytes.now a.at a.k a.s l.net l.tables l.next l.g l.invariant c.loop-g-test.true c.in_err-row.ensures.result;
       few = tt;
     })
 
@@ -24,18 +24,14 @@ loop-g-preserved c =
     let a = c.args in
     let l = c.loop-g in
     let r = c.in_ok-row in
-    let st = c.store_gate in (
-      gates-one a.rules.wide a.bytes.now a.at a.k a.s l.net l.tables l.next l.g l.invariant.0 r.row.value r.row.at c.loop-g-test.true r.ensures.result st.ensures,
-      st.auto.net ∙ l.invariant.1,
-      st.auto.tables ∙ l.invariant.2,
-    )
+    gates-one a.rules.wide a.bytes.now a.at a.k a.s l.net l.tables l.next l.g l.invariant r.row.value r.row.at c.loop-g-test.true r.ensures.result c.store_gate.ensures
 
 pub returns : goal.returns
 returns c =
     let a = c.args in
     let l = c.loop-g in
-    let most = l.invariant.0.most in
+    let most = l.invariant.most in
     record {
-      result = gates-all a.rules.wide a.bytes.now a.at a.k a.s l.net l.tables l.next l.g l.invariant.0 c.loop-g-test.false;
-      few = λ i h. l.invariant.0.few i (omega (arith, h, c.loop-g-test.false, most));
+      result = gates-all a.rules.wide a.bytes.now a.at a.k a.s l.net l.tables l.next l.g l.invariant c.loop-g-test.false;
+      few = λ i h. l.invariant.few i (omega (arith, h, c.loop-g-test.false, most));
     }
