@@ -55,12 +55,7 @@ fn some_wrong(tables: &[u64], sizes: &[usize], fulls: &[u64], n: usize) -> bool
     requires { (n ≤ length tables.now) × (n ≤ length sizes.now) × (n ≤ length fulls.now) × ((i : ℕ) → i < n → get_or sizes.now i 0 ≤ most_pins) }
     ensures { Compared tables.now sizes.now fulls.now n result }
 {
-    for i in 0..n {
-        if is_wrong(tables[i], sizes[i], fulls[i]) {
-            return true;
-        }
-    }
-    false
+    (0..n).any(|i| is_wrong(tables[i], sizes[i], fulls[i]))
 }
 
 // Checks 14 and 15 in this order: 14 over all LUTs before 15.

@@ -23,12 +23,7 @@ fn has_open_pin(w: Wiring, seen: &[usize], g: usize) -> bool
     requires { Wires w.inputs w.gates w.pins.now w.sources.now w.counts.now × (g < w.gates) × (length seen.now ≡ w.gates) }
     ensures { Tells result ((j : ℕ) × (j < get_or w.entry.pins.now g 0) × OpenPin w.entry.inputs seen.now w.entry.sources.now w.entry.counts.now g j) }
 {
-    for j in 0..w.pins[g] {
-        if open_pin(w, seen, g, j) {
-            return true;
-        }
-    }
-    false
+    (0..w.pins[g]).any(|j| open_pin(w, seen, g, j))
 }
 
 // Places gate g behind the `placed` gates so far if all its sources without registers are known: whether it is newly placed.

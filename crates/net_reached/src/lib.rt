@@ -23,12 +23,7 @@ fn first_near(w: Wiring, seen: &[usize], ranks: &[usize], g: usize, level: usize
     requires { Wires w.inputs w.gates w.pins.now w.sources.now w.counts.now × (g < w.gates) × (length seen.now ≡ w.gates) × (length ranks.now ≡ w.gates) }
     ensures { MatchOption result ((j : ℕ) → j < get_or w.entry.pins.now g 0 → ¬ Falls w.entry.inputs seen.now ranks.now (get_or w.entry.sources.now (stride * g + j) 0) level) (λ i. (i < get_or w.entry.pins.now g 0) × First (λ j. Falls w.entry.inputs seen.now ranks.now (get_or w.entry.sources.now (stride * g + j) 0) level) (get_or w.entry.pins.now g 0) i) }
 {
-    for j in 0..w.pins[g] {
-        if near(w.inputs, seen, ranks, w.sources[PINS * g + j], level) {
-            return Some(j);
-        }
-    }
-    None
+    (0..w.pins[g]).find(|j| near(w.inputs, seen, ranks, w.sources[PINS * g + *j], level))
 }
 
 // The rank of a gate that reads this node: 0 behind an input, else 1 more than the node's.
