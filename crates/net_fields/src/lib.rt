@@ -25,7 +25,7 @@ pub enum NetField {
     Outputs,
     PinMap,
     // Behind this pin map.
-    RegisterMap(u8),
+    RegisterMap(usize),
     Count,
     // Of so many pins.
     Table(usize),
@@ -124,10 +124,11 @@ fn allowed(field: Field, byte: u8) -> bool
 }
 
 // Whether a map has only bits of another.
-fn within(map: u8, whole: u8) -> bool
+fn within(map: u8, whole: usize) -> bool
     ensures { result ≡ only_bits 8 whole map }
 {
-    map & whole == map
+    let m = usize::from(map);
+    m & whole == m
 }
 
 // Whether a table byte of so many pins or leaves has no spare bit set.

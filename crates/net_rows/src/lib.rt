@@ -109,7 +109,8 @@ fn read_maps(bytes: &[u8], at: usize, k: u32) -> Result<Read<Maps>, Refusal>
     if k < ones_of(map) {
         return Err(Refusal::WideGate);
     }
-    let registers = read_byte(bytes, pins.at, Field::Net(NetField::RegisterMap(map)))?;
+    let whole = usize::from(map);
+    let registers = read_byte(bytes, pins.at, Field::Net(NetField::RegisterMap(whole)))?;
     Ok(Read {
         value: Maps {
             pins: map,

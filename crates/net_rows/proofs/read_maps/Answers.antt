@@ -20,11 +20,11 @@ returns-in_err-registers c =
     let a = c.args in
     let b = c.in_ok-pins in
     let p = err_from_is_err_and c.from_residual-in_err-registers.result c.from_residual-in_err-registers.ensures.1 in
-    rw (p.1, p.2) (record { result = maps-stop a.bytes.now a.at a.k b.pins.value b.pins.at b.ensures (omega arith) c.in_err-registers.ensures; small = tt })
+    rw (p.1, p.2) (record { result = maps-stop a.bytes.now a.at a.k b.pins.value b.pins.at b.ensures (omega arith) (rw c.from-whole.ensures at c.in_err-registers.ensures); small = tt })
 
 pub returns : goal.returns
 returns c =
     let a = c.args in
     let b = c.in_ok-pins in
     let d = c.in_ok-registers in
-    maps-go a.bytes.now a.at a.k b.pins.value b.pins.at b.ensures (omega arith) d.registers.value d.registers.at d.ensures
+    maps-go a.bytes.now a.at a.k b.pins.value b.pins.at b.ensures (omega arith) d.registers.value d.registers.at (rw c.from-whole.ensures at d.ensures)
