@@ -1,6 +1,6 @@
 -- Laws of the parts of the bench program's input, and of a net read with its section.
-use Rattle.std.specs.Prelude.{◌≡◌, Bool, true, false, not, List, [], ◌⊎◌, ℕ, ◌+◌, ◌-◌, ◌*◌, ◌≤◌, length, get_or, take, drop}
-use Rattle.std.proofs.Common.{sym, subst, ◌∙◌, inl, inr, arith}
+use Rattle.std.specs.Prelude.{◌≡◌, Bool, true, false, not, List, [], ◌⊎◌, ℕ, ◌+◌, ◌-◌, ◌*◌, ◌≤◌, length, get_or, take, drop, Ok}
+use Rattle.std.proofs.Common.{sym, ◌∙◌, inl, inr, arith}
 use Rattle.std.proofs.Math.Path.{ap, ap₂}
 use Rattle.std.proofs.Math.Bool.{cond}
 use Rattle.limits.specs.Courses.{long, is-long}
@@ -8,11 +8,9 @@ use Rattle.limits.specs.Limits.{least_k, most_k, most_gates, most_nodes, most_pa
 use Rattle.net_model.specs.Net.{size}
 use Rattle.net_model.specs.Arrays.{net_in}
 use Rattle.net_model.specs.ArrayLaws.{size-net_in}
-use Rattle.net_bytes.specs.Reading.{Result, between, got, refused}
+use Rattle.net_bytes.specs.Reading.{Result as Outcome, between, got, refused}
 use Rattle.net_bytes.specs.Walk.{Drawn, drawn, drawn_reader}
 use Rattle.net_bytes.specs.Sound.{drawn-facts}
-use Rattle.net_fields.specs.FieldLaws.{went}
-use Rattle.net_fields.specs.declared.Verdict.TheVariants.{Read}
 use Rattle.net_reader.specs.ReadAnswer.{arrays_of, drawn_of}
 use Rattle.net_reader.specs.NetLaws.{net-alone}
 use Rattle.net_reader.specs.ReadWires.{room-read}
@@ -40,9 +38,9 @@ module _ (k : ℕ) (net pairs : List ℕ) where
   unfolding bench_of
   of-unknown h = ap (λ (t : Bool). cond t (refusal_text 1) (bench_read (drawn_reader long k net) pairs)) h
 
-  of-known : not (between least_k most_k k) ≡ false → {r : Result Drawn} → drawn_reader long k net ≡ r → bench_of k net pairs ≡ bench_read r pairs
+  of-known : not (between least_k most_k k) ≡ false → {r : Outcome Drawn} → drawn_reader long k net ≡ r → bench_of k net pairs ≡ bench_read r pairs
   unfolding bench_of
-  of-known h e = ap₂ (λ (t : Bool) (r : Result Drawn). cond t (refusal_text 1) (bench_read r pairs)) h e
+  of-known h e = ap₂ (λ (t : Bool) (r : Outcome Drawn). cond t (refusal_text 1) (bench_read r pairs)) h e
 
   pub of-refused : not (between least_k most_k k) ≡ false → {n : ℕ} → drawn_reader long k net ≡ refused n → bench_of k net pairs ≡ refusal_text n
   unfolding bench_read
@@ -54,14 +52,13 @@ module _ (k : ℕ) (net pairs : List ℕ) where
 
 -- ---- the net read
 
-module _ (k : ℕ) (bytes : List ℕ) (r : DrawnRead) (net ts : List ℕ) (e : drawn_reader long k bytes ≡ drawn_of r net ts bytes) (v : r.verdict ≡ Read)
+module _ (k : ℕ) (bytes : List ℕ) (r : DrawnRead) (net ts : List ℕ) (e : drawn_reader long k bytes ≡ drawn_of (Ok r) net ts bytes)
     (packed : length net ≡ most_packed) (tabled : length ts ≡ most_gates) (section : List ℕ) (rest : section ≡ drop r.at bytes) where
   pub drawn-got : drawn_reader long k bytes ≡ got (drawn (net_in (arrays_of r.sizes net ts)) section) []
-  drawn-got = went (drawn (net_in (arrays_of r.sizes net ts)) (drop r.at bytes)) [] e v ∙ ap (λ (l : List ℕ). got (drawn (net_in (arrays_of r.sizes net ts)) l) []) (sym rest)
+  drawn-got = e ∙ ap (λ (l : List ℕ). got (drawn (net_in (arrays_of r.sizes net ts)) l) []) (sym rest)
 
   facts : WalkFacts k (arrays_of r.sizes net ts)
-  facts = read-facts long k bytes (record { verdict = r.verdict; sizes = r.sizes }) net ts
-      (net-alone long k bytes r.verdict (drawn (net_in (arrays_of r.sizes net ts)) (drop r.at bytes)) e) v is-long
+  facts = read-facts long k bytes r.sizes net ts (net-alone long k bytes _ e) is-long
 
   -- a byte a node, or none
   section-long : (length section ≡ 0) ⊎ (length section ≡ r.sizes.inputs + r.sizes.gates)

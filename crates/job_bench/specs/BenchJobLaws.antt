@@ -1,13 +1,13 @@
 -- Laws of the bench's text for a net read: one for each way out.
 use Rattle.std.specs.Prelude.{◌≡◌, refl, List, [], ◌∷◌, ◌⊎◌, ℕ, ◌≤◌, ◌<◌, length}
-use Rattle.std.proofs.Common.{sym, ap, ap₂, ◌∙◌, subst, inl, inr, arith}
+use Rattle.std.proofs.Common.{ap, ◌∙◌, subst, inl, inr, arith}
 use Rattle.net_model.specs.Net.{Net}
 use Rattle.net_model.specs.Arrays.{net_in}
 use Rattle.net_model.specs.ArrayLaws.{outputs-net_in}
 use Rattle.net_model.specs.WiredLaws.{net_in-wired}
 use Rattle.net_model.specs.Checks.{Loopless, AllReached, AllLeading}
 use Rattle.net_model.specs.PackedNetLaws.{kept-net}
-use Rattle.net_bytes.specs.Walk.{Drawn, drawn}
+use Rattle.net_bytes.specs.Walk.{drawn}
 use Rattle.net_reader.specs.ReadAnswer.{arrays_of}
 use Rattle.net_reader.specs.declared.NetSizes.{NetSizes}
 use Rattle.net_checks.specs.Graphs.{Says, passed, loop, unreached, unled, GraphTold}

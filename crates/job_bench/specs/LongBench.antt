@@ -7,7 +7,7 @@ use mathlib.Core.List.{List, [], ◌∷◌, ◌++◌}
 use Rattle.std.proofs.Math.ListN.{get_or-append}
 use Rattle.std.proofs.lemmas.List.{take-append-le, drop-append-le}
 use Rattle.limits.specs.Courses.{long}
-use Rattle.limits.specs.Limits.{least_k, most_k, most_steps, bench_input}
+use Rattle.limits.specs.Limits.{least_k, most_k, bench_input}
 use Rattle.sequences.specs.Member.{in_get_or}
 use Rattle.net_model.specs.Net.{Net}
 use Rattle.net_model.specs.Checks.{Loopless, AllReached, AllLeading}

@@ -9,17 +9,17 @@ ghost use Rattle.net_bytes.specs.Walk.{drawn};
 ghost use Rattle.net_reader.specs.ReadAnswer.{arrays_of};
 ghost use Rattle.cover_writer.specs.Writing.{Wrote};
 ghost use Rattle.job_bench.specs.BenchProgram.{bench_drawn, bench_of, bench_program};
-ghost use Rattle.job_bench.specs.BenchJob.{Benching};
+ghost use Rattle.job_bench.specs.BenchJob.{Benching, BenchTold};
 
-use inputs::{byte_at, copy_in, net_length, place_behind, wide};
+use inputs::{byte_at, copy_in, net_length, place_behind};
 use limits::{BENCH_TEXT, GATES, LEAST_K, MOST_K, NODES, PACKED, long_course};
 use net_checks::check_graph;
-use net_fields::Verdict;
 use net_reader::{NetSizes, read_drawn};
+use refusals::Refusal;
 use text_bench::write_bench;
 use text_digits::write_refusal;
 
-// Checks 9 to 11, 21, and the text in front of out; the bytes behind it are kept. A section of no bytes is none. The arrays lent have a number a gate.
+// Checks 9 to 11, 21, and the text in front of out, the bytes behind it kept; on a refusal all are. A section of no bytes is none. The arrays lent have a number a gate.
 fn bench_lent(
     z: NetSizes,
     net: &mut [usize],
@@ -29,20 +29,17 @@ fn bench_lent(
     seen: &mut [usize],
     noted: &mut [usize],
     out: &mut [u8],
-) -> usize
+) -> Result<usize, Refusal>
     requires benching { Benching z net.old tables.now section.old out.old }
     requires gates_in_bounds { (z.gates ≤ length seen.old) × (z.gates ≤ length noted.old) }
-    ensures { Wrote (bench_drawn (drawn (net_in (arrays_of z net.old tables.now)) section.old) pairs.now) out.old out.new result }
+    ensures { BenchTold (bench_drawn (drawn (net_in (arrays_of z net.old tables.now)) section.old) pairs.now) out.old out.new result }
 {
     let gates = z.gates;
-    let r = check_graph(z, net, &mut seen[..gates], &mut noted[..gates]);
-    if r > 0 {
-        return write_refusal(r, out);
-    }
+    check_graph(z, net, &mut seen[..gates], &mut noted[..gates])?;
     if section.len() == 0 {
-        return write_refusal(21, out);
+        return Err(Refusal::NoSection);
     }
-    write_bench(z, net, tables, pairs, section, &mut noted[..gates], out)
+    Ok(write_bench(z, net, tables, pairs, section, &mut noted[..gates], out))
 }
 
 // The same for a net within document 01's limits.
@@ -53,9 +50,9 @@ fn bench_read(
     section: &mut [u8],
     pairs: &[u8],
     out: &mut [u8],
-) -> usize
+) -> Result<usize, Refusal>
     requires { Benching z net.old tables.now section.old out.old }
-    ensures { Wrote (bench_drawn (drawn (net_in (arrays_of z net.old tables.now)) section.old) pairs.now) out.old out.new result }
+    ensures { BenchTold (bench_drawn (drawn (net_in (arrays_of z net.old tables.now)) section.old) pairs.now) out.old out.new result }
 {
     let mut seen = [0usize; GATES];
     let mut noted = [0usize; GATES];
@@ -70,10 +67,10 @@ fn bench_section(
     section: &[u8],
     pairs: &[u8],
     out: &mut [u8],
-) -> usize
+) -> Result<usize, Refusal>
     requires benching { Benching z net.old tables.now section.now out.old }
     requires section_len_bound { length section.now ≤ most_nodes }
-    ensures { Wrote (bench_drawn (drawn (net_in (arrays_of z net.old tables.now)) section.now) pairs.now) out.old out.new result }
+    ensures { BenchTold (bench_drawn (drawn (net_in (arrays_of z net.old tables.now)) section.now) pairs.now) out.old out.new result }
 {
     let mut kept = [0u8; NODES];
     let n = copy_in(section, &mut kept);
@@ -84,27 +81,20 @@ fn bench_section(
 fn unknown(k: u32) -> bool
     ensures { result ≡ not (between least_k most_k k) }
 {
-    match k {
-        LEAST_K..=MOST_K => false,
-        _ => true,
-    }
+    !(LEAST_K..=MOST_K).contains(&k)
 }
 
 // The bench for the parts of the input. The section is what the record has behind its net.
-fn bench_parts(k: u32, bytes: &[u8], pairs: &[u8], out: &mut [u8]) -> usize
+fn bench_parts(k: u32, bytes: &[u8], pairs: &[u8], out: &mut [u8]) -> Result<usize, Refusal>
     requires { bench_room ≤ length out.old }
-    ensures { Wrote (bench_of k bytes.now pairs.now) out.old out.new result }
+    ensures { BenchTold (bench_of k bytes.now pairs.now) out.old out.new result }
 {
     if unknown(k) {
-        return write_refusal(1, out);
+        return Err(Refusal::LeafLimit);
     }
     let mut net = [0usize; PACKED];
     let mut tables = [0u64; GATES];
-    let d = read_drawn(bytes, k, long_course(), &mut net, &mut tables);
-    let v = d.verdict;
-    if let Verdict::Refused(n) = v {
-        return write_refusal(wide(n), out);
-    }
+    let d = read_drawn(bytes, k, long_course(), &mut net, &mut tables)?;
     let at = place_behind(bytes, 0, d.at);
     bench_section(d.sizes, &mut net, &tables, &bytes[at..], pairs, out)
 }
@@ -117,5 +107,8 @@ pub fn bench(input: &[u8], out: &mut [u8; BENCH_TEXT]) -> usize
     let n = net_length(input);
     let at = place_behind(input, 0, 3);
     let end = place_behind(input, at, n);
-    bench_parts(k, &input[at..end], &input[end..], out)
+    match bench_parts(k, &input[at..end], &input[end..], out) {
+        Ok(n) => n,
+        Err(r) => write_refusal(usize::from(u8::from(r)), out),
+    }
 }
