@@ -4,12 +4,16 @@ use Rattle.limits.specs.Limits.{most_k}
 pub use Rattle.net_model.specs.PackedNet.{first_at, sources_at, counts_at, nexts_at, heads_at}
 use Rattle.cut_circuit.specs.Circuit.{Circuit, circuit, place, feeding_at}
 use Rattle.cut_circuit.specs.declared.Extent.{Extent}
+use Rattle.cut_circuit.specs.declared.Wires.{Wires}
 
 -- the circuit in a slice, with the forced copies in slots
 abbrev pub packed_of : Extent → List ℕ → List ℕ → Circuit
 packed_of s net slots =
     circuit s.inputs s.gates s.width s.border net (drop (first_at s.gates) net) (drop (sources_at s.gates) net) (drop (counts_at s.gates) net)
     (drop (heads_at s.gates) net) (drop (nexts_at s.gates) net) slots
+
+abbrev pub wired : Wires → Circuit
+wired w = packed_of w.s w.net.now w.slots.now
 
 -- The pin j of the copy x can be looked at; its source is a number of 64 bits.
 pub record SourceAsked (C : Circuit) (x j : ℕ) : Type 0 where

@@ -20,6 +20,14 @@ pub struct Extent {
     pub border: usize,
 }
 
+// A net in its slice, with its extent, and the slots of its forced copies.
+#[derive(Clone, Copy)]
+pub struct Wires<'a> {
+    pub s: Extent,
+    pub net: &'a [usize],
+    pub slots: &'a [u32],
+}
+
 // ---- the chains of the pins that read a node, in the slice of a net
 
 // No pin reads any of the nodes yet.

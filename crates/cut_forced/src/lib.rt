@@ -13,7 +13,7 @@ ghost use Rattle.cut_forced.specs.Slots.{holding, Unmarked};
 ghost use Rattle.cut_forced.specs.Outside.{OneMore, OutsideAsked, PinsOutside, FewAsked, FewTold};
 ghost use Rattle.cut_forced.specs.Forcing.{target, HoldAsked, Added, AddAsked, LowAsked, PinAsked, PinTold, MemberAsked, MemberTold, GrowAsked, GrowTold, ForceAsked, ForceTold, SameFrom, Listed};
 
-use cut_circuit::{Extent, is_forced, number_at, pins_of, put_number, source};
+use cut_circuit::{Extent, Wires, is_forced, number_at, pins_of, put_number, source};
 use limits::SLOTS;
 use signed::no_higher;
 
@@ -168,41 +168,41 @@ pub fn unforce(s: Extent, slots: &mut [u32], members: &[u32])
 }
 
 // c, and 1 more where copy y is not forced.
-fn one_more(s: Extent, slots: &[u32], y: usize, c: usize) -> usize
-    requires slot_asked { SlotAsked s slots.now y }
+fn one_more(w: Wires, y: usize, c: usize) -> usize
+    requires slot_asked { SlotAsked w.s w.slots.now y }
     requires c_bound { c ≤ most_k + most_pins }
-    ensures { OneMore s.inputs s.gates s.width s.border slots.now y c result }
+    ensures { OneMore w.entry.s.inputs w.entry.s.gates w.entry.s.width w.entry.s.border w.entry.slots.now y c result }
 {
-    if is_forced(s, slots, y) {
+    if is_forced(w.s, w.slots, y) {
         return c;
     }
     c + 1
 }
 
 // c, and 1 more for each pin of the member x that reads a copy which is not forced.
-fn outside(s: Extent, net: &[usize], slots: &[u32], x: usize, c: usize) -> usize
-    requires outside_asked { OutsideAsked (packed_of s net.now []) slots.now x }
+fn outside(w: Wires, x: usize, c: usize) -> usize
+    requires outside_asked { OutsideAsked (packed_of w.s w.net.now []) w.slots.now x }
     requires c_le_most_k { c ≤ most_k }
-    ensures { PinsOutside (packed_of s net.now []) slots.now x (pins_of (packed_of s net.now []) x) c result }
+    ensures { PinsOutside (packed_of w.entry.s w.entry.net.now []) w.entry.slots.now x (pins_of (packed_of w.entry.s w.entry.net.now []) x) c result }
 {
-    let n = pins_of(s, net, x);
+    let n = pins_of(w.s, w.net, x);
     let mut out = c;
     for j in 0..n {
-        let y = source(s, net, x, j);
-        out = one_more(s, slots, y, out);
+        let y = source(w.s, w.net, x, j);
+        out = one_more(w, y, out);
     }
     out
 }
 
 // Whether at most k pins of the members read copies that are not forced.
-pub fn few_outside(s: Extent, net: &[usize], slots: &[u32], members: &[u32], k: usize) -> bool
-    requires few_asked { FewAsked (packed_of s net.now []) slots.now members.now }
+pub fn few_outside(w: Wires, members: &[u32], k: usize) -> bool
+    requires few_asked { FewAsked (packed_of w.s w.net.now []) w.slots.now members.now }
     requires k_le_most_k { k ≤ most_k }
-    ensures { result ≡ true → FewTold (packed_of s net.now []) slots.now members.now k }
+    ensures { result ≡ true → FewTold (packed_of w.entry.s w.entry.net.now []) w.entry.slots.now members.now k }
 {
     let mut c = 0;
     for x in members {
-        c = outside(s, net, slots, *x as usize, c);
+        c = outside(w, *x as usize, c);
         if k < c {
             return false;
         }

@@ -2,17 +2,15 @@
 #![tactic(auto)]
 
 ghost use Rattle.std.specs.Prelude.{◌+◌, ◌≤◌, is_some, unwrap_or, IfSome};
-ghost use Rattle.cut_circuit.specs.Packed.{packed_of};
-ghost use Rattle.cut_search.specs.Wired.{wired};
+ghost use Rattle.cut_circuit.specs.Packed.{packed_of, wired};
 ghost use Rattle.cut_least.specs.CutRounds.{Cleared, CutAsked};
 ghost use Rattle.cut_question.specs.Question.{Asks, Decides, Takes, Written};
 ghost use Rattle.cut_question.specs.Separating.{AtRest, SeparateAsked, SeenKept, LeavesSeen};
 
-use cut_circuit::Extent;
+use cut_circuit::{Extent, Wires};
 use cut_forced::{Ask, Query, few_outside, force, unforce};
 use cut_kept::keep_cut;
 use cut_least::{clear, leaves, min_cut};
-use cut_search::Wires;
 
 // Whether the forced set of the first f members has a cut of at most k leaves: they are kept, and the table is cleared again.
 fn separate(
@@ -91,11 +89,11 @@ pub fn question(
             return false;
         }
     };
-    if few_outside(s, net, slots, &members[..f], q.k) {
+    let w = Wires { s, net, slots };
+    if few_outside(w, &members[..f], q.k) {
         unforce(s, slots, &members[..f]);
         return true;
     }
-    let w = Wires { s, net, slots };
     let found = separate(w, table, list, stack, counts, members, f, q);
     unforce(s, slots, &members[..f]);
     found

@@ -13,4 +13,3 @@ pub mod ReadLaws
 pub mod UnwindLaws
 pub mod SearchLaws
 pub mod AroundLaws
-pub mod Wired

@@ -3,25 +3,16 @@
 
 ghost use Rattle.std.specs.Prelude.{◌≡◌, true, false, suc, ◌+◌, ◌-◌, ◌*◌, ◌/◌, ◌^◌, ◌≤◌, ◌<◌, length, get_or, drop, is_some, IfSome};
 ghost use Rattle.cut_circuit.specs.Circuit.{ending_at};
-ghost use Rattle.cut_circuit.specs.Packed.{sources_at, counts_at, nexts_at, heads_at};
+ghost use Rattle.cut_circuit.specs.Packed.{wired, sources_at, counts_at, nexts_at, heads_at};
 ghost use Rattle.cut_search.specs.SearchTable.{view_of, Touched, Noted, with_in, with_out, with_flow};
 ghost use Rattle.cut_search.specs.SearchParts.{TouchTold, ListRoom, MarkedOutTold, CandidateAsked, CandidateTold, SeekAsked, SeekTold, EntryTold, WayPlace, WayTold};
 ghost use Rattle.cut_search.specs.Stacks.{turn_at, frames_of};
 ghost use Rattle.cut_search.specs.StackParts.{PushAsked, Pushed};
-ghost use Rattle.cut_search.specs.Wired.{wired};
 ghost use Rattle.cut_search.specs.Steps.{ComeAsked, ComeTold, LeaveAsked, LeaveTold, StepAsked, StepTold, RunAsked, RunTold, UnwindAsked, UnwindTold, MemberAsked, MemberTold, SearchAsked, RootsAsked, Turning, SearchTold};
 
-use cut_circuit::{Extent, first_of, is_forced, number_at, pins_of, put_number, source};
+use cut_circuit::{Extent, Wires, first_of, is_forced, number_at, pins_of, put_number, source};
 use inputs::narrow;
 use limits::PINS;
-
-// What a search reads: the net, and its forced copies.
-#[derive(Clone, Copy)]
-pub struct Wires<'a> {
-    pub s: Extent,
-    pub net: &'a [usize],
-    pub slots: &'a [u32],
-}
 
 // ---- the byte of a copy
 

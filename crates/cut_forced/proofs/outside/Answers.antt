@@ -35,8 +35,8 @@ one_more-out-requires c = let pins-of = c.pins_of-n in
 pub loop-j-preserved : goal.loop-j-preserved
 loop-j-preserved c =
     let loop = c.loop-j in
-    let s = c.args.s in (
-      pins-outside-more loop.invariant.0 (subst (λ (y : ℕ). OneMore s.inputs s.gates s.width s.border c.args.slots.now y loop.out
+    let s = c.args.w.s in (
+      pins-outside-more loop.invariant.0 (subst (λ (y : ℕ). OneMore s.inputs s.gates s.width s.border c.args.w.slots.now y loop.out
           c.one_more-out.result) c.source-y.ensures c.one_more-out.ensures),
-      omega (arith, one-more-bound s.inputs s.gates s.width s.border c.args.slots.now c.source-y.result c.one_more-out.ensures loop.invariant.1),
+      omega (arith, one-more-bound s.inputs s.gates s.width s.border c.args.w.slots.now c.source-y.result c.one_more-out.ensures loop.invariant.1),
     )

@@ -5,4 +5,4 @@ use Rattle.cut_forced.specs.Outside.{PinsOutside}
 use Rattle.cut_forced.proofs.outside.Given as goal
 
 abbrev pub invariant-loop-j : goal.invariant-loop-j
-invariant-loop-j l = PinsOutside (packed_of l.s l.net []) l.slots l.x l.j l.c l.out × (l.out ≤ l.c + l.j)
+invariant-loop-j l = PinsOutside (packed_of l.w.s l.w.net.now []) l.w.slots.now l.x l.j l.c l.out × (l.out ≤ l.c + l.j)

@@ -1,5 +1,5 @@
 use Rattle.std.proofs.Common.{sym, subst, List, arith, true}
-use Rattle.cut_search.specs.Wired.{wired}
+use Rattle.cut_circuit.specs.Packed.{wired}
 use Rattle.cut_search.specs.CopyLaws.{seek_asked}
 use Rattle.cut_search.specs.ComeLaws.{leave_inside, leave_wide, leave_entry, leave_open, leave_last, leave_met, leave_asked, leave_come}
 use Rattle.cut_search.specs.Steps.{LeaveTold}

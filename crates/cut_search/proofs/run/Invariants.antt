@@ -1,4 +1,4 @@
-use Rattle.cut_search.specs.Wired.{wired}
+use Rattle.cut_circuit.specs.Packed.{wired}
 use Rattle.cut_search.specs.Stacks.{owing}
 use Rattle.cut_search.specs.Steps.{Running}
 use Rattle.cut_search.proofs.run.Given as goal

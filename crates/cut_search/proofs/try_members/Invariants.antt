@@ -1,4 +1,4 @@
-use Rattle.cut_search.specs.Wired.{wired}
+use Rattle.cut_circuit.specs.Packed.{wired}
 use Rattle.cut_search.specs.Steps.{around, Searched}
 use Rattle.cut_search.proofs.try_members.Given as goal
 

@@ -1,5 +1,5 @@
 use lib.ListN.{get_or}
-use Rattle.cut_search.specs.Wired.{wired}
+use Rattle.cut_circuit.specs.Packed.{wired}
 use Rattle.cut_search.specs.Steps.{Descending}
 use Rattle.cut_search.proofs.unwind.Given as goal
 
