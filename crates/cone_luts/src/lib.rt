@@ -2,7 +2,7 @@
 // The first bytes of work are the walk's table of marks: all 0 before and after.
 #![tactic(auto)]
 
-ghost use Rattle.std.specs.Prelude.{◌+◌, ◌*◌, ◌≤◌, ◌<◌, length, get_or, drop};
+ghost use Rattle.std.specs.Prelude.{◌*◌, ◌≤◌, ◌<◌, length, get_or, drop};
 ghost use Rattle.limits.specs.Limits.{most_pins, most_table};
 ghost use Rattle.cone_copies.specs.CopyLists.{SmallWires, copies_in};
 ghost use Rattle.net_model.specs.Copies.{Rising};

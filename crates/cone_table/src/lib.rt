@@ -101,8 +101,7 @@ fn fill_words(s: Circuit, leaves: CopyList, cone: CopyList, marks: &[u8]) -> [u6
 {
     let mut words = [0u64; COPIES];
     for p in 0..cone.len {
-        let word = copy_word(s, leaves, cone, &words, marks, p);
-        words[p] = word;
+        words[p] = copy_word(s, leaves, cone, &words, marks, p);
     }
     words
 }

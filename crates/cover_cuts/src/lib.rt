@@ -1,7 +1,7 @@
 // Checks 14 and 15 of a candidate's LUTs: leaves that are cuts of their roots, tables that are right. The first bytes of work are the walk's table of marks: all 0 before and after.
 #![tactic(auto)]
 
-ghost use Rattle.std.specs.Prelude.{ℕ, ◌+◌, ◌≤◌, ◌<◌, length, get_or, drop};
+ghost use Rattle.std.specs.Prelude.{ℕ, ◌≤◌, ◌<◌, length, get_or, drop};
 ghost use Rattle.limits.specs.Limits.{most_luts, most_pins, most_table};
 ghost use Rattle.net_model.specs.PackedNet.{sources_at, counts_at, nexts_at};
 ghost use Rattle.cover_records.specs.Rows.{sizes_in, nodes_in, backs_in, row_room};

@@ -1,7 +1,7 @@
 // Checks 16, 17 and 18 for LUTs kept in arrays. The LUT of a node is found in an array by node, made once.
 #![tactic(auto)]
 
-ghost use Rattle.std.specs.Prelude.{◌≡◌, true, false, ℕ, ◌+◌, ◌*◌, ◌≤◌, ◌<◌, pos, length, get_or};
+ghost use Rattle.std.specs.Prelude.{◌≡◌, false, ℕ, ◌≤◌, ◌<◌, pos, length, get_or};
 ghost use Rattle.std.specs.Int.Signed.{mag};
 ghost use Rattle.limits.specs.Limits.{most_count, most_nodes, most_period};
 ghost use Rattle.refusals.specs.Refusals.{code_of};

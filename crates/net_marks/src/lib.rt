@@ -1,7 +1,7 @@
 // What the reader and the checks of nets and covers share: a net's wiring and outputs; marks of gates, which are numbers other than 0; numbers stored in a row.
 #![tactic(auto)]
 
-ghost use Rattle.std.specs.Prelude.{◌≡◌, true, false, ℕ, ◌+◌, ◌-◌, ◌≤◌, ◌<◌, length, get_or};
+ghost use Rattle.std.specs.Prelude.{◌≡◌, ℕ, ◌+◌, ◌≤◌, ◌<◌, length, get_or};
 ghost use Rattle.sequences.specs.Stored.{Stored};
 ghost use Rattle.sequences.specs.Tests.{Tells};
 ghost use Rattle.net_marks.specs.Marks.{Marked, Known};

@@ -16,7 +16,7 @@ loop-p-preserved c =
     let a = c.args in
     let f = c.requires.room.fits in
     let e = loop.invariant.0 in (
-      length-set loop.words loop.p c.copy_word-word.result ∙ e,
+      length-set loop.words loop.p c.copy_word.result ∙ e,
       settled-next a.cone.nodes.now a.cone.backs.now a.cone.len loop.words 64 loop.p
-          c.copy_word-word.result (omega arith) c.requires.bounded (omega arith) (omega arith) c.copy_word-word.ensures loop.invariant.1,
+          c.copy_word.result (omega arith) c.requires.bounded (omega arith) (omega arith) c.copy_word.ensures loop.invariant.1,
     )
