@@ -9,8 +9,8 @@ abbrev Each : (ℕ → Type 0) → ℕ → ℕ → Type 0
 Each P a b = AllWithin P (range_with_len a (b - a)) 0 (length (range_with_len a (b - a)))
 
 -- P of some item
-abbrev Some : (ℕ → Type 0) → ℕ → ℕ → Type 0
-Some P a b = (k : ℕ) × (k < length (range_with_len a (b - a))) × HoldsAt P (range_with_len a (b - a)) k
+abbrev OneOf : (ℕ → Type 0) → ℕ → ℕ → Type 0
+OneOf P a b = (k : ℕ) × (k < length (range_with_len a (b - a))) × HoldsAt P (range_with_len a (b - a)) k
 
 module _ (P : ℕ → Type 0) (a b : ℕ) where
   each : Each P a b → (u : ℕ) → a ≤ u → u < b → P u
@@ -19,7 +19,7 @@ module _ (P : ℕ → Type 0) (a b : ℕ) where
       let e : a + (u - a) ≡ u = omega arith in
       subst P (get_or-range_with_len a (b - a) (u - a) 0 n ∙ e) (h (u - a) 0 zero-le (omega (arith, length-range_with_len a (b - a))))
 
-  some : Some P a b → (u : ℕ) × (a ≤ u) × (u < b) × P u
+  some : OneOf P a b → (u : ℕ) × (a ≤ u) × (u < b) × P u
   some h =
       let x = h.1 in
       let l : h.0 < b - a = omega (arith, length-range_with_len a (b - a)) in
@@ -27,9 +27,9 @@ module _ (P : ℕ → Type 0) (a b : ℕ) where
 
 module _ (P Q : ℕ → Type 0) (a b : ℕ) where
   -- `all` says yes
-  pub all_yes : (r : Bool) → MatchBool r (Each P a b) (Some Q a b) → r ≡ true → (u : ℕ) → a ≤ u → u < b → P u
-  all_yes r h e = each P a b (subst (λ (x : Bool). MatchBool x (Each P a b) (Some Q a b)) e h)
+  pub all_yes : (r : Bool) → MatchBool r (Each P a b) (OneOf Q a b) → r ≡ true → (u : ℕ) → a ≤ u → u < b → P u
+  all_yes r h e = each P a b (subst (λ (x : Bool). MatchBool x (Each P a b) (OneOf Q a b)) e h)
 
   -- `any` says yes
-  pub any_yes : (r : Bool) → MatchBool r (Some P a b) (Each Q a b) → r ≡ true → (u : ℕ) × (a ≤ u) × (u < b) × P u
-  any_yes r h e = some P a b (subst (λ (x : Bool). MatchBool x (Some P a b) (Each Q a b)) e h)
+  pub any_yes : (r : Bool) → MatchBool r (OneOf P a b) (Each Q a b) → r ≡ true → (u : ℕ) × (a ≤ u) × (u < b) × P u
+  any_yes r h e = some P a b (subst (λ (x : Bool). MatchBool x (OneOf P a b) (Each Q a b)) e h)
