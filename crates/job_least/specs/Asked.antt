@@ -1,5 +1,5 @@
 -- Definitions: what the search for the least period alone asks and tells.
-use Rattle.std.specs.Prelude.{◌≡◌, List, ℕ, ◌+◌, pos, replicate}
+use Rattle.std.specs.Prelude.{◌≡◌, None, List, ℕ, ◌+◌, pos, replicate}
 use Rattle.net_model.specs.Net.{Net}
 use Rattle.net_model.specs.Arrays.{pins_in}
 use Rattle.net_model.specs.Checks.{Passed}
@@ -17,4 +17,4 @@ pub record LeastAsked (s : Extent) (n : ℕ) (net : List ℕ) (k : ℕ) (t : Lis
 
 -- r is the least period of every net that suits
 pub record LeastTold (s : Extent) (n : ℕ) (net : List ℕ) (k r : ℕ) : Type 0 where
-  pub least : (N : Net) → Suits plain (wiring s net) k (tops_in s net 0) N → Passed N k → N.outputs ≡ pins_in (outs_in s net) (delays_in s net n) 0 n → LeastPeriod N k r
+  pub least : (N : Net) → Suits plain (wiring s net) k (tops_in s net None) N → Passed N k → N.outputs ≡ pins_in (outs_in s net) (delays_in s net n) 0 n → LeastPeriod N k r

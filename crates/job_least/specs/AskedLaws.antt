@@ -1,5 +1,5 @@
 -- From a net read and checked to the search for the least period, and back.
-use Rattle.std.specs.Prelude.{◌≡◌, refl, List, ℕ, ◌+◌, ◌*◌, ℤ, pos, length, replicate}
+use Rattle.std.specs.Prelude.{◌≡◌, None, refl, List, ℕ, ◌+◌, ◌*◌, ℤ, pos, length, replicate}
 use Rattle.std.proofs.Common.{ap, ◌∙◌}
 use Rattle.std.proofs.lemmas.List.{length-replicate}
 use Rattle.limits.specs.Limits.{most_pins, most_table}
@@ -54,5 +54,5 @@ asked-labels ls' e p = let z = p.sized in record {
 }
 
 -- the least period found is told
-pub period-told : {s : Extent} {n : ℕ} {net : List ℕ} {k : ℕ} {ls : List ℤ} {r : ℕ} → Found plain (wiring s net) k 0 (tops_in s net 0) (outs_in s net) (delays_in s net n) n ls r → LeastTold s n net k r
+pub period-told : {s : Extent} {n : ℕ} {net : List ℕ} {k : ℕ} {ls : List ℤ} {r : ℕ} → Found plain (wiring s net) k 0 (tops_in s net None) (outs_in s net) (delays_in s net n) n ls r → LeastTold s n net k r
 period-told q = record { least = λ N S P o. first-least P (q.least refl N S P o) }

@@ -38,7 +38,7 @@ fn least_in(s: Extent, n: usize, net: &[usize], k: usize, table: &mut [u8]) -> u
         phi: 0,
         k,
         outputs: n,
-        cap: 0,
+        cap: None,
         forward: false,
         trial: false,
     };

@@ -1,5 +1,5 @@
 -- Definitions: the period of a cover and its labelling, for a target or the least.
-use Rattle.std.specs.Prelude.{◌≡◌, List, Option, MatchOption, ℕ, ◌≤◌, ℤ}
+use Rattle.std.specs.Prelude.{◌≡◌, List, Option, Some, None, MatchOption, ℕ, ◌≤◌, ℤ}
 use Rattle.net_model.specs.Net.{Net}
 use Rattle.net_model.specs.Arrays.{pins_in}
 use Rattle.net_model.specs.Checks.{Passed}
@@ -12,10 +12,10 @@ use Rattle.label_visit.specs.LabelVisits.{Suits, wiring, Fine, Ceilings}
 use Rattle.label_sweep.specs.Sweeps.{Sized, Ordered}
 use Rattle.label_period.specs.PeriodSearch.{FirstReached}
 
--- the ceilings that a mode asks for: each gate's own, 0; in forward mode one period for all gates
-abbrev pub cap_in : Mode → ℕ
-cap_in plain = 0
-cap_in forward = 1
+-- the ceilings that a mode asks for: each gate's own; in forward mode one period for all gates
+abbrev pub cap_in : Mode → Option ℕ
+cap_in plain = None
+cap_in forward = Some 1
 
 -- arrays for labels, outputs, ceilings and order; a target and gates within the limits
 pub record PeriodAsked (s : Extent) (net : List ℕ) (ls : List ℤ) (tops order os oc : List ℕ) (n target k : ℕ) : Type 0 where

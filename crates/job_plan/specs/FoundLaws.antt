@@ -1,5 +1,5 @@
 -- Laws of the period found: from the least period, and from a target reached or not.
-use Rattle.std.specs.Prelude.{◌≡◌, refl, List, true, false, Bool, ℕ, ◌≤◌, ℤ}
+use Rattle.std.specs.Prelude.{◌≡◌, Option, refl, List, true, false, Bool, ℕ, ◌≤◌, ℤ}
 use Rattle.std.proofs.Common.{subst, arith}
 use Rattle.limits.specs.Limits.{most_period}
 use Rattle.label_theory.specs.Labels.{Mode}
@@ -38,9 +38,9 @@ module _ {M : Mode} {C : Circuit} {k target : ℕ} {tops os oc : List ℕ} {n : 
   found_none z l e = (omega arith, l.none e)
 
 -- the ceilings of a mode
-module _ {M : Mode} {cap k target : ℕ} (s : Extent) (net : List ℕ) (e : cap ≡ cap_in M) where
+module _ {M : Mode} {cap : Option ℕ} {k target : ℕ} (s : Extent) (net : List ℕ) (e : cap ≡ cap_in M) where
   pub found_cap : {os oc : List ℕ} {n : ℕ} {ls : List ℤ} {φ : ℕ} → Found M (wiring s net) k target (tops_in s net cap) os oc n ls φ → Found M (wiring s net) k target (tops_in s net (cap_in M)) os oc n ls φ
-  found_cap {os} {oc} {n} {ls} {φ} f = subst (λ (x : ℕ). Found M (wiring s net) k target (tops_in s net x) os oc n ls φ) e f
+  found_cap {os} {oc} {n} {ls} {φ} f = subst (λ (x : Option ℕ). Found M (wiring s net) k target (tops_in s net x) os oc n ls φ) e f
 
   pub missed_cap : (os oc : List ℕ) (n : ℕ) → Missed M (wiring s net) k target (tops_in s net cap) os oc n → Missed M (wiring s net) k target (tops_in s net (cap_in M)) os oc n
-  missed_cap os oc n f = subst (λ (x : ℕ). Missed M (wiring s net) k target (tops_in s net x) os oc n) e f
+  missed_cap os oc n f = subst (λ (x : Option ℕ). Missed M (wiring s net) k target (tops_in s net x) os oc n) e f

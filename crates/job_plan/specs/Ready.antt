@@ -192,7 +192,7 @@ module _ {k target : ℕ} {z : NetSizes} {net ts : List ℕ} (p : Planning k tar
     -- the ceilings of a mode are right
     ceiled : (M : Mode) (g : ℕ) → g < G → Ceiled M N (I + g) (get_or (tops_in extent net (cap_in M)) g 0)
     ceiled plain g h = rw (tops-own extent net) (rw (top-at g) (p.graph.topped.low g h, p.graph.paths g h))
-    ceiled forward g h = let e = top-capped extent net 1 g h (omega arith) in omega (arith, e)
+    ceiled forward g h = let e = top-capped extent net 1 g h in omega (arith, e)
 
     suits : (M : Mode) → Suits M (wiring extent net) k (tops_in extent net (cap_in M)) N
     suits M = record {
@@ -221,7 +221,7 @@ module _ {k target : ℕ} {z : NetSizes} {net ts : List ℕ} (p : Planning k tar
       where
         small_top : (g : ℕ) → g < G → get_or tops g 0 ≤ 100000
         small_top g h = omega (arith, top-at g, p.graph.topped.high g h, p.facts.gates-high)
-    ceilings forward = capped extent net most_period 1 (omega arith) (omega arith)
+    ceilings forward = capped extent net most_period 1 (omega arith)
 
     period : (M : Mode) (ls : List ℤ) → length ls ≡ I + G
         → PeriodAsked extent net ls (tops_in extent net (cap_in M)) (order_in extent net) (outs_in extent net) (delays_in extent net z.outputs) z.outputs target k

@@ -71,10 +71,10 @@ pub fn extent(z: NetSizes, net: &[usize], k: usize) -> Extent
 }
 
 // The ceilings that a mode asks for.
-fn cap_of(forward: bool) -> usize
+fn cap_of(forward: bool) -> Option<usize>
     ensures { result ≡ cap_in (mode_of forward) }
 {
-    if forward { 1 } else { 0 }
+    if forward { Some(1) } else { None }
 }
 
 // The target a.phi where it is reachable, or the least period for target 0, with the least labelling left in labels.

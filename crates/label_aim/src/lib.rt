@@ -10,14 +10,14 @@ ghost use Rattle.label_aim.specs.Aims.{mode_of, rise_in, BorderTold, Bordering};
 use cut_circuit::Extent;
 use signed::{minus, no_higher, whole};
 
-// What is asked of the labels: a period, the most leaves of a LUT, the outputs of the net, and a ceiling of all gates, in periods; 0: each gate has its own.
+// What is asked of the labels: a period, the most leaves of a LUT, the outputs of the net, and a ceiling of all gates, in periods, where each has not its own.
 // Whether covers are to be forward, and whether the labels are those of a trial, raised by φ times the width.
 #[derive(Clone, Copy)]
 pub struct Aim {
     pub phi: usize,
     pub k: usize,
     pub outputs: usize,
-    pub cap: usize,
+    pub cap: Option<usize>,
     pub forward: bool,
     pub trial: bool,
 }

@@ -1,5 +1,5 @@
 -- Laws of a trial: labels raised by up to d that all rose further were a lower bound, so past a ceiling they refute.
-use Rattle.std.specs.Prelude.{◌≡◌, refl, List, Result, Err, ◌⊎◌, ℕ, ◌+◌, ◌≤◌, ◌<◌, ℤ, pos, ◌+ℤ◌, ◌-ℤ◌, length, set, ◌≤ℤ◌, ◌<ℤ◌}
+use Rattle.std.specs.Prelude.{◌≡◌, refl, List, Some, Result, Err, ◌⊎◌, ℕ, ◌+◌, ◌≤◌, ◌<◌, ℤ, pos, ◌+ℤ◌, ◌-ℤ◌, length, set, ◌≤ℤ◌, ◌<ℤ◌}
 use Rattle.std.proofs.Common.{sym, ◌∙◌, subst, inl, inr, mul-le-mul_right, arith, length-set, get_or-set_same, get_or-set_other, ext_get_or}
 use Rattle.std.proofs.Math.Decide.{ℕ_discrete, dec_lt}
 use Rattle.std.specs.Int.Signed.{≤ℤ_refl}
@@ -127,8 +127,8 @@ module _ {M : Mode} {C : Circuit} {k φ : ℕ} {tops : List ℕ} {old ls sv m m'
   trial_refutes e h K a b = past_top M m' a.over.gate a.over.is_gate (trial_bounds e h K a.rose b) a.over.above
 
 -- ---- the ceilings of a trial
-pub caps_suit : (s : Extent) (net : List ℕ) (φ : ℕ) → Roomy (s.inputs + s.gates) φ → Ceilings (wiring s net) φ (tops_in s net farthest)
-caps_suit s net φ d = capped s net φ farthest (omega arith) (let b = mul-le-mul_right farthest d.period in omega arith)
+pub caps_suit : (s : Extent) (net : List ℕ) (φ : ℕ) → Roomy (s.inputs + s.gates) φ → Ceilings (wiring s net) φ (tops_in s net (Some farthest))
+caps_suit s net φ d = capped s net φ farthest (let b = mul-le-mul_right farthest d.period in omega arith)
 
 -- ---- sweeps and a trial that refutes
 pub leapt_past : {M : Mode} {δ : ℕ} {C : Circuit} {k φ : ℕ} {tops order : List ℕ} {ls ls' ls'' : List ℤ} {t : Result ℕ PastCeiling} {e : PastCeiling} → Progress M δ C k φ tops order ls ls' t → ls'' ≡ ls'

@@ -145,7 +145,7 @@ fn trial(
     copy(labels, saved, to);
     hoist(labels, old, s.inputs, to, d);
     let far = Aim {
-        cap: CAP,
+        cap: Some(CAP),
         trial: true,
         ..a
     };

@@ -1,5 +1,5 @@
 -- Definitions: one visit of a gate in the sweep: what it keeps, when nothing can change, and when it refutes.
-use Rattle.std.specs.Prelude.{◌≡◌, true, false, Bool, List, [], Result, Ok, OnErr, ℕ, zero, suc, ◌+◌, ◌-◌, ◌*◌, ◌^◌, ◌≤◌, ◌<◌, ℤ, pos, ◌+ℤ◌, ◌-ℤ◌, length, get_or, set, drop, replicate, ◌≤ℤ◌, ◌<ℤ◌}
+use Rattle.std.specs.Prelude.{◌≡◌, true, false, Bool, List, [], Option, Some, None, Result, Ok, OnErr, ℕ, zero, suc, ◌+◌, ◌-◌, ◌*◌, ◌^◌, ◌≤◌, ◌<◌, ℤ, pos, ◌+ℤ◌, ◌-ℤ◌, length, get_or, set, drop, replicate, ◌≤ℤ◌, ◌<ℤ◌}
 use Rattle.limits.specs.Limits.{most_k, most_pins}
 use Rattle.integers.specs.Parts.{up}
 use Rattle.net_model.specs.Net.{Net}
@@ -117,9 +117,9 @@ pub record Ready (s : Extent) (ls : List ℤ) (φ k : ℕ) : Type 0 where
   pub fits : (s.inputs + s.gates) * s.width * 16 < 2 ^ 32
 
 -- the ceilings in a net's slice, or one for all gates
-unfoldable pub tops_in : Extent → List ℕ → ℕ → List ℕ
-tops_in s net zero = drop (tops_at s.inputs s.gates) net
-tops_in s net (suc cap) = replicate s.gates (suc cap)
+unfoldable pub tops_in : Extent → List ℕ → Option ℕ → List ℕ
+tops_in s net None = drop (tops_at s.inputs s.gates) net
+tops_in s net (Some cap) = replicate s.gates cap
 
 -- ceilings that do not overflow
 pub record Ceilings (C : Circuit) (φ : ℕ) (tops : List ℕ) : Type 0 where

@@ -1,5 +1,5 @@
 -- Laws of the ceilings: those in the net's slice, and one for all gates.
-use Rattle.std.specs.Prelude.{◌≡◌, List, length, get_or, drop, replicate}
+use Rattle.std.specs.Prelude.{◌≡◌, Some, None, List, length, get_or, drop, replicate}
 use Rattle.std.proofs.Math.Path.{refl, sym}
 use Prim.Native.Nat.{ℕ, zero, suc, ◌+◌, ◌*◌, ◌≤◌, ◌<◌}
 use Rattle.std.proofs.Common.{arith, get_or-drop}
@@ -17,38 +17,28 @@ same-all zero x g h = absurd (none h)
 same-all (suc n) x zero h = refl
 same-all (suc n) x (suc g) h = same-all n x g (omega arith)
 
-nothing : 0 < 0 → ⊥
-nothing h = omega arith
-
-beyond : {n : ℕ} → suc n ≤ 0 → ⊥
-beyond h = omega arith
-
 module _ (s : Extent) (net : List ℕ) where
   -- one for all gates
-  pub top-capped : (cap g : ℕ) → g < s.gates → 0 < cap → cap ≡ get_or (tops_in s net cap) g 0
+  pub top-capped : (cap g : ℕ) → g < s.gates → cap ≡ get_or (tops_in s net (Some cap)) g 0
   unfolding tops_in
-  top-capped zero g h p = absurd (nothing p)
-  top-capped (suc cap) g h p = sym (same-all s.gates (suc cap) g h)
+  top-capped cap g h = sym (same-all s.gates cap g h)
 
-  pub capped : (φ cap : ℕ) → 0 < cap → φ * cap < room → Ceilings (wiring s net) φ (tops_in s net cap)
+  pub capped : (φ cap : ℕ) → φ * cap < room → Ceilings (wiring s net) φ (tops_in s net (Some cap))
   unfolding tops_in
-  capped φ zero p h = absurd (nothing p)
-  capped φ (suc cap) p h = record {
-    size = let e = length-replicate {A = ℕ} s.gates (suc cap) in omega arith;
-    top = λ g l. rw (same-all s.gates (suc cap) g l) h;
+  capped φ cap h = record {
+    size = let e = length-replicate {A = ℕ} s.gates cap in omega arith;
+    top = λ g l. rw (same-all s.gates cap g l) h;
   }
 
   -- each gate's own
-  pub top-own : (cap g : ℕ) → cap ≤ 0 → get_or net (tops_at s.inputs s.gates + g) 0 ≡ get_or (tops_in s net cap) g 0
+  pub top-own : (g : ℕ) → get_or net (tops_at s.inputs s.gates + g) 0 ≡ get_or (tops_in s net None) g 0
   unfolding tops_in
-  top-own zero g h = sym (get_or-drop (tops_at s.inputs s.gates) net g 0)
-  top-own (suc cap) g h = absurd (beyond h)
+  top-own g = sym (get_or-drop (tops_at s.inputs s.gates) net g 0)
 
-  pub top-place : (cap g : ℕ) → cap ≤ 0 → g < s.gates → s.gates ≤ length (tops_in s net cap) → tops_at s.inputs s.gates + g < length net
+  pub top-place : (g : ℕ) → g < s.gates → s.gates ≤ length (tops_in s net None) → tops_at s.inputs s.gates + g < length net
   unfolding tops_in
-  top-place zero g h l r = omega (arith, l, r, length-drop (tops_at s.inputs s.gates) net)
-  top-place (suc cap) g h l r = absurd (beyond h)
+  top-place g l r = omega (arith, l, r, length-drop (tops_at s.inputs s.gates) net)
 
-  pub tops-own : tops_in s net 0 ≡ drop (tops_at s.inputs s.gates) net
+  pub tops-own : tops_in s net None ≡ drop (tops_at s.inputs s.gates) net
   unfolding tops_in
   tops-own = refl

@@ -2,6 +2,7 @@
 #![tactic(auto)]
 
 ghost use Rattle.std.specs.Prelude.{◌≡◌, true, false, ◌+◌, ◌*◌, ◌≤◌, ◌<◌, pos, ◌+ℤ◌, length, get_or, set, ◌≤ℤ◌, ◌<ℤ◌};
+ghost use Rattle.net_model.specs.PackedNet.{tops_at};
 ghost use Rattle.signed.specs.Range.{Small, room, label_in};
 ghost use Rattle.cut_circuit.specs.Packed.{packed_of};
 ghost use Rattle.cut_question.specs.Separating.{AtRest};
@@ -52,15 +53,23 @@ fn below(p: i64, top: usize) -> bool
     no_higher(p, 0, t)
 }
 
-// The ceiling of gate g, in periods.
-pub fn top_of(s: Extent, net: &[usize], cap: usize, g: usize) -> usize
+// Gate g's own ceiling, in periods.
+fn own_top(s: Extent, net: &[usize], g: usize) -> usize
+    requires { tops_at s.inputs s.gates + g < length net.now }
+    ensures { result ≡ get_or net.now (tops_at s.inputs s.gates + g) 0 }
+{
+    net[(2 + 3 * PINS) * s.gates + (s.inputs + s.gates) + s.gates + g]
+}
+
+// The ceiling of gate g, in periods: one for all gates, or its own.
+pub fn top_of(s: Extent, net: &[usize], cap: Option<usize>, g: usize) -> usize
     requires { (g < s.gates) × (s.gates ≤ length (tops_in s net.now cap)) }
     ensures { result ≡ get_or (tops_in s net.now cap) g 0 }
 {
-    if cap > 0 {
-        return cap;
+    match cap {
+        Some(top) => top,
+        None => own_top(s, net, g),
     }
-    net[(2 + 3 * PINS) * s.gates + (s.inputs + s.gates) + s.gates + g]
 }
 
 // Whether gate g has a k-cut no higher than p whose cone suits the mode. A kept cut that is low enough is one.

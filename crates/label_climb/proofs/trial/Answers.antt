@@ -1,3 +1,4 @@
+use Rattle.std.proofs.Common.{Some}
 use mathlib.Core.Path.{sym, ◌∙◌}
 use native.Mathlib.Omega.{arith}
 use Prim.Native.Nat.{◌*◌}
@@ -10,7 +11,7 @@ use Rattle.label_climb.specs.TrialLaws.{caps_suit, hoisted_ready, restored, tria
 use Rattle.label_climb.proofs.trial.Goals as goal
 
 pub sweep_some-requires : goal.sweep_some-requires
-sweep_some-requires c = record { at_rest = c.requires.at_rest; ready = (hoisted_ready c.hoist.ensures c.requires.ready.0, c.requires.ready.1, caps_suit c.args.s c.args.net.now c.args.a.phi c.requires.ready.3); stop_le_gates = (omega arith, quiet_none (mode_of c.args.a.forward) (c.args.a.phi * c.args.s.width) (wiring c.args.s c.args.net.now) c.args.a.k c.args.a.phi (tops_in c.args.s c.args.net.now farthest) (order_in c.args.s c.args.net.now) _) }
+sweep_some-requires c = record { at_rest = c.requires.at_rest; ready = (hoisted_ready c.hoist.ensures c.requires.ready.0, c.requires.ready.1, caps_suit c.args.s c.args.net.now c.args.a.phi c.requires.ready.3); stop_le_gates = (omega arith, quiet_none (mode_of c.args.a.forward) (c.args.a.phi * c.args.s.width) (wiring c.args.s c.args.net.now) c.args.a.k c.args.a.phi (tops_in c.args.s c.args.net.now (Some farthest)) (order_in c.args.s c.args.net.now) _) }
 
 pub returns : goal.returns
 returns c = record {
