@@ -6,3 +6,4 @@ pub mod PackedLaws
 pub mod Chains
 pub mod PinLinks
 pub mod PinLinksLaws
+pub mod CircuitSteps

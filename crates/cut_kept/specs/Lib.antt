@@ -3,3 +3,4 @@ pub mod Keeping
 pub mod GatherLaws
 pub mod RowLaws
 pub mod KeptLaws
+pub mod LowSteps

@@ -13,3 +13,4 @@ pub mod ReadLaws
 pub mod UnwindLaws
 pub mod SearchLaws
 pub mod AroundLaws
+pub mod ZeroSteps

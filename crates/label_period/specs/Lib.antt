@@ -1,2 +1,3 @@
 pub mod PeriodSearch
 pub mod PeriodSearchLaws
+pub mod HalfSteps

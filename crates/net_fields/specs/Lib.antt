@@ -3,3 +3,4 @@ pub mod Fields
 pub mod FieldLaws
 pub mod FieldListLaws
 pub mod ItemsRead
+pub mod ByteSteps
