@@ -7,7 +7,7 @@ use Rattle.net_model.specs.Copies.{copy}
 use Rattle.label_theory.specs.Labels.{Low}
 use Rattle.cut_circuit.specs.CircuitLaws.{node-below}
 use Rattle.cut_kept.specs.KeptCuts.{row_places, row_at, row_in}
-use Rattle.cut_kept.specs.Keeping.{SameBeside, Gathered, Gathers, RowTold, CloseTold, dropped, closed, CloseAsked, ServeAsked, LowFrom, LowFromAsked, Serves}
+use Rattle.cut_kept.specs.Keeping.{SameBeside, Gathered, Gathers, RowTold, CloseTold, dropped, closed, CloseAsked, ServeAsked, LowFrom, Serves}
 
 pub low-more : (width : ℕ) (l : List ℕ) (at i φ : ℕ) (lab : ℕ → ℤ) (h : ℤ) → LowFrom width l at i φ lab h → Low φ lab h (copy (get_or l (at + i) 0 / width) (get_or l (at + i) 0 % width))
     → LowFrom width l at (i + 1) φ lab h
