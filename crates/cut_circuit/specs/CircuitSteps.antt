@@ -1,20 +1,15 @@
 -- Laws of nodes emptied and slots looked at one after the other: none, one more, and all of them.
-use Rattle.std.specs.Prelude.{◌≡◌, refl, ℕ, suc, ◌+◌, ◌*◌, ◌/◌, ◌%◌, ◌≤◌, ◌<◌, length, drop, List, ◌-◌, ◌^◌, get_or, [], ◌∷◌, zero, take}
-use Rattle.std.proofs.Common.{sym, subst, ◌∙◌, not-suc-le-zero, add-one, arith, length-drop, get_or-set_same, get_or-drop, drop-set-lt, ap}
+use Rattle.std.specs.Prelude.{◌≡◌, refl, ℕ, suc, ◌+◌, ◌≤◌, ◌<◌, length, List, get_or, zero}
+use Rattle.std.proofs.Common.{sym, ◌∙◌, not-suc-le-zero, arith, get_or-set_same, ap}
 use Rattle.std.proofs.Math.Path.{ap}
 use mathlib.Core.List.{List}
 use Rattle.std.proofs.Math.Decide.{ℕ_discrete}
 use Rattle.std.proofs.Math.ListN.{get_or, set, length-set}
-use Rattle.std.proofs.Math.Seq.{get_or-set_other, drop-set-add}
-use Rattle.limits.specs.Limits.{most_pins, most_k}
-use Rattle.net_model.specs.PackedNet.{sources_at, nexts_at, heads_at, Apart}
-use Rattle.net_model.specs.PackedNetLaws.{length_part, part_same, apart-refl}
-use Rattle.cut_circuit.specs.Circuit.{Circuit, circuit, place, feeding_at, ending_at, among, forced_at}
-use Rattle.cut_circuit.specs.Chains.{Chain, found, further, Chains}
-use Rattle.cut_circuit.specs.Packed.{packed_of, first_at, sources_at, counts_at, GateAsked, SourceAsked, SlotAsked}
-use Rattle.cut_circuit.specs.PinLinks.{LinkAsked, Linked, LinkedIn, PlaceAsked, PlaceLinked, Emptied, Links}
-use Rattle.cut_circuit.specs.declared.Extent.{Extent}
-use Rattle.cut_circuit.specs.CircuitLaws.{node-below, held_place, held-forced}
+use Rattle.std.proofs.Math.Seq.{get_or-set_other}
+use Rattle.net_model.specs.PackedNetLaws.{apart-refl}
+use Rattle.cut_circuit.specs.Circuit.{among}
+use Rattle.cut_circuit.specs.PinLinks.{Emptied}
+use Rattle.cut_circuit.specs.CircuitLaws.{held_place}
 
 pub emptied_none : (net : List ℕ) (at : ℕ) → Emptied net net at 0
 emptied_none net at = record { zero = λ u h. absurd (not-suc-le-zero h); apart = apart-refl at (at + 0) net }

@@ -1,25 +1,9 @@
 -- Laws of labels written one after the other: none, one more, and all of them.
-use Rattle.std.specs.Prelude.{◌≡◌, refl, List, ℕ, suc, ◌+◌, ◌*◌, ◌/◌, ◌≤◌, ◌<◌, ℤ, pos, negsuc, ◌-ℤ◌, length, set, ◌≤ℤ◌}
-use Rattle.std.proofs.Common.{sym, ◌∙◌, subst, div-lt_iff_lt-mul, mul-le-mul_left, mul_comm, le-div_iff_mul-le, arith, length-set, get_or-set_same, get_or-set_other}
-use Rattle.std.proofs.Math.Decide.{ℕ_discrete, dec_lt}
-use Rattle.std.proofs.Math.ListN.{get_or-eq_default}
-use Rattle.integers.specs.Parts.{ints, sub_parts}
-use Rattle.integers.proofs.Height.{height-parts}
-use Rattle.net_model.specs.Net.{Net, IsGate}
-use Rattle.net_model.specs.Arrays.{stride}
-use Rattle.net_model.specs.ArrayLaws.{pin_at}
-use Rattle.cone_theory.specs.Reach.{reach_of}
-use Rattle.label_theory.specs.Labels.{Labelling}
-use Rattle.label_bounds.specs.Floor.{floor, floor-pin}
-use Rattle.signed.specs.Range.{Small, room, label_in}
-use Rattle.signed.specs.RangeLaws.{small-between}
-use Rattle.cut_circuit.specs.Circuit.{Circuit}
-use Rattle.cut_circuit.specs.Bridge.{gate-of}
-use Rattle.cut_circuit.specs.declared.Extent.{Extent}
-use Rattle.label_visit.specs.LabelVisits.{Sane, PinMax, Changed, Fine, wiring, Ready}
-use Rattle.label_visit.specs.BoundLaws.{is-pin}
-use Rattle.label_visit.specs.ReadyLaws.{changed-small}
-use Rattle.label_start.specs.Starts.{Filled, Started, Floored, Startable, Begun}
+use Rattle.std.specs.Prelude.{◌≡◌, refl, List, ℕ, ◌+◌, ◌≤◌, ◌<◌, ℤ, pos, length, set}
+use Rattle.std.proofs.Common.{◌∙◌, subst, arith, length-set, get_or-set_same, get_or-set_other}
+use Rattle.std.proofs.Math.Decide.{ℕ_discrete}
+use Rattle.signed.specs.Range.{label_in}
+use Rattle.label_start.specs.Starts.{Filled}
 
 pub filled_none : (ls : List ℤ) (from : ℕ) (z : ℤ) → Filled ls ls from from z
 filled_none ls from z = record { size = refl; between = λ u h l. absurd (omega (arith, h, l)); before = λ u h. refl; behind = λ u h. refl }

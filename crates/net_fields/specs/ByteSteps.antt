@@ -1,17 +1,14 @@
 -- Laws of reading a number byte by byte, from the last one on: what is known from a place on, one byte more, and all of them.
-use Rattle.std.specs.Prelude.{◌≡◌, refl, Bool, true, false, List, [], ◌∷◌, ℕ, zero, suc, ◌+◌, ◌-◌, ◌*◌, ◌^◌, ◌≤◌, ◌<◌, take, drop, set, replicate}
+use Rattle.std.specs.Prelude.{◌≡◌, List, ℕ, suc, ◌+◌, ◌-◌, ◌*◌, ◌^◌, ◌≤◌, ◌<◌, drop}
 use Rattle.std.proofs.Math.Path.{sym, ap}
-use Rattle.std.proofs.Common.{◌∙◌, zero-le, suc-le-suc, length-drop, drop_of_length-le, drop-cons, get_or-drop, get_or-set_same, get_or-set_other}
+use Rattle.std.proofs.Common.{◌∙◌, length-drop, drop_of_length-le, drop-cons, get_or-drop}
 use native.Mathlib.Omega.{arith}
-use Rattle.std.proofs.Math.Decide.{ℕ_discrete}
 use Rattle.std.proofs.Math.ListN.{length, get_or}
 use Rattle.limits.specs.Limits.{most_items}
 use Rattle.sequences.specs.Member.{get_or_in}
-use Rattle.sequences.specs.Zeros.{zeros}
-use Rattle.net_bytes.specs.Walk.{first, rest, from_bytes}
+use Rattle.net_bytes.specs.Walk.{from_bytes}
 use Rattle.net_bytes.specs.Readers.{Each}
 use Rattle.net_bytes.specs.Maps.{from_bytes_lt}
-use Rattle.net_fields.specs.ItemsRead.{number_room, Small}
 
 -- what is known of each element by its place
 pub each-byte : (l : List ℕ) → ((i : ℕ) → get_or l i 0 < 256) → Each (λ (b : ℕ). b < 256) l
