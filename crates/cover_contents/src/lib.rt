@@ -22,7 +22,6 @@ ghost use Rattle.cover_contents.specs.Traces.{samples_to, Sampled, Tracing, Most
 
 use cover_registers::{counted, lag_at, moved};
 use cover_writer::CoverHead;
-use inputs::narrow;
 use limits::{COUNT, NODES, PINS};
 use net_reader::{NetSizes, delays_at, outs_at};
 use run_step::{run, step};
@@ -37,8 +36,7 @@ fn take_sample(z: NetSizes, kept: &[u8], known: &[usize], at: usize, trace: &mut
     ensures { Sampled kept.now trace.old at (z.inputs + z.gates) trace.new }
 {
     for v in 0..z.inputs + z.gates {
-        let told = told_value(z, kept, 0, known, v, COUNT);
-        trace[at + v] = narrow(told - 1);
+        trace[at + v] = told_value(z, kept, 0, known, v, COUNT).unwrap() as u8;
     }
 }
 

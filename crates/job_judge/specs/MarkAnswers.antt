@@ -1,14 +1,14 @@
 -- Definitions: document 01's answer for each case of mark's.
-use Rattle.std.specs.Prelude.{ℕ, ◌≤◌, ◌<◌}
+use Rattle.std.specs.Prelude.{ℕ, ◌≤◌, ◌<◌, Result, Ok, Err}
 use Rattle.limits.specs.Limits.{most_period}
 use Rattle.cover_records.specs.Outcomes.{Answer, accepted, turned_back}
-use Rattle.job_judge.specs.declared.Grade.TheVariants.{Excess, Refused}
-use Rattle.job_judge.specs.declared.Grade as declared
+use Rattle.refusals.specs.declared.Refusal.{Refusal}
+use Rattle.refusals.specs.Refusals.{number_of}
 
 -- "Mark returns the excess, stated period minus least period"; "A refusal returns its number and no count."
-abbrev pub answer_of : declared.Grade → Answer
-answer_of (Excess n) = accepted n
-answer_of (Refused n) = turned_back n
+abbrev pub answer_of : Result ℕ Refusal → Answer
+answer_of (Ok n) = accepted n
+answer_of (Err e) = turned_back (number_of e)
 
 -- an excess is at most 32, a refusal's number is a byte
 abbrev pub InRange : Answer → Type 0

@@ -1,5 +1,5 @@
 -- From what the parts of mark tell to the answer that the definition has.
-use Rattle.std.specs.Prelude.{◌≡◌, refl, true, false, ℕ, ◌+◌, ◌-◌, ◌*◌, ◌≤◌, ◌<◌, ℤ}
+use Rattle.std.specs.Prelude.{◌≡◌, false, ℕ, ◌-◌, ◌≤◌, ◌<◌, ℤ, Ok}
 use Rattle.std.proofs.Common.{sym, subst, ◌∙◌, arith}
 use Rattle.std.proofs.Math.Path.{ap}
 use Rattle.std.proofs.lemmas.Bool.{false≢true}
@@ -16,16 +16,16 @@ use Rattle.limits.specs.Limits.{most_period, most_luts}
 use Rattle.limits.specs.Courses.{Offered}
 use Rattle.limits.specs.CourseLaws.{offered_within}
 use Rattle.limits.specs.declared.Rules.{Rules}
-use Rattle.net_bytes.specs.Reading.{Result, got, refused}
+use Rattle.net_bytes.specs.Reading.{got, refused}
 use Rattle.net_bytes.specs.Walk.{net_reader}
 use Rattle.cone_theory.specs.Ranks.{ranked}
 use Rattle.label_theory.specs.Labels.{plain}
 use Rattle.cover_theory.specs.Covers.{LeastPeriod}
-use Rattle.cover_period.specs.Period.{least_period, least_period-is, least_period_unique}
+use Rattle.cover_period.specs.Period.{least_period-is, least_period_unique}
 use Rattle.cover_records.specs.Accepted.{Covering, excess-is}
-use Rattle.cover_records.specs.CoverBytes.{Record, cover_reader}
+use Rattle.cover_records.specs.CoverBytes.{cover_reader}
 use Rattle.cover_records.specs.Held.{Held}
-use Rattle.cover_records.specs.Outcomes.{Answer, accepted, turned_back, Checked, passes, fails, check_net, mark_read, mark_checked}
+use Rattle.cover_records.specs.Outcomes.{Answer, accepted, turned_back, Checked, fails, check_net, mark_read, mark_checked}
 use Rattle.net_reader.specs.ReadAnswer.{arrays_of}
 use Rattle.net_reader.specs.declared.NetSizes.{NetSizes}
 use Rattle.cover_cuts.specs.Cuts.{CutAs}
@@ -35,13 +35,12 @@ use Rattle.cover_records.specs.CheckLaws.{check-refused, check-loop, check-unrea
 use Rattle.job_plan.specs.Ready.{net-wires, tabled-net_in}
 use Rattle.job_settle.specs.Settling.{Ended, LeastOf}
 use Rattle.job_settle.specs.Settling as settling
-use Rattle.job_settle.specs.declared.Settled.{Settled}
 use Rattle.job_settle.specs.SettlingLaws.{settling-same, settling-kept, ended-passing}
-use Rattle.cover_reader.specs.Reads.{CoverRead, held_in, Spacious, record_of}
+use Rattle.cover_reader.specs.Reads.{CoverKept, held_in, Spacious, record_of}
 use Rattle.cover_reader.specs.declared.Candidate.{Candidate}
 use Rattle.job_judge.specs.MarkAnswers.{InRange}
 use Rattle.job_judge.specs.JudgeMarking.{Judging, HeldFor, CutsAsked, CutsToldOf, LinksAsked, LinksToldOf, MarksTo, MarksNet, MarksRead}
-use Rattle.job_judge.specs.Judged.{Cuts, Links, cuts-sure, links_sure, cuts-small, links_small, read-cuts, read_links, read_right}
+use Rattle.job_judge.specs.Judged.{cuts-sure, links_sure, cuts-small, links_small, read-cuts, read_links, read_right}
 
 -- a check of the net failed
 pub marks-fails : (R : Rules) (k n : ℕ) (net bytes : List ℕ) → n < 256 → check_net R k net ≡ fails n → MarksTo R k net bytes (turned_back n)
@@ -77,15 +76,15 @@ module _ (R : Rules) {k : ℕ} {N : Net} (bytes : List ℕ) where
   }
 
 -- the least period, with the slice written in other parts
-pub least_judging : {k : ℕ} {sizes : NetSizes} {net ts net' : List ℕ} {s : Settled} → settling.Settling k 0 sizes net ts → NetKept sizes.inputs sizes.gates net net'
-    → LeastOf k (net_in (arrays_of sizes net ts)) s → s.refusal ≤ 0 → Judging k sizes net' ts s.period
-least_judging {k} {sizes} {net} {ts} {s = s} g q l h =
-    let u = ended-passing l h in
+pub least_judging : {k : ℕ} {sizes : NetSizes} {net ts net' : List ℕ} {φ : ℕ} → settling.Settling k 0 sizes net ts → NetKept sizes.inputs sizes.gates net net'
+    → LeastOf k (net_in (arrays_of sizes net ts)) (Ok φ) → Judging k sizes net' ts φ
+least_judging {k} {sizes} {net} {ts} {φ = φ} g q l =
+    let u = ended-passing l (omega arith) in
     let e = settling-same g q in
     record {
       settling = settling-kept g q;
       passed = subst (λ (N : Net). Passed N k) (sym e) u.passed;
-      least = subst (λ (N : Net). LeastPeriod N k s.period) (sym e) u.wanted;
+      least = subst (λ (N : Net). LeastPeriod N k φ) (sym e) u.wanted;
     }
 
 -- the answer is that for the net as it was
@@ -181,18 +180,18 @@ module _ {k : ℕ} {sizes : NetSizes} {net ts : List ℕ} {c : Candidate} {rows 
 
 -- a record that was read is held
 pub read_held : {R : Rules} {k : ℕ} {sizes : NetSizes} {net ts : List ℕ} {c : Candidate} {bytes rows : List ℕ} {lags : List ℤ} {luts : List ℕ} → Offered R → settling.Settling k 0 sizes net ts
-    → CoverRead R bytes sizes.inputs sizes.gates k c (held_in c.luts rows lags luts) → Spacious most_luts rows lags luts → c.fine ≡ true → HeldFor k sizes net ts c rows lags luts
-read_held o g r z e =
+    → CoverKept R bytes sizes.inputs sizes.gates k c (held_in c.luts rows lags luts) → Spacious most_luts rows lags luts → HeldFor k sizes net ts c rows lags luts
+read_held o g r z =
     let most = offered_within o in
-    let high = r.high_period e in
-    let few = r.few e in
+    let high = r.high_period in
+    let few = r.few in
     let period = most.period in
     let luts = most.luts in
     record {
       settling = g;
-      well = r.well e;
+      well = r.well;
       space = record { at_rows = omega (arith, z.at_rows); at_lags = omega (arith, z.at_lags); at_tables = omega (arith, z.at_tables) };
-      low = r.low_period e;
+      low = r.low_period;
       high = omega arith;
       few = omega arith;
     }

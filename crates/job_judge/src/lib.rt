@@ -8,24 +8,18 @@ ghost use Rattle.net_model.specs.Arrays.{net_in};
 ghost use Rattle.net_reader.specs.ReadAnswer.{arrays_of};
 ghost use Rattle.cone_descent.specs.Descent.{Clear};
 ghost use Rattle.cover_reader.specs.Reads.{held_in};
+ghost use Rattle.refusals.specs.Refusals.{code_of};
 ghost use Rattle.job_judge.specs.MarkAnswers.{answer_of};
 ghost use Rattle.job_judge.specs.JudgeMarking.{HeldFor, Judging, LinksAsked, LinksToldOf, MarksNet, MarksRead};
 
 use cover_cuts::check_luts;
 use cover_links::check_links;
 use cover_reader::{Candidate, read_cover};
-use inputs::narrow;
 use limits::{LUTS, PINS, ROWS, Rules};
 use net_reader::{NetSizes, delays_at, outs_at};
+use refusals::Refusal;
 
-// The excess, or the number of the refusal.
-#[derive(Drop)]
-pub enum Grade {
-    Excess(usize),
-    Refused(u8),
-}
-
-// Checks 16, 17 and 18: 0, or the number of the first that fails. n LUTs stand in rows, with their lags.
+// Checks 16, 17 and 18: the first that fails. n LUTs stand in rows, with their lags.
 fn judge_links(
     z: NetSizes,
     net: &[usize],
@@ -33,9 +27,9 @@ fn judge_links(
     rows: &[usize],
     lags: &[i64],
     period: usize,
-) -> usize
+) -> Result<(), Refusal>
     requires { LinksAsked z net.now n rows.now lags.now period }
-    ensures { LinksToldOf z net.now n rows.now lags.now period result }
+    ensures { LinksToldOf z net.now n rows.now lags.now period (code_of result) }
 {
     let o = outs_at(z, net);
     let y = delays_at(z, net);
@@ -69,21 +63,15 @@ fn judge_read(
     k: usize,
     least: usize,
     work: &mut [u8],
-) -> Grade
+) -> Result<usize, Refusal>
     requires judging { Judging k z net.now tables.now least × HeldFor k z net.now tables.now c rows.now lags.now luts.now }
     requires most_table_in_bounds { (most_table ≤ length work.old) × Clear work.old }
     ensures marks_read { MarksRead k (net_in (arrays_of z net.now tables.now)) c (held_in c.luts rows.now lags.now luts.now) (answer_of result) }
     ensures clear { Clear work.new }
 {
-    let l = check_luts(z.inputs, z.gates, net, tables, rows, luts, k, c.luts, work);
-    if l > 0 {
-        return Grade::Refused(narrow(l));
-    }
-    let q = judge_links(z, net, c.luts, rows, lags, c.period);
-    if q > 0 {
-        return Grade::Refused(narrow(q));
-    }
-    Grade::Excess(c.period - least)
+    check_luts(z.inputs, z.gates, net, tables, rows, luts, k, c.luts, work)?;
+    judge_links(z, net, c.luts, rows, lags, c.period)?;
+    Ok(c.period - least)
 }
 
 // Checks 13 to 18 of a record, and its excess over the least period.
@@ -96,7 +84,7 @@ pub fn judge(
     least: usize,
     rules: Rules,
     work: &mut [u8],
-) -> Grade
+) -> Result<usize, Refusal>
     requires offered { Offered rules }
     requires judging { Judging k z net.now tables.now least }
     requires most_table_in_bounds { (most_table ≤ length work.old) × Clear work.old }
@@ -108,9 +96,6 @@ pub fn judge(
     let mut luts = [0u64; LUTS];
     let c = read_cover(
         cover, z.inputs, z.gates, k, rules, &mut rows, &mut lags, &mut luts,
-    );
-    if c.fine {
-        return judge_read(z, net, tables, c, &rows, &lags, &luts, k, least, work);
-    }
-    Grade::Refused(13)
+    )?;
+    judge_read(z, net, tables, c, &rows, &lags, &luts, k, least, work)
 }

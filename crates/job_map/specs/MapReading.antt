@@ -1,5 +1,5 @@
--- The reader's verdict, and what it means to map.
-use Rattle.std.specs.Prelude.{◌≡◌, refl, Bool, true, false, ◌&&◌, List, [], ◌⊎◌, ℕ, ◌+◌, ◌-◌, ◌≤◌, ◌<◌, ltb, eqb, length, take, drop}
+-- What the reader gave, and what it means to map.
+use Rattle.std.specs.Prelude.{◌≡◌, Bool, true, false, ◌&&◌, List, [], ◌⊎◌, ℕ, ◌+◌, ◌-◌, ◌≤◌, ltb, eqb, length, take, drop, Ok}
 use Rattle.std.proofs.Common.{sym, ap, ap₂, subst₂, ◌∙◌, true≢false, inl, inr, arith, lt-ltb, length-drop, length-take-le}
 use Rattle.net_model.specs.Net.{Net, size}
 use Rattle.net_model.specs.Arrays.{net_in}
@@ -8,23 +8,21 @@ use Rattle.limits.specs.Limits.{contents_area, loader_area, most_gates, most_nod
 use Rattle.limits.specs.Courses.{Offered}
 use Rattle.limits.specs.CourseLaws.{offered_within}
 use Rattle.limits.specs.declared.Rules.{Rules}
-use Rattle.net_bytes.specs.Reading.{got}
-use Rattle.net_bytes.specs.Walk.{Drawn, drawn, drawn_reader, net_reader}
+use Rattle.net_bytes.specs.Reading.{got, refused}
+use Rattle.net_bytes.specs.Walk.{drawn, drawn_reader, net_reader}
 use Rattle.net_bytes.specs.Sound.{walk-sound, walk-fits, drawn-facts}
 use Rattle.label_theory.specs.Labels.{Mode}
 use Rattle.cover_records.specs.Outcomes.{Answer, turned_back}
 use Rattle.cover_records.specs.ForwardOutcome.{section_of, lacking}
 use Rattle.cover_records.specs.ForwardLaws.{section-read}
-use Rattle.net_fields.specs.Verdicts.{outcome}
-use Rattle.net_fields.specs.FieldLaws.{went}
-use Rattle.net_fields.specs.declared.Verdict.{Verdict}
-use Rattle.net_fields.specs.declared.Verdict.TheVariants.{Read, Refused}
-use Rattle.net_reader.specs.ReadAnswer.{arrays_of, drawn_of, result_of}
+use Rattle.refusals.specs.declared.Refusal.{Refusal}
+use Rattle.refusals.specs.Refusals.{number_of}
+use Rattle.refusals.specs.RefusalLaws.{number_small}
+use Rattle.net_reader.specs.ReadAnswer.{arrays_of, drawn_of}
 use Rattle.net_reader.specs.NetLaws.{net-alone}
-use Rattle.net_reader.specs.WalkFacts.{WalkFacts, read-gives, read-facts}
+use Rattle.net_reader.specs.WalkFacts.{WalkFacts, read-facts}
 use Rattle.net_reader.specs.ReadWires.{room-read}
 use Rattle.net_reader.specs.declared.DrawnRead.{DrawnRead}
-use Rattle.net_reader.specs.declared.NetRead.{NetRead}
 use Rattle.label_aim.specs.Aims.{mode_of}
 use Rattle.job_sizes.specs.Sizes.{Fit, LentFits}
 use Rattle.job_sizes.specs.SizeLaws.{fit-within}
@@ -38,26 +36,22 @@ pub lacks_is : (contents l : List ℕ) (at : ℕ) {b : Bool} → b ≡ (ltb 0 (l
 lacks_is contents l at e =
     e ∙ ap (λ (n : ℕ). ltb 0 (length contents) && eqb n 0) (sym (length-take-le (length l - at) (drop at l) (omega (arith, length-drop at l))))
 
-module _ (R : Rules) (k target : ℕ) (bytes : List ℕ) (r : DrawnRead) (net ts : List ℕ) (e : drawn_reader R k bytes ≡ drawn_of r net ts bytes) where
+-- **refusals 4 to 8**
+pub walk_refused : (R : Rules) (k target : ℕ) (bytes : List ℕ) (r : Refusal) → drawn_reader R k bytes ≡ refused (number_of r)
+    → (M : Mode) (pairs area loader contents : List ℕ) → MapsTo M R k target bytes pairs area area loader loader contents contents (turned_back (number_of r))
+walk_refused R k target bytes r e M pairs area loader contents =
+    maps-refused M R k target bytes pairs area loader contents (number_of r) (let h = number_small r in omega arith) (net-alone R k bytes (refused (number_of r)) e)
+
+module _ (R : Rules) (k target : ℕ) (bytes : List ℕ) (r : DrawnRead) (net ts : List ℕ) (e : drawn_reader R k bytes ≡ drawn_of (Ok r) net ts bytes) where
   abbrev N : Net
   N = net_in (arrays_of r.sizes net ts)
 
-  abbrev read : NetRead
-  read = record { verdict = r.verdict; sizes = r.sizes }
+  gives : net_reader R k bytes ≡ got N []
+  gives = net-alone R k bytes (got (drawn N (drop r.at bytes)) []) e
 
-  nets : net_reader R k bytes ≡ result_of read net ts
-  nets = net-alone R k bytes r.verdict (drawn N (drop r.at bytes)) e
-
-  -- **refusals 4 to 8**
-  pub walk_refused : (M : Mode) (pairs area loader contents : List ℕ) {n : ℕ} → n < 256 → r.verdict ≡ Refused n → MapsTo M R k target bytes pairs area area loader loader contents contents (turned_back n)
-  walk_refused M pairs area loader contents {n} h v = maps-refused M R k target bytes pairs area loader contents n h (nets ∙ ap (λ (x : Verdict). outcome x N []) v)
-
-  module _ (offered : Offered R) (v : r.verdict ≡ Read) (section : List ℕ) (rest : section ≡ drop r.at bytes) where
-    gives : net_reader R k bytes ≡ got N []
-    gives = read-gives R k bytes read net ts nets v
-
+  module _ (offered : Offered R) (section : List ℕ) (rest : section ≡ drop r.at bytes) where
     drawn-got : drawn_reader R k bytes ≡ got (drawn N section) []
-    drawn-got = went (drawn N (drop r.at bytes)) [] e v ∙ ap (λ (l : List ℕ). got (drawn N l) []) (sym rest)
+    drawn-got = e ∙ ap (λ (l : List ℕ). got (drawn N l) []) (sym rest)
 
     section-is : section_of R k bytes ≡ section
     section-is = section-read R k bytes (drawn N section) [] drawn-got
@@ -86,7 +80,7 @@ module _ (R : Rules) (k target : ℕ) (bytes : List ℕ) (r : DrawnRead) (net ts
         → LentFits contents_area (length contents) → (¬ (length contents ≡ 0) → c.forward ≡ true) → c.lacks ≡ lacking contents section → Mapping c r.sizes net ts section area work loader contents
     walk_mapping a b {contents = contents} ln lt fit load fill ahead l =
         let f = fit-within (offered_within offered) fit in
-        let facts = read-facts R k bytes read net ts nets v offered in
+        let facts = read-facts R k bytes r.sizes net ts gives offered in
         record {
           settling = subst₂ (λ (x y : ℕ). Settling x y r.sizes net ts) (sym a) (sym b) (record {
             facts = facts;

@@ -1,5 +1,5 @@
 -- Map as a whole: refusals 1 to 3, then 20, and all other outcomes; without a contents area it is map with a loader area, and without that document 01's map.
-use Rattle.std.specs.Prelude.{◌≡◌, refl, Bool, true, false, cond, length, drop}
+use Rattle.std.specs.Prelude.{◌≡◌, refl, Bool, true, cond, length, drop}
 use Rattle.std.proofs.Math.Path.{sym, ap, ap₂}
 use Rattle.std.proofs.Common.{◌∙◌, drop_at}
 use mathlib.Core.List.{List, ◌++◌}

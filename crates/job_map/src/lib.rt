@@ -16,23 +16,20 @@ ghost use Rattle.job_record.specs.MapAnswers.{answer_of, InRange};
 ghost use Rattle.job_record.specs.Mapping.{MapsTo};
 ghost use Rattle.job_map.specs.Areas.{areas_outcome};
 
-use inputs::{place_behind, word};
-use job_record::{Answer, map_read};
+use inputs::place_behind;
+use job_record::map_read;
 use job_scratch::clear_first;
 use job_settle::Call;
 use job_sizes::{check_lent, check_sizes};
 use limits::{CONTENTS, GATES, LOADER, PACKED, Rules, long_course, short_course};
-use net_fields::Verdict;
 use net_reader::read_drawn;
+use refusals::Refusal;
 
 // Whether a contents area of this length is lent and the net has no section.
 fn lacks_section(contents: usize, section: usize) -> bool
     ensures { result ≡ (ltb 0 contents && eqb section 0) }
 {
-    if contents == 0 {
-        return false;
-    }
-    section == 0
+    contents > 0 && section == 0
 }
 
 // Checks 4 to 11, 21, 12 or 22, the cover, the image and the contents, with arrays for a net within the limits.
@@ -47,28 +44,24 @@ fn map_bytes(
     contents: &mut [u8],
     forward: bool,
     rules: Rules,
-) -> Answer
+) -> Result<usize, Refusal>
     requires offered { Offered rules }
     requires fit { Fit rules k target (length area.old) (length work.old) × LentFits loader_area (length loader.old) × LentFits contents_area (length contents.old) × (¬ (length contents.old ≡ 0) → forward ≡ true) }
     ensures { MapsTo (mode_of forward) rules k target bytes.now pairs.now area.old area.new loader.old loader.new contents.old contents.new (answer_of result) }
 {
     let mut net = [0usize; PACKED];
     let mut tables = [0u64; GATES];
-    let d = read_drawn(bytes, k, rules, &mut net, &mut tables);
-    let v = d.verdict;
-    if let Verdict::Refused(n) = v {
-        return Answer::Refused(n);
-    }
-    let at = place_behind(bytes, 0, d.at);
+    let drawn = read_drawn(bytes, k, rules, &mut net, &mut tables)?;
+    let at = place_behind(bytes, 0, drawn.at);
     let lacks = lacks_section(contents.len(), bytes.len() - at);
     let call = Call {
-        k: word(k),
-        target: word(target),
-        forward: forward,
-        lacks: lacks,
+        k: k as usize,
+        target: target as usize,
+        forward,
+        lacks,
     };
     map_read(
-        d.sizes,
+        drawn.sizes,
         &mut net,
         &tables,
         &bytes[at..],
@@ -93,24 +86,17 @@ pub fn map_under(
     contents: &mut [u8],
     forward: bool,
     rules: Rules,
-) -> Answer
+) -> Result<usize, Refusal>
     requires { Offered rules × (¬ (length contents.old ≡ 0) → forward ≡ true) }
     ensures outcome { areas_outcome (mode_of forward) rules net.now k target pairs.now area.old scratch.old loader.old contents.old ≡ record { answer = answer_of result; area = area.new; scratch = scratch.new; loader = loader.new; contents = contents.new } }
     ensures small { InRange (answer_of result) }
 {
-    let r = check_sizes(k, target, area.len(), scratch.len(), rules);
-    let few = check_lent(contents.len(), CONTENTS, 3);
-    let short = check_lent(loader.len(), LOADER, 20);
-    if r > 0 {
-        return Answer::Refused(r);
-    }
-    if few > 0 {
-        return Answer::Refused(few);
-    }
+    check_sizes(k, target, area.len(), scratch.len(), rules)?;
+    check_lent(contents.len(), CONTENTS, Refusal::Areas)?;
     let end = rules.scratch;
-    if short > 0 {
+    if let Err(refusal) = check_lent(loader.len(), LOADER, Refusal::LoaderArea) {
         clear_first(scratch, end);
-        return Answer::Refused(short);
+        return Err(refusal);
     }
     let answer = map_bytes(
         net,
@@ -129,7 +115,13 @@ pub fn map_under(
 }
 
 // Map, for every input.
-pub fn map(net: &[u8], k: u32, target: u32, area: &mut [u8], scratch: &mut [u8]) -> Answer
+pub fn map(
+    net: &[u8],
+    k: u32,
+    target: u32,
+    area: &mut [u8],
+    scratch: &mut [u8],
+) -> Result<usize, Refusal>
     ensures outcome { map_outcome long net.now k target area.old scratch.old ≡ record { answer = answer_of result; area = area.new; scratch = scratch.new } }
     ensures small { InRange (answer_of result) }
 {
@@ -158,7 +150,7 @@ pub fn map_loader(
     area: &mut [u8],
     scratch: &mut [u8],
     loader: &mut [u8],
-) -> Answer
+) -> Result<usize, Refusal>
     ensures outcome { loader_outcome long net.now k target area.old scratch.old loader.old ≡ record { answer = answer_of result; area = area.new; scratch = scratch.new; loader = loader.new } }
     ensures small { InRange (answer_of result) }
 {
@@ -187,7 +179,7 @@ pub fn map_forward(
     scratch: &mut [u8],
     loader: &mut [u8],
     contents: &mut [u8],
-) -> Answer
+) -> Result<usize, Refusal>
     ensures outcome { forward_outcome long net.now k target area.old scratch.old loader.old contents.old ≡ record { answer = answer_of result; area = area.new; scratch = scratch.new; loader = loader.new; contents = contents.new } }
     ensures small { InRange (answer_of result) }
 {
@@ -216,16 +208,13 @@ pub fn change_over(
     scratch: &mut [u8],
     loader: &mut [u8],
     contents: &mut [u8],
-) -> Answer
+) -> Result<usize, Refusal>
     ensures outcome { change_outcome long net.now k target pairs.now area.old scratch.old loader.old contents.old ≡ record { answer = answer_of result; area = area.new; scratch = scratch.new; loader = loader.new; contents = contents.new } }
     ensures small { InRange (answer_of result) }
 {
     if contents.len() == 0 {
-        let told = check_sizes(k, target, area.len(), scratch.len(), long_course());
-        if told > 0 {
-            return Answer::Refused(told);
-        }
-        return Answer::Refused(3);
+        check_sizes(k, target, area.len(), scratch.len(), long_course())?;
+        return Err(Refusal::Areas);
     }
     map_under(
         net,
@@ -242,7 +231,13 @@ pub fn change_over(
 }
 
 // Map of the short course, for every input.
-pub fn short_map(net: &[u8], k: u32, target: u32, area: &mut [u8], scratch: &mut [u8]) -> Answer
+pub fn short_map(
+    net: &[u8],
+    k: u32,
+    target: u32,
+    area: &mut [u8],
+    scratch: &mut [u8],
+) -> Result<usize, Refusal>
     ensures outcome { map_outcome short net.now k target area.old scratch.old ≡ record { answer = answer_of result; area = area.new; scratch = scratch.new } }
     ensures small { InRange (answer_of result) }
 {

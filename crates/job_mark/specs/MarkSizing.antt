@@ -6,7 +6,7 @@ use mathlib.Core.List.{List, ◌++◌}
 use native.Mathlib.Omega.{arith}
 use Rattle.std.proofs.Math.ListN.{drop, replicate}
 use Rattle.limits.specs.declared.Rules.{Rules}
-use Rattle.cover_records.specs.Outcomes.{Answer, turned_back, MarkOutcome, mark_sized, mark_outcome, cleared}
+use Rattle.cover_records.specs.Outcomes.{Answer, turned_back, mark_sized, mark_outcome, cleared}
 use Rattle.job_sizes.specs.Sizes.{sizes_of}
 use Rattle.job_sizes.specs.SizeLaws.{mark-sizes_are}
 use Rattle.job_judge.specs.JudgeMarking.{MarksTo}

@@ -10,14 +10,13 @@ ghost use Rattle.job_sizes.specs.Sizes.{Fit};
 ghost use Rattle.job_judge.specs.MarkAnswers.{answer_of, InRange};
 ghost use Rattle.job_judge.specs.JudgeMarking.{Marking, MarksTo, MarksNet};
 
-use inputs::{narrow, word};
-use job_judge::{Grade, judge};
+use job_judge::judge;
 use job_least::least_of;
 use job_scratch::clear_first;
 use job_sizes::check_sizes;
 use limits::{GATES, PACKED, Rules, TABLE, long_course, short_course};
-use net_fields::Verdict;
 use net_reader::{NetSizes, read_net};
+use refusals::Refusal;
 
 // Checks 9 to 18 of a net read.
 fn mark_read(
@@ -28,47 +27,48 @@ fn mark_read(
     cover: &[u8],
     work: &mut [u8],
     rules: Rules,
-) -> Grade
+) -> Result<usize, Refusal>
     requires offered { Offered rules }
     requires marking { Marking k z net.old tables.now work.old }
     ensures { MarksNet rules k (net_in (arrays_of z net.old tables.now)) cover.now (answer_of result) }
 {
-    let s = least_of(z, net, tables, k, work);
-    let refusal = s.refusal;
-    if refusal > 0 {
-        return Grade::Refused(narrow(refusal));
-    }
+    let least = least_of(z, net, tables, k, work)?;
     let end = TABLE;
     clear_first(work, end);
-    judge(z, net, tables, k, cover, s.period, rules, &mut work[..end])
+    judge(z, net, tables, k, cover, least, rules, &mut work[..end])
 }
 
 // Checks 4 to 18, with arrays for a net within the limits.
-fn mark_bytes(bytes: &[u8], k: u32, cover: &[u8], work: &mut [u8], rules: Rules) -> Grade
+fn mark_bytes(
+    bytes: &[u8],
+    k: u32,
+    cover: &[u8],
+    work: &mut [u8],
+    rules: Rules,
+) -> Result<usize, Refusal>
     requires offered { Offered rules }
     requires fit { Fit rules k 0 rules.area (length work.old) }
     ensures { MarksTo rules k bytes.now cover.now (answer_of result) }
 {
     let mut net = [0usize; PACKED];
     let mut tables = [0u64; GATES];
-    let read = read_net(bytes, k, rules, &mut net, &mut tables);
-    let v = read.verdict;
-    if let Verdict::Refused(n) = v {
-        return Grade::Refused(n);
-    }
-    mark_read(read.sizes, &mut net, &tables, word(k), cover, work, rules)
+    let sizes = read_net(bytes, k, rules, &mut net, &mut tables)?;
+    mark_read(sizes, &mut net, &tables, k as usize, cover, work, rules)
 }
 
 // Mark under rules, for every input.
-pub fn mark_under(net: &[u8], k: u32, cover: &[u8], scratch: &mut [u8], rules: Rules) -> Grade
+pub fn mark_under(
+    net: &[u8],
+    k: u32,
+    cover: &[u8],
+    scratch: &mut [u8],
+    rules: Rules,
+) -> Result<usize, Refusal>
     requires { Offered rules }
     ensures outcome { mark_outcome rules net.now k cover.now scratch.old ≡ record { answer = answer_of result; scratch = scratch.new } }
     ensures small { InRange (answer_of result) }
 {
-    let r = check_sizes(k, 0, rules.area, scratch.len(), rules);
-    if r > 0 {
-        return Grade::Refused(r);
-    }
+    check_sizes(k, 0, rules.area, scratch.len(), rules)?;
     let end = rules.scratch;
     let answer = mark_bytes(net, k, cover, &mut scratch[..end], rules);
     clear_first(scratch, end);
@@ -76,7 +76,7 @@ pub fn mark_under(net: &[u8], k: u32, cover: &[u8], scratch: &mut [u8], rules: R
 }
 
 // Mark, for every input.
-pub fn mark(net: &[u8], k: u32, cover: &[u8], scratch: &mut [u8]) -> Grade
+pub fn mark(net: &[u8], k: u32, cover: &[u8], scratch: &mut [u8]) -> Result<usize, Refusal>
     ensures outcome { mark_outcome long net.now k cover.now scratch.old ≡ record { answer = answer_of result; scratch = scratch.new } }
     ensures small { InRange (answer_of result) }
 {
@@ -84,7 +84,7 @@ pub fn mark(net: &[u8], k: u32, cover: &[u8], scratch: &mut [u8]) -> Grade
 }
 
 // Mark of the short course, for every input.
-pub fn short_mark(net: &[u8], k: u32, cover: &[u8], scratch: &mut [u8]) -> Grade
+pub fn short_mark(net: &[u8], k: u32, cover: &[u8], scratch: &mut [u8]) -> Result<usize, Refusal>
     ensures outcome { mark_outcome short net.now k cover.now scratch.old ≡ record { answer = answer_of result; scratch = scratch.new } }
     ensures small { InRange (answer_of result) }
 {

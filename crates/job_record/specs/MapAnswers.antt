@@ -1,14 +1,14 @@
 -- Definitions: document 01's answer for each case of map's.
-use Rattle.std.specs.Prelude.{ℕ, ◌≤◌, ◌<◌}
+use Rattle.std.specs.Prelude.{ℕ, ◌≤◌, ◌<◌, Result, Ok, Err}
 use Rattle.limits.specs.Limits.{cover_area}
 use Rattle.cover_records.specs.Outcomes.{Answer, accepted, turned_back}
-use Rattle.job_record.specs.declared.Answer.TheVariants.{Length, Refused}
-use Rattle.job_record.specs.declared.Answer as declared
+use Rattle.refusals.specs.declared.Refusal.{Refusal}
+use Rattle.refusals.specs.Refusals.{number_of}
 
 -- "Map returns the record's length"; "A refusal returns its number and no count."
-abbrev pub answer_of : declared.Answer → Answer
-answer_of (Length n) = accepted n
-answer_of (Refused n) = turned_back n
+abbrev pub answer_of : Result ℕ Refusal → Answer
+answer_of (Ok n) = accepted n
+answer_of (Err e) = turned_back (number_of e)
 
 -- a length is at most 962, a refusal's number is a byte
 abbrev pub InRange : Answer → Type 0

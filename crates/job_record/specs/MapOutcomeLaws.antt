@@ -1,7 +1,7 @@
 -- From what was settled to the outcome that the definition has.
 use Rattle.std.proofs.Math.Path.{◌≡◌, refl, sym, ap, ap₂}
 use Rattle.std.proofs.Common.{subst, ◌∙◌, arith}
-use Rattle.std.specs.Prelude.{Bool, cond, ℕ, ◌≤◌, ◌<◌, length}
+use Rattle.std.specs.Prelude.{Bool, ℕ, ◌≤◌, ◌<◌, length}
 use Rattle.std.proofs.Math.Bool.{true, false}
 use mathlib.Core.List.{List, []}
 use Rattle.net_model.specs.Net.{Net}
@@ -13,20 +13,19 @@ use Rattle.net_bytes.specs.Reading.{refused}
 use Rattle.net_bytes.specs.Walk.{net_reader}
 use Rattle.run_theory.specs.BenchBytes.{kept_after}
 use Rattle.label_theory.specs.Labels.{Mode, ReachableIn}
-use Rattle.cover_theory.specs.Key.{Entry, entries, as_cover}
+use Rattle.cover_theory.specs.Key.{Entry, entries}
 use Rattle.cover_period.specs.KeyUnique.{entries_unique}
-use Rattle.board_theory.specs.Contents.{contents_of}
 use Rattle.cover_records.specs.CoverBytes.{cover_bytes}
 use Rattle.cover_records.specs.Kept.{Kept, entries_in}
-use Rattle.cover_records.specs.Outcomes.{Answer, accepted, turned_back, MapOutcome, Checked, passes, fails, check_net, MappedIn, unmet, mapped_in, map_written, map_checked_in, cleared, written}
-use Rattle.cover_records.specs.LoaderImage.{is_lent, loaded}
+use Rattle.cover_records.specs.Outcomes.{accepted, turned_back, MapOutcome, Checked, passes, fails, check_net, MappedIn, unmet, mapped_in, map_written, map_checked_in, cleared, written}
+use Rattle.cover_records.specs.LoaderImage.{loaded}
 use Rattle.cover_records.specs.LoaderOutcome.{loader_written, loader_checked_in}
 use Rattle.cover_records.specs.ForwardOutcome.{section_of, lacking, sectioned, contents_written, contents_checked}
 use Rattle.cover_records.specs.CheckLaws.{check-refused, check-loop, check-unreached, check-unled, check-passes}
 use Rattle.label_aim.specs.Aims.{mode_of}
 use Rattle.job_plan.specs.Planned.{Covered}
 use Rattle.job_plan.specs.Mapped.{mapped-none, mapped-some}
-use Rattle.job_settle.specs.Settling.{SettledAs, CoverSettled}
+use Rattle.job_settle.specs.Settling.{Ended, CoverSettled}
 use Rattle.job_settle.specs.SettlingLaws.{unmet-small}
 use Rattle.job_settle.specs.Settling as settling
 use Rattle.job_settle.specs.declared.Call.{Call}
@@ -135,7 +134,7 @@ refused_as {M} {R} {k} {target} {net = net} {pairs = pairs} {area = area} {loade
 
 module _ {c : Call} {N : Net} (section pairs area loader contents : List ℕ) where
   -- **a refusal**
-  net-refused : {a : Kept} {r : ℕ} → SettledAs (mode_of c.forward) c.lacks c.k c.target N a r → 0 < r → MapsNet c N section pairs area area loader loader contents contents (turned_back r)
+  net-refused : {W : Type 0} {r : ℕ} → Ended (mode_of c.forward) c.lacks c.k c.target N W r → 0 < r → MapsNet c N section pairs area area loader loader contents contents (turned_back r)
   net-refused (settling.loops e n) h = record {
     maps = λ R o net q s l. refused_as e (maps-early (mode_of c.forward) R c.k c.target net pairs area loader contents 9 (omega arith) (check-loop R c.k net N [] q n));
   }
@@ -161,7 +160,7 @@ module _ {c : Call} {N : Net} (section pairs area loader contents : List ℕ) wh
       none e h = omega arith
 
   -- its number as a byte
-  pub net-refused_as : {a : Kept} {r n : ℕ} → SettledAs (mode_of c.forward) c.lacks c.k c.target N a r → 0 < r → n ≡ r → MapsNet c N section pairs area area loader loader contents contents (turned_back n)
+  pub net-refused_as : {W : Type 0} {r n : ℕ} → Ended (mode_of c.forward) c.lacks c.k c.target N W r → 0 < r → n ≡ r → MapsNet c N section pairs area area loader loader contents contents (turned_back n)
   net-refused_as t h e = subst (λ (x : ℕ). MapsNet c N section pairs area area loader loader contents contents (turned_back x)) (sym e) (net-refused t h)
 
   -- **a cover**

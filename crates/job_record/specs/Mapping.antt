@@ -10,7 +10,7 @@ use Rattle.run_theory.specs.BenchBytes.{kept_after}
 use Rattle.label_theory.specs.Labels.{Mode}
 use Rattle.cover_theory.specs.Key.{Entry, as_cover}
 use Rattle.board_theory.specs.Contents.{contents_of}
-use Rattle.cover_records.specs.Outcomes.{Answer, MapOutcome, Checked, check_net, map_checked_in, cleared, written}
+use Rattle.cover_records.specs.Outcomes.{Answer, Checked, check_net, map_checked_in, cleared, written}
 use Rattle.cover_records.specs.LoaderImage.{is_lent}
 use Rattle.cover_records.specs.LoaderOutcome.{loader_checked_in}
 use Rattle.cover_records.specs.ForwardOutcome.{section_of, lacking, sectioned, contents_checked}

@@ -1,17 +1,16 @@
 -- A cover settled can be written, in each mode: its arrays are long enough, its numbers fit their bytes, its record fits the area.
-use Rattle.std.specs.Prelude.{◌≡◌, refl, List, [], ◌∷◌, Bool, true, cond, ℕ, zero, suc, ◌+◌, ◌*◌, ◌≤◌, ◌<◌, eqb, ℤ, pos, length, drop}
+use Rattle.std.specs.Prelude.{◌≡◌, refl, List, ◌∷◌, Bool, true, cond, ℕ, zero, suc, ◌+◌, ◌*◌, ◌≤◌, ◌<◌, eqb, ℤ, length, drop}
 use Rattle.std.proofs.Common.{sym, ap, ◌∙◌, eqb-true, length-drop}
 use Rattle.std.proofs.Math.Path.{subst}
 use Rattle.std.proofs.Math.Bool.{false}
 use Rattle.std.proofs.Math.Decide.{ℕ_discrete}
 use native.Mathlib.Omega.{arith}
-use Rattle.std.proofs.lemmas.Bool.{eqb-false}
 use Rattle.std.proofs.Math.ListN.{get_or}
 use Rattle.integers.specs.Lag.{lag}
 use Rattle.sequences.specs.Member.{◌∈◌, here, there, not_in_nil}
 use Rattle.net_model.specs.Net.{Net, Pin, IsGate, pins, size}
 use Rattle.net_model.specs.Arrays.{stride, net_in, copy_at}
-use Rattle.net_model.specs.ArrayLaws.{in_copies_from, pin_at}
+use Rattle.net_model.specs.ArrayLaws.{in_copies_from}
 use Rattle.net_model.specs.Wired.{Wired}
 use Rattle.net_model.specs.WiredLaws.{net_in-wired, wired-gate, gate-wired, pin-wired}
 use Rattle.net_model.specs.Checks.{Passed}
@@ -19,7 +18,7 @@ use Rattle.net_model.specs.PackedNet.{sources_at, counts_at}
 use Rattle.limits.specs.Limits.{most_nodes, most_gates, most_pins, most_rows, most_period, cover_area}
 use Rattle.limits.specs.Courses.{long, is-long}
 use Rattle.label_theory.specs.Labels.{Mode}
-use Rattle.cover_theory.specs.Key.{Entry, entries}
+use Rattle.cover_theory.specs.Key.{Entry}
 use Rattle.cover_period.specs.Period.{least_period_in-bound}
 use Rattle.cover_records.specs.CoverBytes.{cover_bytes}
 use Rattle.cover_records.specs.Kept.{Kept, entry_at, entries_from, entries_in}
@@ -29,7 +28,7 @@ use Rattle.cover_records.specs.RoundTrip as trip
 use Rattle.cover_records.specs.KeyRecord.{WithinLimits, roomy, key-lag, key-writable, key-length}
 use Rattle.net_reader.specs.ReadAnswer.{arrays_of}
 use Rattle.net_reader.specs.declared.NetSizes.{NetSizes}
-use Rattle.cover_writer.specs.Writing.{ArraysHeld, Below, LutHeld, LutsHeld, Writable}
+use Rattle.cover_writer.specs.Writing.{ArraysHeld, LutHeld, Writable}
 use Rattle.label_period.specs.PeriodSearchLaws.{first_unique}
 use Rattle.job_plan.specs.Planned.{Covered}
 use Rattle.job_settle.specs.Settling.{Settling}

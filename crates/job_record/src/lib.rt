@@ -15,17 +15,11 @@ ghost use Rattle.job_record.specs.Filling.{Filling};
 use cover_contents::write_contents;
 use cover_image::write_image;
 use cover_writer::{CoverHead, write_cover};
-use inputs::{copy_in, narrow};
+use inputs::copy_in;
 use job_settle::{Call, settle};
 use limits::{GATES, NODES, ROWS};
 use net_reader::NetSizes;
-
-// The record's length, or the number of the refusal.
-#[derive(Drop)]
-pub enum Answer {
-    Length(usize),
-    Refused(u8),
-}
+use refusals::Refusal;
 
 // The contents of the cover kept, where a contents area is lent. The run starts from a copy of the section, and takes known, a number a gate, and work.
 fn fill_contents(
@@ -64,7 +58,7 @@ fn fill_contents(
     );
 }
 
-// Checks 9 to 11, 21, 12 or 22 and the cover of a net read, with the engine's table in work.
+// Checks 9 to 11, 21, 12 or 22 and the cover of a net read: the record's length, with the engine's table in work.
 pub fn map_read(
     z: NetSizes,
     net: &mut [usize],
@@ -76,7 +70,7 @@ pub fn map_read(
     work: &mut [u8],
     loader: &mut [u8],
     contents: &mut [u8],
-) -> Answer
+) -> Result<usize, Refusal>
     requires { Mapping call z net.old tables.now section.now area.old work.old loader.old contents.old }
     ensures { MapsNet call (net_in (arrays_of z net.old tables.now)) section.now pairs.now area.old area.new loader.old loader.new contents.old contents.new (answer_of result) }
 {
@@ -85,7 +79,7 @@ pub fn map_read(
     let mut labels = [0i64; NODES];
     let mut rows = [0usize; ROWS];
     let mut luts = [0u64; GATES];
-    let s = settle(
+    let period = settle(
         z,
         net,
         tables,
@@ -96,20 +90,16 @@ pub fn map_read(
         &mut labels,
         &mut rows,
         &mut luts,
-    );
-    let refusal = s.refusal;
-    if refusal > 0 {
-        return Answer::Refused(narrow(refusal));
-    }
+    )?;
     let head = CoverHead {
         inputs: z.inputs,
         gates: z.gates,
-        period: s.period,
+        period,
     };
     let n = write_cover(head, &labels, &rows, &luts, area);
     write_image(&rows, &luts, z.gates, loader);
     fill_contents(
         z, net, tables, section, pairs, &mut noted, head, &labels, &rows, work, contents,
     );
-    Answer::Length(n)
+    Ok(n)
 }

@@ -4,7 +4,6 @@ use Rattle.limits.specs.Courses.{Offered, is-long}
 use Rattle.limits.specs.declared.Rules.{Rules}
 use Rattle.cover_records.specs.Outcomes.{map_outcome}
 use Rattle.job_map.specs.MapSizing.{map-alone}
-use Rattle.std.proofs.Common.{rules}
 use Rattle.job_map.proofs.map.Goals as goal
 
 pub map_under-requires : goal.map_under-requires

@@ -3,7 +3,6 @@ use Rattle.limits.specs.Courses.{Offered, is-long}
 use Rattle.limits.specs.declared.Rules.{Rules}
 use Rattle.run_theory.specs.Bench.{ago}
 use Rattle.cover_records.specs.ForwardOutcome.{forward_outcome}
-use Rattle.std.proofs.Common.{rules}
 use Rattle.job_map.proofs.map_forward.Goals as goal
 
 pub map_under-requires : goal.map_under-requires

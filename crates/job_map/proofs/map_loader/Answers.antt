@@ -4,7 +4,6 @@ use Rattle.limits.specs.Courses.{Offered, is-long}
 use Rattle.limits.specs.declared.Rules.{Rules}
 use Rattle.cover_records.specs.LoaderOutcome.{loader_outcome}
 use Rattle.job_map.specs.MapSizing.{map-loaded}
-use Rattle.std.proofs.Common.{rules}
 use Rattle.job_map.proofs.map_loader.Goals as goal
 
 pub map_under-requires : goal.map_under-requires

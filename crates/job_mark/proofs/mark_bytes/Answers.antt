@@ -1,23 +1,22 @@
-use Prim.Native.Nat.{ℕ, ◌<◌}
-use lib.ListN.{length-replicate}
-use Rattle.limits.specs.Limits.{most_gates, most_packed}
-use Rattle.net_reader.specs.ReadWires.{room_offered}
 use Rattle.job_mark.specs.MarkReading.{walk_refused, walk-marking, walk-marks}
-use Rattle.std.proofs.Common.{rules}
+use mathlib.Core.Path.{refl}
+use Rattle.std.proofs.lemmas.Result.{err_from_is_err_and}
 use Rattle.job_mark.proofs.mark_bytes.Goals as goal
 
-pub returns-in-Refused : goal.returns-in-Refused
-returns-in-Refused c =
-    let small : c.in-Refused.n < 256 = search rules in
+pub returns-in_err-sizes : goal.returns-in_err-sizes
+returns-in_err-sizes c =
     let a = c.args in
-    let read = c.read_net-read in
-    walk_refused a.rules a.k a.bytes.now read.result _ _ read.ensures a.cover.now small c.in-Refused.is
+    let p = err_from_is_err_and c.from_residual.result c.from_residual.ensures.1 in
+    rw (p.1, p.2) (walk_refused a.rules a.k a.bytes.now c.in_err-sizes.field-0.0 c.in_err-sizes.ensures a.cover.now)
 
 pub mark_read-requires : goal.mark_read-requires
-mark_read-requires c = let read = c.read_net-read in
-    let start = c in
+mark_read-requires c =
+    let read = c.read_net in
     record {
       offered = c.requires.offered;
-      marking = walk-marking c.args.rules c.args.k c.args.bytes.now read.result _ _ read.ensures c.requires.offered
-          c.in_default.is c.word.ensures read.auto.net read.auto.tables c.requires.fit;
+      marking = walk-marking c.args.rules c.args.k c.args.bytes.now c.in_ok-sizes.sizes _ _ c.in_ok-sizes.ensures c.requires.offered
+          refl read.auto.net read.auto.tables c.requires.fit;
     }
+
+pub returns : goal.returns
+returns c = walk-marks c.args.rules c.args.k c.args.bytes.now c.in_ok-sizes.sizes _ _ c.in_ok-sizes.ensures c.requires.offered refl c.mark_read.ensures

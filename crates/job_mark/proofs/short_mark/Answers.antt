@@ -1,8 +1,5 @@
-use mathlib.Core.Path.{sym, ap, subst, ◌∙◌}
+use mathlib.Core.Path.{sym, subst}
 use Rattle.limits.specs.Courses.{Offered, is-short}
-use Rattle.limits.specs.declared.Rules.{Rules}
-use Rattle.cover_records.specs.Outcomes.{mark_outcome}
-use Rattle.std.proofs.Common.{rules}
 use Rattle.job_mark.proofs.short_mark.Goals as goal
 
 pub mark_under-requires : goal.mark_under-requires
