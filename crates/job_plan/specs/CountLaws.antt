@@ -28,6 +28,9 @@ most-next {co} {at} {n} {r} {t} m e = record { above = λ j k. go j k (ℕ_discr
     go j k (yes q) = omega (arith, e, ap (λ (x : ℕ). get_or co (at + x) 0) q)
     go j k (no d) = let a = m.above j (omega arith) in omega (arith, e)
 
+pub most-all : (co : List ℕ) (at j n r : ℕ) → j ≤ n → n ≤ j → MostCount co at j r → MostCount co at n r
+most-all co at j n r h k m = record { above = λ i l. m.above i (omega arith); least = λ c f. m.least c (λ i l. f i (omega arith)) }
+
 -- ---- the sum
 
 module _ {G : ℕ} {ps co : List ℕ} where
@@ -65,6 +68,12 @@ module _ {G : ℕ} {ps co : List ℕ} where
     where
       above : 0 < g → g ≡ suc (g - 1)
       above z = omega arith
+
+  pub sum-all : {g r : ℕ} → g ≤ 0 → SumCounts G ps co g r → SumCounts G ps co 0 r
+  sum-all {g} {r} h s = subst (λ (x : ℕ). SumCounts G ps co x r) (none h) s
+    where
+      none : g ≤ 0 → g ≡ 0
+      none h = omega arith
 
   -- **r is M**, or more
   pub sum-reach : {r : ℕ} → SumCounts G ps co 0 r → (N : Net) {I : ℕ} {so : List ℕ} → Wired N I G ps so co → reach_of N ≤ r

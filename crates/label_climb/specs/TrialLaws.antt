@@ -81,6 +81,19 @@ pub hoisted_ready : {s : Extent} {old ls ls' : List ℤ} {from to d φ k : ℕ} 
 hoisted_ready a y = record { size = a.size ∙ y.size; small = hoisted_small a y.small; shift = y.shift; least = y.least; limit = y.limit; fits = y.fits }
 
 -- ---- labels kept and given back
+pub copied_none : (from to : List ℤ) → Copied from to to 0
+copied_none from to = record { size = refl; at = λ u h. absurd (omega (arith, h)) }
+
+pub copied_next : {from to to' : List ℤ} {i : ℕ} {z : ℤ} → z ≡ label_in from i → i < length to → Copied from to to' i → Copied from to (set to' i z) (i + 1)
+copied_next {from} {to} {to'} {i} {z} e h a = record { size = length-set to' i z ∙ a.size; at = λ u l. go u l (ℕ_discrete u i) }
+  where
+    go : (u : ℕ) → u < i + 1 → Dec (u ≡ i) → label_in (set to' i z) u ≡ label_in from u
+    go u l (yes q) = rw q (get_or-set_same to' i z (pos 0) (let t = a.size in omega arith) ∙ e)
+    go u l (no q) = get_or-set_other to' i u z (pos 0) q ∙ a.at u (omega arith)
+
+pub copied_at : {from to to' : List ℤ} {i j : ℕ} → i ≡ j → Copied from to to' i → Copied from to to' j
+copied_at {from} {to} {to'} e a = subst (Copied from to to') e a
+
 -- **labels copied there and back are as before**
 pub restored : {ls sv sv' ls' ls'' : List ℤ} {n : ℕ} → length ls ≡ n → length ls' ≡ length ls → Copied ls sv sv' n → Copied sv' ls' ls'' n → ls'' ≡ ls
 restored {ls} {sv} {sv'} {ls'} {ls''} {n} l e a b = ext_get_or (pos 0) ls'' ls (b.size ∙ e) (λ i h. let q = b.size in b.at i (omega arith) ∙ a.at i (omega arith))
@@ -91,6 +104,19 @@ rose-enough old sv ls d v h = record { further = λ a. omega (arith, ints, +-par
 
 pub rose-not : (old sv ls : List ℤ) (d v : ℕ) → label_in sv v ≤ℤ label_in old v → RoseFurther old sv ls d v
 rose-not old sv ls d v h = record { further = λ a. absurd (omega (arith, ints, a)) }
+
+pub all_none : {old sv ls : List ℤ} {from d : ℕ} → AllRose old sv ls from from d
+all_none = record { at = λ u h l. absurd (omega (arith, h, l)) }
+
+pub all-next : {old sv ls : List ℤ} {from i d : ℕ} → AllRose old sv ls from i d → RoseFurther old sv ls d i → AllRose old sv ls from (i + 1) d
+all-next {old} {sv} {ls} {from} {i} {d} a r = record { at = λ u h l. go u h l (ℕ_discrete u i) }
+  where
+    go : (u : ℕ) → from ≤ u → u < i + 1 → Dec (u ≡ i) → RoseFurther old sv ls d u
+    go u h l (yes e) = subst (RoseFurther old sv ls d) (sym e) r
+    go u h l (no e) = a.at u h (omega arith)
+
+pub all-at : {old sv ls : List ℤ} {from i j d : ℕ} → i ≡ j → AllRose old sv ls from i d → AllRose old sv ls from j d
+all-at {old} {sv} {ls} {from} {d = d} e a = subst (λ (x : ℕ). AllRose old sv ls from x d) e a
 
 -- ---- **a trial accepted refutes**
 module _ {M : Mode} {C : Circuit} {k : ℕ} {tops : List ℕ} {old ls sv m m' : List ℤ} {d : ℕ} where

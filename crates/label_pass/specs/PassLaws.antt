@@ -8,7 +8,7 @@ use Rattle.cut_circuit.specs.Circuit.{Circuit}
 use Rattle.label_visit.specs.declared.PastCeiling.{PastCeiling}
 use Rattle.label_visit.specs.LabelVisits.{Quiet, Fine, Visited}
 use Rattle.label_visit.specs.BoundLaws.{kept_same, kept_then, kept-bounds}
-use Rattle.label_pass.specs.Passes.{QuietFrom, Sweep, SweepTold, Progress}
+use Rattle.label_pass.specs.Passes.{IfRose, QuietFrom, Sweep, SweepTold, Progress}
 
 -- nothing stands behind all gates
 pub quiet_none : (M : Mode) (δ : ℕ) (C : Circuit) (k φ : ℕ) (tops order : List ℕ) (ls : List ℤ) → QuietFrom M δ C k φ tops order ls C.gates
@@ -68,6 +68,12 @@ module _ {M : Mode} {δ : ℕ} {C : Circuit} {k φ : ℕ} {tops order : List ℕ
       quiet i h m (yes q) = rw q (v.quiet (ap Ok z))
       quiet i h m (no q) = s.quiet i h (omega arith)
 
+  -- one more gate
+  pub sweep-next : {ls ls' ls'' : List ℤ} {n end last end' last' : ℕ} {e : Bool} → n < end → Sweep M δ C k φ tops order ls ls' n end last → Visited M δ C k φ tops ls' ls'' (get_or order n 0) (Ok e)
+      → IfRose e (n + 1) last last' → IfRose e C.gates end end' → Sweep M δ C k φ tops order ls ls'' (n + 1) end' last'
+  sweep-next {e = true} l s v a b = sweep-rise l s v refl (a.0 refl) (b.0 refl)
+  sweep-next {e = false} l s v a b = sweep-still l s v refl (a.1 refl) (b.1 refl)
+
   -- the end of the sweep is reached
   pub swept_end : {ls ls' : List ℤ} {n end last : ℕ} → end ≤ n → Sweep M δ C k φ tops order ls ls' n end last → SweepTold M δ C k φ tops order ls ls' (Ok last)
   swept_end {ls} {ls'} {n} {end} {last} l s = record {
@@ -114,3 +120,7 @@ module _ {M : Mode} {δ : ℕ} {C : Circuit} {k φ : ℕ} {tops order : List ℕ
     falls = IfOk-weaker t _ _ (λ n f l. let x = a.less in let y = f l in omega arith) b.falls;
     refuted = on_err_weaker t (λ f c. f (kept-bounds a.keeps c)) b.refuted;
   }
+
+  -- where the next sweep may end
+  pub next-sweep : {ls ls' : List ℤ} {t : ℕ} → Progress M δ C k φ tops order ls ls' (Ok t) → (t ≤ C.gates) × QuietFrom M δ C k φ tops order ls' t
+  next-sweep p = (p.most, p.quiet)

@@ -1,11 +1,15 @@
 -- Definitions: one sweep over the gates in an order, and some in a row: what they ask and tell.
-use Rattle.std.specs.Prelude.{◌≡◌, List, Result, Ok, IfOk, OnErr, ℕ, ◌≤◌, ◌<◌, ℤ, length, get_or, drop}
+use Rattle.std.specs.Prelude.{◌≡◌, Bool, true, false, List, Result, Ok, IfOk, OnErr, ℕ, ◌≤◌, ◌<◌, ℤ, length, get_or, drop}
 use Rattle.net_model.specs.PackedNet.{order_at}
 use Rattle.label_theory.specs.Labels.{Mode}
 use Rattle.cut_circuit.specs.Circuit.{Circuit}
 use Rattle.cut_circuit.specs.declared.Extent.{Extent}
 use Rattle.label_visit.specs.declared.PastCeiling.{PastCeiling}
 use Rattle.label_visit.specs.LabelVisits.{Quiet, Bounds, Kept, Refuted, Fine, left}
+
+-- a where a visit raised a label, else b
+abbrev pub IfRose : Bool → ℕ → ℕ → ℕ → Type 0
+IfRose e a b r = (e ≡ true → r ≡ a) × (e ≡ false → r ≡ b)
 
 -- from place n of the order on nothing can change
 abbrev pub QuietFrom : Mode → ℕ → Circuit → ℕ → ℕ → List ℕ → List ℕ → List ℤ → ℕ → Type 0

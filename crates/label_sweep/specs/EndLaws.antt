@@ -1,5 +1,5 @@
 -- Laws of labels at the end: past a ceiling, or at rest.
-use Rattle.std.specs.Prelude.{◌≡◌, List, Result, Ok, Err, IsOk, Bool, true, false, ◌⊎◌, ℕ, ◌+◌, ◌*◌, ◌<◌, ℤ, pos, ◌-ℤ◌, get_or, ◌≤ℤ◌}
+use Rattle.std.specs.Prelude.{◌≡◌, List, Result, Ok, Err, IsOk, Bool, true, false, ◌⊎◌, ℕ, ◌+◌, ◌*◌, ◌≤◌, ◌<◌, ℤ, pos, ◌-ℤ◌, get_or, ◌≤ℤ◌}
 use Rattle.std.proofs.Common.{sym, ◌∙◌, subst, inl, inr, zero-add, arith}
 use Rattle.std.proofs.lemmas.Bool.{true≢false, false≢true}
 use Rattle.std.specs.Result.{is_ok}
@@ -109,3 +109,6 @@ module _ {M : Mode} {C : Circuit} {k φ : ℕ} {tops os oc : List ℕ} {n : ℕ}
         (l, ends-met C φ os oc n ls' M N S l.labelling.inputs o (yes_met f));
     none = λ f N S o q. no_met f (reachable-ends C φ os oc n ls' M N S (s.bounds b) o q);
   }
+
+pub rest-zero : (r : ℕ) → r ≤ 2 → ¬ (r ≡ 1) → ¬ (r ≡ 2) → r ≡ 0
+rest-zero r h n m = omega arith

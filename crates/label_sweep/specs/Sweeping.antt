@@ -1,5 +1,5 @@
 -- Sweeps joined until nothing can change.
-use Rattle.std.specs.Prelude.{◌≡◌, List, Ok, Err, ℕ, ◌+◌, ◌≤◌, ◌<◌, min, ℤ}
+use Rattle.std.specs.Prelude.{◌≡◌, List, Ok, Err, ℕ, ◌+◌, ◌%◌, ◌≤◌, ◌<◌, min, ℤ}
 use Rattle.std.proofs.Common.{subst, arith}
 use Rattle.std.proofs.Math.Decide.{ℕ_discrete}
 use Rattle.label_theory.specs.Labels.{Mode}
@@ -10,6 +10,14 @@ use Rattle.label_visit.specs.BoundLaws.{kept-bounds}
 use Rattle.label_pass.specs.Passes.{Progress}
 use Rattle.label_pass.specs.PassLaws.{quiet_none}
 use Rattle.label_sweep.specs.Sweeps.{Ordered, Swept, SettleTold}
+
+-- what is left falls with each sweep that is followed by another, and the last one ends
+pub fallen : {a b : ℕ} (r : ℕ) → r ≤ 2 → (q : ℕ) → q ≡ 1 → b ≤ a → (r ≡ 1 → b < a) → b + r % 2 < a + q % 2
+fallen {a} {b} r h q e l f = go (ℕ_discrete r 1)
+  where
+    go : Dec (r ≡ 1) → b + r % 2 < a + q % 2
+    go (yes z) = let d = f z in omega arith
+    go (no z) = omega arith
 
 module _ {M : Mode} {δ : ℕ} {C : Circuit} {k φ : ℕ} {tops order : List ℕ} where
   pub swept-first : {ls : List ℤ} → Fine C ls → Swept M δ C k φ tops order ls ls C.gates

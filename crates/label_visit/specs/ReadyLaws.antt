@@ -1,6 +1,6 @@
 -- What the engine needs of labels, also where one of them changes.
-use Rattle.std.specs.Prelude.{◌≡◌, refl, Bool, true, false, List, ℕ, ◌+◌, ◌*◌, ◌≤◌, ◌<◌, ℤ, pos, ◌+ℤ◌, length, get_or, set, drop, ◌≤ℤ◌, ◌<ℤ◌}
-use Rattle.std.proofs.Common.{sym, ap, subst, ◌∙◌, arith, mul-le-mul_left, to_z, of_z, length-set, length-drop, get_or-set_same, get_or-set_other}
+use Rattle.std.specs.Prelude.{◌≡◌, refl, Bool, true, false, ◌⊎◌, List, ℕ, zero, suc, ◌+◌, ◌*◌, ◌≤◌, ◌<◌, ℤ, pos, ◌+ℤ◌, length, get_or, set, drop, ◌≤ℤ◌, ◌<ℤ◌}
+use Rattle.std.proofs.Common.{sym, ap, subst, ◌∙◌, inl, inr, arith, mul-le-mul_left, to_z, of_z, length-set, length-drop, get_or-set_same, get_or-set_other}
 use Rattle.std.proofs.Math.Decide.{ℕ_discrete}
 use Rattle.std.proofs.lemmas.Bool.{true≢false, false≢true}
 use Rattle.std.specs.Int.{w64}
@@ -78,6 +78,11 @@ pub max-back : {s : Extent} {net : List ℕ} {ls : List ℤ} {φ g : ℕ} {p : �
 max-back {s} {net} {ls} {φ} {g} f m =
     subst (λ (z : ℤ). z ≡ to_z w64 (of_z w64 z)) m.attained
     (sym (height-back (drop (sources_at s.gates) net) (drop (counts_at s.gates) net) ls φ (most_pins * g + m.pin) (f.pin m.pin m.is_pin)))
+
+pub two_cases : (n : ℕ) → n < 2 → (n ≡ 0) ⊎ (n ≡ 1)
+two_cases zero l = inl refl
+two_cases (suc zero) l = inr refl
+two_cases (suc (suc n)) l = absurd (omega (arith, l))
 
 pub raised-changed : {ls ls' : List ℤ} {v : ℕ} {rose : Bool} {p : ℤ} → v < length ls → Raised ls ls' v p rose → Changed ls ls' v p
 raised-changed {ls} {ls'} {v} {rose = true} {p} i R = subst (λ (x : List ℤ). Changed ls x v p) (sym (R.lower refl).1) (changed-set ls v p i)
