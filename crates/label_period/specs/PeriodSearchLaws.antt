@@ -16,6 +16,7 @@ use Rattle.signed.specs.Range.{label_in}
 use Rattle.label_visit.specs.LabelVisits.{Suits, Ceilings}
 use Rattle.label_lines.specs.Lines.{LongestTold}
 use Rattle.label_sweep.specs.Sweeps.{Sized, Labelled}
+use Rattle.label_period.specs.HalfSteps.{Either}
 use Rattle.label_period.specs.PeriodSearch.{FirstReached, NoneBelow, Halved, Period}
 
 -- ---- smaller periods ask less
@@ -100,6 +101,11 @@ module _ {M : Mode} {C : Circuit} {k : ℕ} {tops os oc : List ℕ} {n : ℕ} wh
   -- behind one that is not the lower end stands
   pub halved_high : {low high φ : ℕ} {ls : List ℤ} {b : Bool} → Halved M C k tops os oc n low high → low ≤ φ → φ < high → Labelled M C k φ tops os oc n ls b → b ≡ false → Halved M C k tops os oc n (φ + 1) high
   halved_high h le lt l e = record { positive = omega arith; order = omega arith; most = h.most; none = none-next l e; reached = h.reached }
+
+  pub halved_next : {low high φ low' high' : ℕ} {ls : List ℤ} {b : Bool} → Halved M C k tops os oc n low high → low ≤ φ → φ < high → Labelled M C k φ tops os oc n ls b
+      → Either b low (φ + 1) low' → Either b φ high high' → Halved M C k tops os oc n low' high'
+  halved_next {b = true} h le lt l x y = rw (x.0 refl, y.0 refl) (halved_low h le lt l refl)
+  halved_next {b = false} h le lt l x y = rw (x.1 refl, y.1 refl) (halved_high h le lt l refl)
 
   pub halved_end : {low high : ℕ} → high ≤ low → Halved M C k tops os oc n low high → Halved M C k tops os oc n low low
   halved_end {low} {high} le h = subst (Halved M C k tops os oc n low) (let o = h.order in let e : high ≡ low = omega arith in e) h
