@@ -1,5 +1,5 @@
 -- Definitions: checks 1, 2 and 3 under rules R, by the lengths of the areas; an area that may be lent.
-use Rattle.std.specs.Prelude.{◌≡◌, cond, not, ◌||◌, ◌&&◌, ℕ, ◌≤◌, ltb}
+use Rattle.std.specs.Prelude.{◌≡◌, cond, not, ◌||◌, ◌&&◌, ℕ, ◌≤◌, ltb, Result, Ok, Err}
 use Rattle.limits.specs.Limits.{least_k}
 use Rattle.limits.specs.declared.Rules.{Rules}
 use Rattle.net_bytes.specs.Reading.{between}
@@ -24,3 +24,8 @@ lent_size least number n = cond (ltb 0 n && ltb n least) number 0
 -- an area that is not lent, or long enough
 abbrev pub LentFits : ℕ → ℕ → Type 0
 LentFits least n = ¬ (n ≡ 0) → least ≤ n
+
+-- 0 where nothing is told, else the number of what is
+abbrev pub code_by : {A E : Type 0} → (E → ℕ) → Result A E → ℕ
+code_by number (Ok a) = 0
+code_by number (Err e) = number e

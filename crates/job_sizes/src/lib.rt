@@ -1,9 +1,9 @@
 // Checks 1, 2 and 3 under rules, by the lengths of the areas; and what is told of an area that may be lent: 3 or 20.
 #![tactic(auto)]
 
-ghost use Rattle.std.specs.Prelude.{◌≡◌};
-ghost use Rattle.refusals.specs.Refusals.{number_of, code_of};
-ghost use Rattle.job_sizes.specs.Sizes.{sizes_of, lent_size};
+ghost use Rattle.std.specs.Prelude.{◌≡◌, ℕ};
+ghost use Rattle.refusals.specs.Refusals.{code_of};
+ghost use Rattle.job_sizes.specs.Sizes.{sizes_of, lent_size, code_by};
 
 use limits::{LEAST_K, Rules};
 use refusals::Refusal;
@@ -36,15 +36,15 @@ pub fn check_sizes(
     Ok(())
 }
 
-// The refusal where an area of this length is lent and has fewer than `least` bytes. An area of length 0 is not lent.
-pub fn check_lent(n: usize, least: usize, refusal: Refusal) -> Result<(), Refusal>
-    ensures { code_of result ≡ lent_size least (number_of refusal) n }
+// What is told where an area of this length is lent and has fewer than `least` bytes. An area of length 0 is not lent.
+pub fn check_lent<E: Copy>(n: usize, least: usize, told: E) -> Result<(), E>
+    ensures { (number : E → ℕ) → code_by number result ≡ lent_size least (number told) n }
 {
     if n == 0 {
         return Ok(());
     }
     if n < least {
-        return Err(refusal);
+        return Err(told);
     }
     Ok(())
 }

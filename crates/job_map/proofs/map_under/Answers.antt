@@ -21,7 +21,7 @@ pub returns-in_err-check_lent : goal.returns-in_err-check_lent
 returns-in_err-check_lent c = let a = c.args in
     let r = c.in_err-check_lent.field-0.0 in
     let p = err_from_is_err_and c.from_residual-in_err-check_lent.result c.from_residual-in_err-check_lent.ensures.1 in
-    rw (p.1, p.2) (record { outcome = map-contents (mode_of a.forward) a.rules a.k a.target a.pairs.now a.area.now a.scratch.now a.loader.now a.contents.now a.net.now (sym c.in_ok-check_sizes.ensures) (number_of r) c.in_err-check_lent.ensures (number_positive r); small = let h = number_small r in omega arith })
+    rw (p.1, p.2) (record { outcome = map-contents (mode_of a.forward) a.rules a.k a.target a.pairs.now a.area.now a.scratch.now a.loader.now a.contents.now a.net.now (sym c.in_ok-check_sizes.ensures) (number_of r) (c.in_err-check_lent.ensures number_of) (number_positive r); small = let h = number_small r in omega arith })
 
 pub clear_first-requires : goal.clear_first-requires
 clear_first-requires c =
@@ -33,7 +33,7 @@ clear_first-requires c =
 pub returns-in-Err : goal.returns-in-Err
 returns-in-Err c = let a = c.args in
     let r = c.in-Err.refusal in
-    record { outcome = map-short (mode_of a.forward) a.rules a.k a.target a.pairs.now a.area.now a.scratch.now a.loader.now a.contents.now a.net.now (sym c.in_ok-check_sizes.ensures) (sym c.in_ok-check_lent.ensures) (number_of r) _ c.in-Err.ensures (number_positive r) c.clear_first.ensures; small = let h = number_small r in omega arith }
+    record { outcome = map-short (mode_of a.forward) a.rules a.k a.target a.pairs.now a.area.now a.scratch.now a.loader.now a.contents.now a.net.now (sym c.in_ok-check_sizes.ensures) (sym (c.in_ok-check_lent.ensures number_of)) (number_of r) _ (c.in-Err.ensures number_of) (number_positive r) c.clear_first.ensures; small = let h = number_small r in omega arith }
 
 pub slice_bounds-map_bytes-end : goal.slice_bounds-map_bytes-end
 slice_bounds-map_bytes-end c =
@@ -54,8 +54,8 @@ map_bytes-answer-requires c = let a = c.args in
     let z = sym c.in_ok-check_sizes.ensures in
     let f = fit a.rules a.k a.target (length a.area.now) (length a.scratch.now) z in
     let e = length-take-le a.rules.scratch a.scratch.now f.space in
-    let y = sym c.in_ok-check_lent.ensures in
-    let x = sym c.in_default.ensures in
+    let y = sym (c.in_ok-check_lent.ensures number_of) in
+    let x = sym (c.in_default.ensures number_of) in
     record {
       offered = c.requires.0;
       fit = (
@@ -81,7 +81,7 @@ returns c = let a = c.args in
     let z = sym c.in_ok-check_sizes.ensures in
     let f = fit a.rules a.k a.target (length a.area.now) (length a.scratch.now) z in
     let map-bytes = c.map_bytes-answer in
-    let y = sym c.in_ok-check_lent.ensures in
-    let x = sym c.in_default.ensures in
+    let y = sym (c.in_ok-check_lent.ensures number_of) in
+    let x = sym (c.in_default.ensures number_of) in
     let e = map-bytes.auto.work ∙ length-take-le a.rules.scratch a.scratch.now f.space in
     record { outcome = map-rest (mode_of a.forward) a.rules a.k a.target a.pairs.now a.area.now a.scratch.now a.loader.now a.contents.now a.net.now z y _ _ _ map-bytes.new.work _ _ x map-bytes.ensures e c.clear_first-2.ensures; small = map-bytes.ensures.small }
