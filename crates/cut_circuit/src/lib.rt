@@ -8,7 +8,6 @@ ghost use Rattle.cut_circuit.specs.Circuit.{feeding_at, forced_at};
 ghost use Rattle.cut_circuit.specs.Packed.{packed_of, first_at, sources_at, counts_at, GateAsked, SourceAsked, SlotAsked};
 ghost use Rattle.cut_circuit.specs.PinLinks.{Emptied, LinkAsked, PlaceAsked, PlaceLinked, LinkedIn, Links};
 
-use inputs::word;
 use limits::{PINS, SLOTS};
 
 // The copy u:d has the number u * width + d; copies with d above the border are terminals.
@@ -110,7 +109,7 @@ pub fn number_at(list: &[u32], i: usize) -> usize
     requires { i < length list.now }
     ensures { result ≡ get_or list.now i 0 }
 {
-    word(list[i])
+    list[i] as usize
 }
 
 // Writes a number that fits 32 bits.
@@ -126,7 +125,7 @@ pub fn put_number(list: &mut [u32], i: usize, n: usize)
 fn held(numbers: &[u32], d: usize) -> bool
     ensures { result ≡ list_any (λ x. x == d) numbers.now }
 {
-    numbers.iter().any(|x| word(*x) == d)
+    numbers.iter().any(|x| *x as usize == d)
 }
 
 // Whether the copy x stands in one of its gate's slots.

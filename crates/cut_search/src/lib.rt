@@ -11,7 +11,6 @@ ghost use Rattle.cut_search.specs.StackParts.{PushAsked, Pushed};
 ghost use Rattle.cut_search.specs.Steps.{ComeAsked, ComeTold, LeaveAsked, LeaveTold, StepAsked, StepTold, RunAsked, RunTold, UnwindAsked, UnwindTold, MemberAsked, MemberTold, SearchAsked, RootsAsked, Turning, SearchTold};
 
 use cut_circuit::{Extent, Wires, first_of, is_forced, number_at, pins_of, put_number, source};
-use inputs::narrow;
 use limits::PINS;
 
 // ---- the byte of a copy
@@ -329,7 +328,7 @@ fn unwind(w: Wires, table: &mut [u8], stack: &mut [u32])
         let x = top / 16;
         let n = pins_of(w.s, w.net, x);
         let i = turn(n, first_of(w.s, w.net, x), top % 16 - 1);
-        set_flow(table, x, narrow(i));
+        set_flow(table, x, i as u8);
         put_number(stack, 0, d - 1);
     }
 }

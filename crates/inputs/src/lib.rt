@@ -1,28 +1,8 @@
-// Bytes and numbers: widths, and the parts of a program's input.
+// The parts of a program's input.
 #![tactic(auto)]
 
 ghost use Rattle.std.specs.Prelude.{◌≡◌, ◌++◌, ◌+◌, ◌*◌, ◌≤◌, ◌<◌, length, get_or, drop};
 ghost use Rattle.inputs.specs.InputParts.{Behind};
-
-// A number of 32 bits as a machine word, a machine word as a byte, a byte as a machine word.
-pub fn word(x: u32) -> usize
-    ensures { result ≡ x }
-{
-    x as usize
-}
-
-pub fn narrow(x: usize) -> u8
-    requires { x < 256 }
-    ensures { result ≡ x }
-{
-    x as u8
-}
-
-pub fn wide(x: u8) -> usize
-    ensures { result ≡ x }
-{
-    x as usize
-}
 
 // The byte at a place, 0 where it is missing.
 pub fn byte_at(bytes: &[u8], i: usize) -> u32

@@ -6,7 +6,7 @@ ghost use Rattle.run_theory.specs.BenchBytes.{pair_at, steps_of};
 ghost use Rattle.run_values.specs.Sheets.{sheet, StepReady};
 ghost use Rattle.run_step.specs.Stepping.{Valued, next_byte, AdvanceAsked, Advanced, StepAsked, StepTold, RunTo};
 
-use inputs::{byte_at, narrow};
+use inputs::byte_at;
 use net_marks::zero;
 use net_reader::{NetSizes, order_at};
 use run_values::{node_value, told_value};
@@ -51,7 +51,7 @@ fn next_byte(byte: u8, value: usize) -> u8
     requires { value < 2 }
     ensures { result ≡ next_byte byte value }
 {
-    narrow(2 * (usize::from(byte) % 4) + value)
+    (2 * (usize::from(byte) % 4) + value) as u8
 }
 
 // What is kept, one step on.

@@ -1,4 +1,3 @@
-use mathlib.Core.Path.{◌∙◌}
 use native.Mathlib.Omega.{arith}
 use Rattle.cut_circuit.specs.PackedLaws.{gate-plain}
 use Rattle.cut_search.specs.UnwindLaws.{unwind_end, down-inside, down-pins, down-firsts, down-begun, down-first, down-small, down_step}
@@ -16,15 +15,15 @@ overflow_sub-top c = omega (arith, down-begun c.loop-stack.invariant.asked (omeg
 pub turn-i-requires : goal.turn-i-requires
 turn-i-requires c = down-first c.loop-stack.invariant.asked (omega (arith, c.number_at.ensures, c.loop-stack-test.true)) c.number_at-d.ensures c.number_at-top.ensures c.pins_of-n.ensures c.first_of.ensures
 
-pub narrow-requires : goal.narrow-requires
-narrow-requires c = omega (arith, down-small c.loop-stack.invariant.asked (omega (arith, c.number_at.ensures, c.loop-stack-test.true)) c.number_at-d.ensures c.number_at-top.ensures c.pins_of-n.ensures c.first_of.ensures c.turn-i.ensures)
+pub overflow_cast-i : goal.overflow_cast-i
+overflow_cast-i c = omega (arith, down-small c.loop-stack.invariant.asked (omega (arith, c.number_at.ensures, c.loop-stack-test.true)) c.number_at-d.ensures c.number_at-top.ensures c.pins_of-n.ensures c.first_of.ensures c.turn-i.ensures)
 
 pub set_flow-requires : goal.set_flow-requires
-set_flow-requires c = record { c_bound = down-inside c.loop-stack.invariant.asked (omega (arith, c.number_at.ensures, c.loop-stack-test.true)) c.number_at-d.ensures c.number_at-top.ensures; n_bound = omega (arith, c.narrow.ensures, down-small c.loop-stack.invariant.asked (omega (arith, c.number_at.ensures, c.loop-stack-test.true)) c.number_at-d.ensures c.number_at-top.ensures c.pins_of-n.ensures c.first_of.ensures c.turn-i.ensures) }
+set_flow-requires c = record { c_bound = down-inside c.loop-stack.invariant.asked (omega (arith, c.number_at.ensures, c.loop-stack-test.true)) c.number_at-d.ensures c.number_at-top.ensures; n_bound = omega (arith, down-small c.loop-stack.invariant.asked (omega (arith, c.number_at.ensures, c.loop-stack-test.true)) c.number_at-d.ensures c.number_at-top.ensures c.pins_of-n.ensures c.first_of.ensures c.turn-i.ensures) }
 
 pub loop-stack-preserved : goal.loop-stack-preserved
 loop-stack-preserved c =
-    down_step c.loop-stack.invariant.asked (omega (arith, c.number_at.ensures, c.loop-stack-test.true)) c.number_at-d.ensures c.number_at-top.ensures c.pins_of-n.ensures c.first_of.ensures (c.narrow.ensures ∙ c.turn-i.ensures)
+    down_step c.loop-stack.invariant.asked (omega (arith, c.number_at.ensures, c.loop-stack-test.true)) c.number_at-d.ensures c.number_at-top.ensures c.pins_of-n.ensures c.first_of.ensures c.turn-i.ensures
     c.loop-stack.invariant c.set_flow.ensures c.set_flow.auto.table c.put_number.ensures
 
 pub returns : goal.returns
