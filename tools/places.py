@@ -124,7 +124,7 @@ def minmax():
         body = ' '.join(body.split())
         if re.fullmatch(r'if (\w+) < (\w+) \{ (\w+) \} else \{ (\w+) \}', body):
             out.append(f"{g['file']}: fn {g['name']}: {body}")
-        elif g['name'] in ('same', 'compare', 'comes_before', 'copy', 'is_copy', 'copy_in', 'fill', 'zero', 'store', 'put_word', 'clear_first', 'clear_counts', 'empty_heads'):
+        elif g['name'] in ('same', 'compare', 'comes_before', 'copy', 'is_copy', 'copy_in', 'fill', 'zero', 'store', 'put_word', 'clear_first', 'clear_counts', 'empty_heads') and re.search(r'\b(if|while|for)\b', body):
             out.append(f"{g['file']}: fn {g['name']}")
     return out
 

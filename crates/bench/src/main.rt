@@ -11,12 +11,6 @@ use std::io;
 use std::io::{Read, Write};
 use streams::read_full;
 
-fn least(a: usize, b: usize) -> usize
-    ensures { result ≤ b }
-{
-    if a < b { a } else { b }
-}
-
 // Asks for n bytes behind the first `at`; the place behind those that came.
 fn fill<R: Read>(from: &mut R, input: &mut [u8], at: usize, n: usize) -> io::Result<usize>
     requires { at + n ≤ length input.old }
@@ -35,7 +29,7 @@ fn take_input<R: Read>(from: &mut R, input: &mut [u8]) -> io::Result<usize>
     if head < 3 {
         return Ok(head);
     }
-    let n = least(net_length(input), BENCH_INPUT - 3 - 2 * STEPS);
+    let n = net_length(input).min(BENCH_INPUT - 3 - 2 * STEPS);
     let end = fill(from, input, 3, n)?;
     if end < 3 + n {
         return Ok(end);
