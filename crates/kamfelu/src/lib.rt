@@ -2,7 +2,7 @@
 // and the classes of three-input tables.
 #![tactic(auto)]
 
-ghost use Rattle.std.specs.Prelude.{◌≡◌, get_or};
+ghost use Rattle.std.specs.Prelude.{◌≡◌, ◌≤◌, get_or, IfOk, unwrap_or};
 ghost use Rattle.limits.specs.Courses.{long, short};
 ghost use Rattle.lutclass.specs.Classes.{IsClass};
 ghost use Rattle.lutclass.specs.ClassTable.{shipped};
@@ -10,40 +10,38 @@ ghost use Rattle.cover_records.specs.Outcomes.{map_outcome, mark_outcome};
 ghost use Rattle.cover_records.specs.LoaderOutcome.{loader_outcome};
 ghost use Rattle.cover_records.specs.ForwardOutcome.{forward_outcome};
 ghost use Rattle.cover_records.specs.ChangeOutcome.{change_outcome};
-ghost use Rattle.job_record.specs.MapAnswers as map;
-ghost use Rattle.job_judge.specs.MarkAnswers as mark;
+ghost use Rattle.signed.specs.Range.{room};
 ghost use Rattle.captures.specs.AlignOutcome.{align_outcome};
 ghost use Rattle.job_find.specs.RootLookup.{find_root};
-ghost use Rattle.kamfelu.specs.Coded.{coded, coded_shift, coded_root};
+ghost use Rattle.kamfelu.specs.Coded.{coded, coded_shift, coded_root, told, told_or};
 
-use captures::{Alignment, NO_SHIFT, align};
-use job_find::{Found, find_root};
-use job_judge::Grade;
+use captures::{NO_SHIFT, align};
+use job_find::find_root;
 use job_map::{change_over, map, map_forward, map_loader, short_map};
 use job_mark::{mark, short_mark};
-use job_record::Answer;
 use lutclass::class_of;
+use refusals::Refusal;
 use signed::{minus, whole};
 
-// The record's length, or minus the number of the refusal.
-fn map_code(answer: Answer) -> i64
-    requires { map.InRange (map.answer_of answer) }
-    ensures { result ≡ coded (map.answer_of answer) }
+// What was counted, or minus the number of the refusal.
+fn code(answer: Result<usize, Refusal>) -> i64
+    requires { IfOk answer (λ n. n ≤ room) }
+    ensures { result ≡ told answer }
 {
     match answer {
-        Answer::Length(n) => whole(n),
-        Answer::Refused(n) => minus(0, n as usize),
+        Ok(n) => whole(n),
+        Err(refusal) => minus(0, usize::from(u8::from(refusal))),
     }
 }
 
-// The excess, or minus the number of the refusal.
-fn mark_code(m: Grade) -> i64
-    requires { mark.InRange (mark.answer_of m) }
-    ensures { result ≡ coded (mark.answer_of m) }
+// The same, with a number for none.
+fn code_or(answer: Result<Option<usize>, Refusal>, none: usize) -> i64
+    requires { IfOk answer (λ n. unwrap_or n none ≤ room) }
+    ensures { result ≡ told_or none answer }
 {
-    match m {
-        Grade::Excess(n) => whole(n),
-        Grade::Refused(n) => minus(0, n as usize),
+    match answer {
+        Ok(found) => whole(found.unwrap_or(none)),
+        Err(refusal) => minus(0, usize::from(u8::from(refusal))),
     }
 }
 
@@ -53,8 +51,7 @@ pub fn kamfelu_map(net: &[u8], k: u32, target: u32, cover: &mut [u8], scratch: &
     ensures area { cover.new ≡ (map_outcome long net.now k target cover.old scratch.old).area }
     ensures scratch { scratch.new ≡ (map_outcome long net.now k target cover.old scratch.old).scratch }
 {
-    let answer = map(net, k, target, cover, scratch);
-    map_code(answer)
+    code(map(net, k, target, cover, scratch))
 }
 
 // Map with a loader area, which gets the image; of length 0 it is not lent.
@@ -71,8 +68,7 @@ pub fn kamfelu_map_loader(
     ensures scratch { scratch.new ≡ (loader_outcome long net.now k target cover.old scratch.old loader.old).scratch }
     ensures loader { loader.new ≡ (loader_outcome long net.now k target cover.old scratch.old loader.old).loader }
 {
-    let answer = map_loader(net, k, target, cover, scratch, loader);
-    map_code(answer)
+    code(map_loader(net, k, target, cover, scratch, loader))
 }
 
 // Map in forward mode, with a loader area, which gets the image, and a contents area, which gets the first contents; of length 0 an area is not lent.
@@ -91,8 +87,7 @@ pub fn kamfelu_map_forward(
     ensures loader { loader.new ≡ (forward_outcome long net.now k target cover.old scratch.old loader.old contents.old).loader }
     ensures contents { contents.new ≡ (forward_outcome long net.now k target cover.old scratch.old loader.old contents.old).contents }
 {
-    let answer = map_forward(net, k, target, cover, scratch, loader, contents);
-    map_code(answer)
+    code(map_forward(net, k, target, cover, scratch, loader, contents))
 }
 
 // The change-over: map in forward mode, its contents those of the step behind the input pairs, two bytes a step. A contents area must be lent; a loader area of length 0 is not lent.
@@ -112,8 +107,7 @@ pub fn kamfelu_change_over(
     ensures loader { loader.new ≡ (change_outcome long net.now k target pairs.now cover.old scratch.old loader.old contents.old).loader }
     ensures contents { contents.new ≡ (change_outcome long net.now k target pairs.now cover.old scratch.old loader.old contents.old).contents }
 {
-    let answer = change_over(net, k, target, pairs, cover, scratch, loader, contents);
-    map_code(answer)
+    code(change_over(net, k, target, pairs, cover, scratch, loader, contents))
 }
 
 // Map of the short course.
@@ -128,8 +122,7 @@ pub fn kamfelu_short_map(
     ensures area { cover.new ≡ (map_outcome short net.now k target cover.old scratch.old).area }
     ensures scratch { scratch.new ≡ (map_outcome short net.now k target cover.old scratch.old).scratch }
 {
-    let answer = short_map(net, k, target, cover, scratch);
-    map_code(answer)
+    code(short_map(net, k, target, cover, scratch))
 }
 
 // Mark: the excess, or minus the number of the refusal.
@@ -137,8 +130,7 @@ pub fn kamfelu_mark(net: &[u8], k: u32, cover: &[u8], scratch: &mut [u8]) -> i64
     ensures answer { result ≡ coded (mark_outcome long net.now k cover.now scratch.old).answer }
     ensures scratch { scratch.new ≡ (mark_outcome long net.now k cover.now scratch.old).scratch }
 {
-    let m = mark(net, k, cover, scratch);
-    mark_code(m)
+    code(mark(net, k, cover, scratch))
 }
 
 // The same for the short course.
@@ -146,8 +138,7 @@ pub fn kamfelu_short_mark(net: &[u8], k: u32, cover: &[u8], scratch: &mut [u8]) 
     ensures answer { result ≡ coded (mark_outcome short net.now k cover.now scratch.old).answer }
     ensures scratch { scratch.new ≡ (mark_outcome short net.now k cover.now scratch.old).scratch }
 {
-    let m = short_mark(net, k, cover, scratch);
-    mark_code(m)
+    code(short_mark(net, k, cover, scratch))
 }
 
 // The smallest table that a table of three leaves can be turned into: its entry in the table of classes.
@@ -162,22 +153,12 @@ pub fn kamfelu_class(table: u8) -> u8
 pub fn kamfelu_find_root(cover: &[u8], g: u16) -> i64
     ensures { result ≡ coded_root (find_root g cover.now) }
 {
-    let f = find_root(cover, g);
-    match f {
-        Found::At(o) => whole(o),
-        Found::Nothing => 0,
-        Found::Refused(n) => minus(0, n as usize),
-    }
+    code_or(find_root(cover, g), 0)
 }
 
 // The shift, 256 for none, or minus the number of the refusal.
 pub fn kamfelu_align(first: &[u16], second: &[u16]) -> i64
     ensures { result ≡ coded_shift (align_outcome first.now second.now) }
 {
-    let a = align(first, second);
-    match a {
-        Alignment::Shift(s) => whole(s),
-        Alignment::Nothing => whole(NO_SHIFT),
-        Alignment::Refused(n) => minus(0, n as usize),
-    }
+    code_or(align(first, second), NO_SHIFT)
 }
