@@ -6,8 +6,7 @@ ghost use Rattle.cover_records.specs.Program.{marking, marking_program};
 ghost use Rattle.cover_writer.specs.Writing.{Wrote};
 ghost use Rattle.limits.specs.Limits.{refusal_room};
 
-use inputs::{byte_at, net_length, place_behind, wide};
-use job_judge::Grade;
+use inputs::{byte_at, net_length, place_behind};
 use job_mark::mark;
 use limits::{ANSWER, SCRATCH};
 use text_digits::{write_excess, write_refusal};
@@ -18,10 +17,9 @@ fn grade_parts(k: u32, net: &[u8], cover: &[u8], out: &mut [u8]) -> usize
     ensures { Wrote (marking k net.now cover.now) out.old out.new result }
 {
     let mut scratch = [0u8; SCRATCH];
-    let m = mark(net, k, cover, &mut scratch);
-    match m {
-        Grade::Excess(n) => write_excess(n, out),
-        Grade::Refused(n) => write_refusal(wide(n), out),
+    match mark(net, k, cover, &mut scratch) {
+        Ok(excess) => write_excess(excess, out),
+        Err(refusal) => write_refusal(usize::from(u8::from(refusal)), out),
     }
 }
 

@@ -1,5 +1,5 @@
 -- From what was read and settled to the text that the definition has.
-use Rattle.std.specs.Prelude.{◌≡◌, refl, false, List, [], ℕ, ◌≤◌, ◌<◌, length, get_or, drop}
+use Rattle.std.specs.Prelude.{◌≡◌, refl, false, List, [], ℕ, ◌≤◌, ◌<◌, length, get_or, drop, Ok}
 use Rattle.std.proofs.Common.{sym, ap, subst, subst₂, ◌∙◌, arith, zero-add, length-append}
 use Rattle.std.proofs.lemmas.Bool.{false≢true}
 use Rattle.sequences.specs.Member.{◌∈◌}
@@ -21,18 +21,14 @@ use Rattle.cover_records.specs.Listing.{refusal_text, entry_taps}
 use Rattle.cover_records.specs.TapLaws.{key-sources}
 use Rattle.cover_records.specs.Outcomes.{Checked, passes, fails, check_net, mapped}
 use Rattle.cover_records.specs.Program.{list_mapped, list_checked}
-use Rattle.net_fields.specs.Verdicts.{outcome}
-use Rattle.net_fields.specs.declared.Verdict.{Verdict}
-use Rattle.net_fields.specs.declared.Verdict.TheVariants.{Read, Refused}
 use Rattle.net_reader.specs.ReadAnswer.{arrays_of, result_of}
 use Rattle.net_reader.specs.WalkFacts.{read-gives, read-facts}
 use Rattle.net_reader.specs.ReadWires.{room-read}
-use Rattle.net_reader.specs.declared.NetRead.{NetRead}
 use Rattle.net_reader.specs.declared.NetSizes.{NetSizes}
 use Rattle.cover_writer.specs.Writing.{Wrote}
 use Rattle.cover_records.specs.CheckLaws.{check-refused, check-loop, check-unreached, check-unled, check-passes}
 use Rattle.job_sizes.specs.Sizes.{Fit}
-use Rattle.job_settle.specs.Settling.{Settling, SettledAs}
+use Rattle.job_settle.specs.Settling.{Settling, Ended}
 use Rattle.job_settle.specs.Settling as settling
 use Rattle.text_digits.specs.PutLaws.{wrote_as}
 use Rattle.text_listing.specs.Text.{Listable, FedBy, Lists}
@@ -54,7 +50,7 @@ list-passes k target net N P e = ap (λ (c : Checked k). list_checked k target c
 
 module _ {k target : ℕ} {N : Net} where
   -- the number of the refusal
-  refused-text : {a : Kept} {r : ℕ} → SettledAs plain false k target N a r → 0 < r → (net : List ℕ) → net_reader long k net ≡ got N [] → list_checked k target (check_net long k net) ≡ refusal_text r
+  refused-text : {W : Type 0} {r : ℕ} → Ended plain false k target N W r → 0 < r → (net : List ℕ) → net_reader long k net ≡ got N [] → list_checked k target (check_net long k net) ≡ refusal_text r
   refused-text (settling.loops e n) h net q = list-fails k target 9 net (check-loop long k net N [] q n) ∙ ap refusal_text (sym e)
   refused-text (settling.cut_off e l n) h net q = list-fails k target 10 net (check-unreached long k net N [] q l n) ∙ ap refusal_text (sym e)
   refused-text (settling.idle e l t n) h net q = list-fails k target 11 net (check-unled long k net N [] q l t n) ∙ ap refusal_text (sym e)
@@ -68,8 +64,8 @@ module _ {k target : ℕ} {N : Net} where
       none e h = omega arith
 
   -- **a refusal**
-  pub lists-refused : {a : Kept} {r n : ℕ} {before after : List ℕ} → SettledAs plain false k target N a r → 0 < r → Wrote (refusal_text r) before after n → ListsNet k target N before after n
-  lists-refused s h t = record { lists = λ net q. wrote_as (refused-text s h net q) t }
+  pub lists-refused : {W : Type 0} {r m n : ℕ} {before after : List ℕ} → Ended plain false k target N W r → 0 < r → m ≡ r → Wrote (refusal_text m) before after n → ListsNet k target N before after n
+  lists-refused s h d t = record { lists = λ net q. wrote_as (refused-text s h net q ∙ ap refusal_text (sym d)) t }
 
   -- what feeds the cover are nodes of the net
   cover-fed : {a : Kept} → CoverSettled plain false k target N a → (net : List ℕ) → net_reader long k net ≡ got N [] → FedBy N (entries_in a)
@@ -116,25 +112,25 @@ module _ {k target : ℕ} {z : NetSizes} {net ts net' : List ℕ} (g : Settling 
         room = room;
       }
 
-module _ (k target : ℕ) (bytes : List ℕ) (r : NetRead) (net ts : List ℕ) (e : net_reader long k bytes ≡ result_of r net ts) where
+-- **refusals 4 to 8**
+pub walk_refused : (k target : ℕ) (bytes : List ℕ) {n m c : ℕ} {before after : List ℕ} → net_reader long k bytes ≡ refused n → m ≡ n → Wrote (refusal_text m) before after c
+    → Wrote (list_checked k target (check_net long k bytes)) before after c
+walk_refused k target bytes {n} e d t = wrote_as (list-fails k target n bytes (check-refused long k bytes n e) ∙ ap refusal_text (sym d)) t
+
+module _ (k target : ℕ) (bytes : List ℕ) (z : NetSizes) (net ts : List ℕ) (e : net_reader long k bytes ≡ result_of (Ok z) net ts) where
   abbrev N : Net
-  N = net_in (arrays_of r.sizes net ts)
+  N = net_in (arrays_of z net ts)
 
-  -- **refusals 4 to 8**
-  pub walk_refused : {n m c : ℕ} {before after : List ℕ} → r.verdict ≡ Refused n → m ≡ n → Wrote (refusal_text m) before after c → Wrote (list_checked k target (check_net long k bytes)) before after c
-  walk_refused {n} v d t =
-      wrote_as (list-fails k target n bytes (check-refused long k bytes n (e ∙ ap (λ (x : Verdict). outcome x N []) v)) ∙ ap refusal_text (sym d)) t
-
-  module _ (v : r.verdict ≡ Read) {k' target' : ℕ} (a : k' ≡ k) (b : target' ≡ target) where
-    pub walk-listing : {area scratch : ℕ} → length net ≡ most_packed → length ts ≡ most_gates → Fit long k target area scratch → {out : List ℕ} → text_room ≤ length out → Listing k' target' r.sizes net ts out
+  module _ {k' target' : ℕ} (a : k' ≡ k) (b : target' ≡ target) where
+    pub walk-listing : {area scratch : ℕ} → length net ≡ most_packed → length ts ≡ most_gates → Fit long k target area scratch → {out : List ℕ} → text_room ≤ length out → Listing k' target' z net ts out
     walk-listing ln lt fit {out} room =
-        let facts = read-facts long k bytes r net ts e v is-long in
-        subst₂ (λ (x y : ℕ). Listing x y r.sizes net ts out) (sym a) (sym b) (record {
+        let facts = read-facts long k bytes z net ts e is-long in
+        subst₂ (λ (x y : ℕ). Listing x y z net ts out) (sym a) (sym b) (record {
           settling = record {
             facts = facts;
             room = room-read facts ln lt;
-            sound = walk-sound long k bytes N [] (read-gives long k bytes r net ts e v);
-            fits = walk-fits long k bytes N [] (read-gives long k bytes r net ts e v);
+            sound = walk-sound long k bytes N [] (read-gives long k bytes z net ts e);
+            fits = walk-fits long k bytes N [] (read-gives long k bytes z net ts e);
             low = fit.low;
             high = fit.high;
             near = fit.near;
@@ -143,4 +139,4 @@ module _ (k target : ℕ) (bytes : List ℕ) (r : NetRead) (net ts : List ℕ) (
         })
 
     pub walk-lists : {before after : List ℕ} {c : ℕ} → ListsNet k' target' N before after c → Wrote (list_checked k target (check_net long k bytes)) before after c
-    walk-lists {before} {after} {c} m = (subst₂ (λ (x y : ℕ). ListsNet x y N before after c) a b m).lists bytes (read-gives long k bytes r net ts e v)
+    walk-lists {before} {after} {c} m = (subst₂ (λ (x y : ℕ). ListsNet x y N before after c) a b m).lists bytes (read-gives long k bytes z net ts e)

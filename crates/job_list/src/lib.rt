@@ -14,11 +14,10 @@ ghost use Rattle.job_sizes.specs.Sizes.{Fit};
 ghost use Rattle.job_list.specs.Asked.{Listing, ListsNet};
 
 use cover_writer::CoverHead;
-use inputs::{byte_at, wide, word};
+use inputs::byte_at;
 use job_settle::{Call, settle};
 use job_sizes::check_sizes;
 use limits::{AREA, GATES, NODES, PACKED, ROWS, SCRATCH, TABLE, TEXT, long_course};
-use net_fields::Verdict;
 use net_reader::{NetSizes, delays_at, outs_at, read_net};
 use text_digits::write_refusal;
 use text_listing::write_text;
@@ -42,12 +41,12 @@ fn list_read(
     let mut rows = [0usize; ROWS];
     let mut luts = [0u64; GATES];
     let call = Call {
-        k: k,
-        target: target,
+        k,
+        target,
         forward: false,
         lacks: false,
     };
-    let s = settle(
+    let settled = settle(
         z,
         net,
         tables,
@@ -59,17 +58,17 @@ fn list_read(
         &mut rows,
         &mut luts,
     );
-    let refusal = s.refusal;
-    if refusal > 0 {
-        return write_refusal(refusal, out);
-    }
+    let period = match settled {
+        Ok(period) => period,
+        Err(refusal) => return write_refusal(usize::from(u8::from(refusal)), out),
+    };
     let held = &net[..];
     let o = outs_at(z, held);
     let d = delays_at(z, held);
     let head = CoverHead {
         inputs: z.inputs,
         gates: z.gates,
-        period: s.period,
+        period,
     };
     write_text(
         head,
@@ -90,12 +89,10 @@ fn list_net(bytes: &[u8], k: u32, target: u32, out: &mut [u8]) -> usize
 {
     let mut net = [0usize; PACKED];
     let mut tables = [0u64; GATES];
-    let read = read_net(bytes, k, long_course(), &mut net, &mut tables);
-    let v = read.verdict;
-    if let Verdict::Refused(n) = v {
-        return write_refusal(wide(n), out);
+    match read_net(bytes, k, long_course(), &mut net, &mut tables) {
+        Ok(sizes) => list_read(sizes, &mut net, &tables, k as usize, target as usize, out),
+        Err(refusal) => write_refusal(usize::from(u8::from(refusal)), out),
     }
-    list_read(read.sizes, &mut net, &tables, word(k), word(target), out)
 }
 
 // All checks and the cover.
@@ -103,21 +100,17 @@ fn list_parts(k: u32, target: u32, net: &[u8], out: &mut [u8]) -> usize
     requires { text_room ≤ length out.old }
     ensures { Wrote (listing k target net.now) out.old out.new result }
 {
-    let r = check_sizes(k, target, AREA, SCRATCH, long_course());
-    if r > 0 {
-        return write_refusal(wide(r), out);
+    match check_sizes(k, target, AREA, SCRATCH, long_course()) {
+        Ok(()) => list_net(net, k, target, out),
+        Err(refusal) => write_refusal(usize::from(u8::from(refusal)), out),
     }
-    list_net(net, k, target, out)
 }
 
 // The place behind k and the target.
 fn net_place(input: &[u8]) -> usize
     ensures { (result ≤ length input.now) × (drop result input.now ≡ rest (rest input.now)) }
 {
-    if input.len() < 2 {
-        return input.len();
-    }
-    2
+    input.len().min(2)
 }
 
 // The text for every input, in front of out; the bytes behind it are kept.
