@@ -28,6 +28,23 @@ pub struct CoverHead {
     pub period: usize,
 }
 
+// The cover kept: its sizes, the nodes' labels, and the gates' rows, which hold marks, leaf counts and leaves.
+#[derive(Clone, Copy)]
+pub struct KeptCover<'a> {
+    pub head: CoverHead,
+    pub labels: &'a [i64],
+    pub rows: &'a [usize],
+}
+
+// n leaves, from place `at` on.
+#[derive(Clone, Copy)]
+pub struct Leaves<'a> {
+    pub nodes: &'a [usize],
+    pub backs: &'a [usize],
+    pub at: usize,
+    pub n: usize,
+}
+
 // 1 where a number is not 0.
 fn not_zero(n: usize) -> usize
     ensures { result ≡ as_number (not_zero n) }
@@ -142,12 +159,12 @@ fn write_head(root: usize, n: usize, map: usize, area: &mut [u8]) -> usize
 }
 
 // The leaves: their nodes, and behind them their d's.
-fn write_leaves(nodes: &[usize], backs: &[usize], at: usize, n: usize, area: &mut [u8]) -> usize
-    requires { LeavesAsked nodes.now backs.now at n area.old }
-    ensures { Wrote (leaf_bytes (copies_from nodes.now backs.now at n)) area.old area.new result }
+fn write_leaves(leaves: Leaves, area: &mut [u8]) -> usize
+    requires { LeavesAsked leaves.nodes.now leaves.backs.now leaves.at leaves.n area.old }
+    ensures { Wrote (leaf_bytes (copies_from leaves.entry.nodes.now leaves.entry.backs.now leaves.entry.at leaves.entry.n)) area.old area.new result }
 {
-    let a = write_nodes(nodes, at, n, area);
-    a + write_depths(backs, at, n, &mut area[a..])
+    let a = write_nodes(leaves.nodes, leaves.at, leaves.n, area);
+    a + write_depths(leaves.backs, leaves.at, leaves.n, &mut area[a..])
 }
 
 // The lag, and behind it the table of a LUT with n leaves.
@@ -162,66 +179,49 @@ fn write_values(lag: i64, table: u64, n: usize, area: &mut [u8]) -> usize
 }
 
 // A LUT: root, leaf count and map, then the leaves, then the lag and the table.
-fn write_lut(
-    root: usize,
-    nodes: &[usize],
-    backs: &[usize],
-    at: usize,
-    n: usize,
-    lag: i64,
-    table: u64,
-    area: &mut [u8],
-) -> usize
-    requires { LutAsked root nodes.now backs.now at n lag table area.old }
-    ensures { Wrote (lut_bytes false (lut_of root nodes.now backs.now at n lag table)) area.old area.new result }
+fn write_lut(root: usize, leaves: Leaves, lag: i64, table: u64, area: &mut [u8]) -> usize
+    requires { LutAsked root leaves.nodes.now leaves.backs.now leaves.at leaves.n lag table area.old }
+    ensures { Wrote (lut_bytes false (lut_of root leaves.entry.nodes.now leaves.entry.backs.now leaves.entry.at leaves.entry.n lag table)) area.old area.new result }
 {
-    let map = leaf_map(backs, at, n) + lag_flag(lag);
-    let a = write_head(root, n, map, area);
-    let b = a + write_leaves(nodes, backs, at, n, &mut area[a..]);
-    b + write_values(lag, table, n, &mut area[b..])
+    let map = leaf_map(leaves.backs, leaves.at, leaves.n) + lag_flag(lag);
+    let a = write_head(root, leaves.n, map, area);
+    let b = a + write_leaves(leaves, &mut area[a..]);
+    b + write_values(lag, table, leaves.n, &mut area[b..])
 }
 
 // The LUT of gate g, where it has one, with the short form of its table.
-fn write_gate(
-    s: CoverHead,
-    labels: &[i64],
-    rows: &[usize],
-    tables: &[u64],
-    g: usize,
-    area: &mut [u8],
-) -> usize
-    requires gate_asked { GateAsked (kept_in s.inputs s.gates s.period labels.now rows.now tables.now) g area.old }
-    requires gates_in_bounds { row_room s.gates ≤ length rows.now }
-    ensures { Wrote (bytes_at (kept_in s.inputs s.gates s.period labels.now rows.now tables.now) g) area.old area.new result }
+fn write_gate(k: KeptCover, tables: &[u64], g: usize, area: &mut [u8]) -> usize
+    requires gate_asked { GateAsked (kept_in k.head.inputs k.head.gates k.head.period k.labels.now k.rows.now tables.now) g area.old }
+    requires gates_in_bounds { row_room k.head.gates ≤ length k.rows.now }
+    ensures { Wrote (bytes_at (kept_in k.entry.head.inputs k.entry.head.gates k.entry.head.period k.entry.labels.now k.entry.rows.now tables.now) g) area.old area.new result }
 {
-    if rows[g] == 0 {
+    if k.rows[g] == 0 {
         return 0;
     }
-    let root = s.inputs + g;
-    let lag = lag_of(labels[root], s.period);
-    let n = rows[s.gates + g];
+    let root = k.head.inputs + g;
+    let lag = lag_of(k.labels[root], k.head.period);
+    let n = k.rows[k.head.gates + g];
     let table = low(tables[g], n);
-    let a = 2 * s.gates;
-    let b = (2 + PINS) * s.gates;
-    write_lut(root, &rows[a..], &rows[b..], PINS * g, n, lag, table, area)
+    let a = 2 * k.head.gates;
+    let b = (2 + PINS) * k.head.gates;
+    let leaves = Leaves {
+        nodes: &k.rows[a..],
+        backs: &k.rows[b..],
+        at: PINS * g,
+        n,
+    };
+    write_lut(root, leaves, lag, table, area)
 }
 
 // The LUTs, each behind the last.
-fn write_luts(
-    s: CoverHead,
-    labels: &[i64],
-    rows: &[usize],
-    tables: &[u64],
-    area: &mut [u8],
-) -> usize
-    requires luts_asked { LutsAsked (kept_in s.inputs s.gates s.period labels.now rows.now tables.now) area.old }
-    requires gates_in_bounds { row_room s.gates ≤ length rows.now }
-    ensures { Wrote (all_lut_bytes false (entries_in (kept_in s.inputs s.gates s.period labels.now rows.now tables.now))) area.old area.new result }
+fn write_luts(k: KeptCover, tables: &[u64], area: &mut [u8]) -> usize
+    requires luts_asked { LutsAsked (kept_in k.head.inputs k.head.gates k.head.period k.labels.now k.rows.now tables.now) area.old }
+    requires gates_in_bounds { row_room k.head.gates ≤ length k.rows.now }
+    ensures { Wrote (all_lut_bytes false (entries_in (kept_in k.entry.head.inputs k.entry.head.gates k.entry.head.period k.entry.labels.now k.entry.rows.now tables.now))) area.old area.new result }
 {
-    let gates = s.gates;
     let mut at = 0;
-    for g in 0..gates {
-        at += write_gate(s, labels, rows, tables, g, &mut area[at..]);
+    for g in 0..k.head.gates {
+        at += write_gate(k, tables, g, &mut area[at..]);
     }
     at
 }
@@ -260,5 +260,10 @@ pub fn write_cover(
 {
     let count = count_luts(rows, s.gates);
     let at = write_front(s.period, count, area);
-    at + write_luts(s, labels, rows, tables, &mut area[at..])
+    let k = KeptCover {
+        head: s,
+        labels,
+        rows,
+    };
+    at + write_luts(k, tables, &mut area[at..])
 }

@@ -58,33 +58,33 @@ module _ (a : Kept) (g : ℕ) {area : List ℕ} (p : GateAsked a g area) (m : ge
         room = rw (at_some a g m) at p.room;
       }
 
-pub returns-then-rows-g-eq0 : goal.returns-then-rows-g-eq0
-returns-then-rows-g-eq0 c =
+pub returns-then-k-g-eq0 : goal.returns-then-k-g-eq0
+returns-then-k-g-eq0 c =
     let a = c.args in
-    rw (at_none (kept_in a.s.inputs a.s.gates a.s.period a.labels.now a.rows.now a.tables.now) a.g c.if-rows-g-eq0.true) (wrote_none a.area.now)
+    rw (at_none (kept_in a.k.head.inputs a.k.head.gates a.k.head.period a.k.labels.now a.k.rows.now a.tables.now) a.g c.if-k-g-eq0.true) (wrote_none a.area.now)
 
 pub write_lut-requires : goal.write_lut-requires
 unfolding label
 write_lut-requires c =
     let lag-of = c.lag_of-lag in
-    let if1 = c.if-rows-g-eq0 in
+    let if1 = c.if-k-g-eq0 in
     let start = c in
     let a = c.args in
-    let k = (kept_in a.s.inputs a.s.gates a.s.period a.labels.now a.rows.now a.tables.now) in
-    let v = lag a.s.period (get_or a.labels.now (a.s.inputs + a.g) (pos 0)) in
+    let k = (kept_in a.k.head.inputs a.k.head.gates a.k.head.period a.k.labels.now a.k.rows.now a.tables.now) in
+    let v = lag a.k.head.period (get_or a.k.labels.now (a.k.head.inputs + a.g) (pos 0)) in
     rw (c.low-table.ensures, lagged k a.g c.requires.gate_asked if1.false lag-of.result lag-of.ensures)
-    (row-lent a.s.gates a.rows.now (λ (no ba : List ℕ) (n : ℕ). LutAsked (a.s.inputs + a.g) no ba (stride * a.g) n v (short_table n (get_or a.tables.now a.g 0)) a.area.now) a.g
+    (row-lent a.k.head.gates a.k.rows.now (λ (no ba : List ℕ) (n : ℕ). LutAsked (a.k.head.inputs + a.g) no ba (stride * a.g) n v (short_table n (get_or a.tables.now a.g 0)) a.area.now) a.g
     (lut-asked k a.g c.requires.gate_asked if1.false))
 
 pub returns : goal.returns
 unfolding label
 returns c =
     let lag-of = c.lag_of-lag in
-    let if1 = c.if-rows-g-eq0 in
+    let if1 = c.if-k-g-eq0 in
     let start = c in
     let a = c.args in
-    let k = (kept_in a.s.inputs a.s.gates a.s.period a.labels.now a.rows.now a.tables.now) in
-    let v = lag a.s.period (get_or a.labels.now (a.s.inputs + a.g) (pos 0)) in
+    let k = (kept_in a.k.head.inputs a.k.head.gates a.k.head.period a.k.labels.now a.k.rows.now a.tables.now) in
+    let v = lag a.k.head.period (get_or a.k.labels.now (a.k.head.inputs + a.g) (pos 0)) in
     rw (at_some k a.g if1.false)
-    (row-whole a.s.gates a.rows.now (λ (no ba : List ℕ) (n : ℕ). Wrote (lut_bytes false (lut_of (a.s.inputs + a.g) no ba (stride * a.g) n v (short_table n (get_or a.tables.now a.g 0)))) a.area.now c.write_lut.new.area c.write_lut.result) a.g
+    (row-whole a.k.head.gates a.k.rows.now (λ (no ba : List ℕ) (n : ℕ). Wrote (lut_bytes false (lut_of (a.k.head.inputs + a.g) no ba (stride * a.g) n v (short_table n (get_or a.tables.now a.g 0)))) a.area.now c.write_lut.new.area c.write_lut.result) a.g
     (rw (c.low-table.ensures, lagged k a.g c.requires.gate_asked if1.false lag-of.result lag-of.ensures) at c.write_lut.ensures))

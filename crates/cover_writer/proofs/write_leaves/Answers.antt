@@ -27,10 +27,10 @@ write_nodes-a-requires c = let p = c.requires in
 pub write_depths-requires : goal.write_depths-requires
 write_depths-requires c = let start = c in
     let p = c.requires in
-    record { n_in_bounds = (p.backs_held, room-behind (depths (copies_from [] c.args.backs.now c.args.at c.args.n)) c.write_nodes-a.ensures (both p)); below = p.backs_small }
+    record { n_in_bounds = (p.backs_held, room-behind (depths (copies_from [] c.args.leaves.backs.now c.args.leaves.at c.args.leaves.n)) c.write_nodes-a.ensures (both p)); below = p.backs_small }
 
 pub returns : goal.returns
 returns c =
     let start = c in
-    rw (leaf-bytes c.args.nodes.now c.args.backs.now c.args.at c.args.n)
+    rw (leaf-bytes c.args.leaves.nodes.now c.args.leaves.backs.now c.args.leaves.at c.args.leaves.n)
     (wrote-behind c.write_nodes-a.ensures c.write_depths.ensures)

@@ -75,7 +75,7 @@ write_leaves-requires c =
       backs_held = p.backs_held;
       nodes_small = p.nodes_small;
       backs_small = p.backs_small;
-      room = room-behind (leaf_bytes (copies_from c.args.nodes.now c.args.backs.now c.args.at c.args.n)) w (two p);
+      room = room-behind (leaf_bytes (copies_from c.args.leaves.nodes.now c.args.leaves.backs.now c.args.leaves.at c.args.leaves.n)) w (two p);
     }
 
 pub write_values-requires : goal.write_values-requires
@@ -85,7 +85,7 @@ write_values-requires c = let start = c in
     c.lag_flag.ensures c.write_head-a.ensures
     in
     rw (back c.args.lag (lag-fits p.small_lag))
-    record { small_lag = (p.small_lag, p.few); table_in_bounds = room-behind (value_bytes c.args.lag c.args.n c.args.table) (wrote-behind w c.write_leaves.ensures) (three-parts p) }
+    record { small_lag = (p.small_lag, p.few); table_in_bounds = room-behind (value_bytes c.args.lag c.args.leaves.n c.args.table) (wrote-behind w c.write_leaves.ensures) (three-parts p) }
 
 pub returns : goal.returns
 unfolding mapOf
@@ -95,6 +95,6 @@ returns c =
     let w = headed p c.leaf_map.ensures
     c.lag_flag.ensures
     c.write_head-a.ensures in
-    rw (lut-bytes c.args.root c.args.nodes.now c.args.backs.now c.args.at c.args.n c.args.lag c.args.table)
+    rw (lut-bytes c.args.root c.args.leaves.nodes.now c.args.leaves.backs.now c.args.leaves.at c.args.leaves.n c.args.lag c.args.table)
     (wrote-behind (wrote-behind w c.write_leaves.ensures)
-    (stored c.args.n c.args.table p.small_lag c.write_values.ensures))
+    (stored c.args.leaves.n c.args.table p.small_lag c.write_values.ensures))

@@ -5,4 +5,4 @@ use Rattle.cover_writer.proofs.write_luts.Given as goal
 
 abbrev pub invariant-loop-g : goal.invariant-loop-g
 invariant-loop-g l =
-    Wrote (bytes_to (kept_in l.s.inputs l.s.gates l.s.period l.labels l.rows l.tables) l.g) l.initial.area l.area l.at
+    Wrote (bytes_to (kept_in l.k.head.inputs l.k.head.gates l.k.head.period l.k.labels.now l.k.rows.now l.tables) l.g) l.initial.area l.area l.at
