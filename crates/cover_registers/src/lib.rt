@@ -14,7 +14,7 @@ ghost use Rattle.limits.specs.Limits.{depth_room};
 ghost use Rattle.cover_registers.specs.Counting.{Within, Counted, marking, registers_of, LagsHeld, LeavesHeld};
 
 use cover_tally::Tally;
-use cover_writer::CoverHead;
+use cover_writer::{CoverHead, KeptCover, Leaves};
 use limits::PINS;
 use signed::{lag_of, whole};
 
@@ -54,80 +54,60 @@ pub fn lag_at(s: CoverHead, labels: &[i64], rows: &[usize], u: usize) -> i64
 }
 
 // A connection, or an output with `own` 0: node u is read through d registers, before moving.
-fn take_reader(
-    tally: Tally,
-    s: CoverHead,
-    labels: &[i64],
-    rows: &[usize],
-    own: i64,
-    u: usize,
-    d: usize,
-) -> Tally
-    requires lags_held { LagsHeld (marking s.inputs s.gates s.period labels.now rows.now) }
+fn take_reader(tally: Tally, k: KeptCover, own: i64, u: usize, d: usize) -> Tally
+    requires lags_held { LagsHeld (marking k.head.inputs k.head.gates k.head.period k.labels.now k.rows.now) }
     requires d_lt_depth_room { (d < depth_room) × Within 128 own }
-    ensures { Took (tap u ((pos d +ℤ own) -ℤ lag_in (entries_in (marking s.inputs s.gates s.period labels.now rows.now)) u) ∷ []) tally.places result.places }
+    ensures { Took (tap u ((pos d +ℤ own) -ℤ lag_in (entries_in (marking k.entry.head.inputs k.entry.head.gates k.entry.head.period k.entry.labels.now k.entry.rows.now)) u) ∷ []) tally.places result.places }
 {
-    let other = lag_at(s, labels, rows, u);
+    let other = lag_at(k.head, k.labels, k.rows, u);
     let number = counted(moved(d, own, other));
     tally.take(u, number)
 }
 
-// n leaves, from place p on, of a LUT with this lag, or with lag 0 n outputs.
-fn take_leaves(
-    mut tally: Tally,
-    s: CoverHead,
-    labels: &[i64],
-    rows: &[usize],
-    nodes: &[usize],
-    backs: &[usize],
-    own: i64,
-    p: usize,
-    n: usize,
-) -> Tally
-    requires lags_held { LagsHeld (marking s.inputs s.gates s.period labels.now rows.now) }
-    requires n_in_bounds { (p + n ≤ length nodes.now) × (p + n ≤ length backs.now) }
-    requires below { Below depth_room backs.now p n × Within 128 own }
-    ensures { Took (leaf_taps (entries_in (marking s.inputs s.gates s.period labels.now rows.now)) own (copies_from nodes.now backs.now p n)) tally.places result.places }
+// Leaves of a LUT with this lag, or with lag 0 outputs.
+fn take_leaves(mut tally: Tally, k: KeptCover, leaves: Leaves, own: i64) -> Tally
+    requires lags_held { LagsHeld (marking k.head.inputs k.head.gates k.head.period k.labels.now k.rows.now) }
+    requires n_in_bounds { (leaves.at + leaves.n ≤ length leaves.nodes.now) × (leaves.at + leaves.n ≤ length leaves.backs.now) }
+    requires below { Below depth_room leaves.backs.now leaves.at leaves.n × Within 128 own }
+    ensures { Took (leaf_taps (entries_in (marking k.entry.head.inputs k.entry.head.gates k.entry.head.period k.entry.labels.now k.entry.rows.now)) own (copies_from leaves.entry.nodes.now leaves.entry.backs.now leaves.entry.at leaves.entry.n)) tally.places result.places }
 {
-    for j in 0..n {
-        tally = take_reader(tally, s, labels, rows, own, nodes[p + j], backs[p + j]);
+    for j in 0..leaves.n {
+        let u = leaves.nodes[leaves.at + j];
+        let d = leaves.backs[leaves.at + j];
+        tally = take_reader(tally, k, own, u, d);
     }
     tally
 }
 
 // The leaves of the LUT of gate g, where it has one.
-fn take_gate(tally: Tally, s: CoverHead, labels: &[i64], rows: &[usize], g: usize) -> Tally
-    requires leaves_held { LeavesHeld (kept_in s.inputs s.gates s.period labels.now rows.now []) }
-    requires g_lt_gates { (g < s.gates) × (row_room s.gates ≤ length rows.now) }
-    ensures { Took (lut_taps (entries_in (marking s.inputs s.gates s.period labels.now rows.now)) (entries_from (kept_in s.inputs s.gates s.period labels.now rows.now []) g 1)) tally.places result.places }
+fn take_gate(tally: Tally, k: KeptCover, g: usize) -> Tally
+    requires leaves_held { LeavesHeld (kept_in k.head.inputs k.head.gates k.head.period k.labels.now k.rows.now []) }
+    requires g_lt_gates { (g < k.head.gates) × (row_room k.head.gates ≤ length k.rows.now) }
+    ensures { Took (lut_taps (entries_in (marking k.entry.head.inputs k.entry.head.gates k.entry.head.period k.entry.labels.now k.entry.rows.now)) (entries_from (kept_in k.entry.head.inputs k.entry.head.gates k.entry.head.period k.entry.labels.now k.entry.rows.now []) g 1)) tally.places result.places }
 {
-    if rows[g] == 0 {
+    if k.rows[g] == 0 {
         return tally;
     }
-    let own = lag_at(s, labels, rows, s.inputs + g);
-    let a = 2 * s.gates;
-    let b = (2 + PINS) * s.gates;
-    take_leaves(
-        tally,
-        s,
-        labels,
-        rows,
-        &rows[a..],
-        &rows[b..],
-        own,
-        PINS * g,
-        rows[s.gates + g],
-    )
+    let own = lag_at(k.head, k.labels, k.rows, k.head.inputs + g);
+    let a = 2 * k.head.gates;
+    let b = (2 + PINS) * k.head.gates;
+    let leaves = Leaves {
+        nodes: &k.rows[a..],
+        backs: &k.rows[b..],
+        at: PINS * g,
+        n: k.rows[k.head.gates + g],
+    };
+    take_leaves(tally, k, leaves, own)
 }
 
 // The leaves of all LUTs.
-fn take_luts(mut tally: Tally, s: CoverHead, labels: &[i64], rows: &[usize]) -> Tally
-    requires leaves_held { LeavesHeld (kept_in s.inputs s.gates s.period labels.now rows.now []) }
-    requires gates_in_bounds { row_room s.gates ≤ length rows.now }
-    ensures { Took (lut_taps (entries_in (marking s.inputs s.gates s.period labels.now rows.now)) (entries_from (kept_in s.inputs s.gates s.period labels.now rows.now []) 0 s.gates)) tally.places result.places }
+fn take_luts(mut tally: Tally, k: KeptCover) -> Tally
+    requires leaves_held { LeavesHeld (kept_in k.head.inputs k.head.gates k.head.period k.labels.now k.rows.now []) }
+    requires gates_in_bounds { row_room k.head.gates ≤ length k.rows.now }
+    ensures { Took (lut_taps (entries_in (marking k.entry.head.inputs k.entry.head.gates k.entry.head.period k.entry.labels.now k.entry.rows.now)) (entries_from (kept_in k.entry.head.inputs k.entry.head.gates k.entry.head.period k.entry.labels.now k.entry.rows.now []) 0 k.entry.head.gates)) tally.places result.places }
 {
-    for g in 0..s.gates {
-        tally = take_gate(tally, s, labels, rows, g);
+    for g in 0..k.head.gates {
+        tally = take_gate(tally, k, g);
     }
     tally
 }
@@ -147,8 +127,19 @@ pub fn count_registers(
     requires gates_in_bounds { row_room s.gates ≤ length rows.now }
     ensures { result ≡ registers_of (kept_in s.inputs s.gates s.period labels.now rows.now []) outs.now delays.now n }
 {
+    let k = KeptCover {
+        head: s,
+        labels,
+        rows,
+    };
+    let outputs = Leaves {
+        nodes: outs,
+        backs: delays,
+        at: 0,
+        n,
+    };
     let empty = Tally::new();
-    let luts = take_luts(empty, s, labels, rows);
-    let all = take_leaves(luts, s, labels, rows, outs, delays, 0, 0, n);
+    let luts = take_luts(empty, k);
+    let all = take_leaves(luts, k, outputs, 0);
     all.total()
 }

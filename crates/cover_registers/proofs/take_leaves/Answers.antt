@@ -10,12 +10,12 @@ use Rattle.cover_registers.proofs.take_leaves.Goals as goal
 pub loop-j-init : goal.loop-j-init
 loop-j-init c =
     let s = c.args in
-    let es = entries_in (marking s.s.inputs s.s.gates s.s.period s.labels.now s.rows.now) in
-    took_same (sym (leaf-none es (to_z w64 (of_z w64 s.own)) s.nodes.now s.backs.now s.p)) (took_none s.tally.places)
+    let es = entries_in (marking s.k.head.inputs s.k.head.gates s.k.head.period s.k.labels.now s.k.rows.now) in
+    took_same (sym (leaf-none es (to_z w64 (of_z w64 s.own)) s.leaves.nodes.now s.leaves.backs.now s.leaves.at)) (took_none s.tally.places)
 
 pub loop-j-preserved : goal.loop-j-preserved
 loop-j-preserved c =
     let s = c.args in
-    let es = entries_in (marking s.s.inputs s.s.gates s.s.period s.labels.now s.rows.now) in
+    let es = entries_in (marking s.k.head.inputs s.k.head.gates s.k.head.period s.k.labels.now s.k.rows.now) in
     let l = c.loop-j in
-    took_same (leaf-more es (to_z w64 (of_z w64 s.own)) s.nodes.now s.backs.now s.p l.j) (took_then l.invariant c.take_reader-tally.ensures)
+    took_same (leaf-more es (to_z w64 (of_z w64 s.own)) s.leaves.nodes.now s.leaves.backs.now s.leaves.at l.j) (took_then l.invariant c.take_reader-tally.ensures)

@@ -9,12 +9,12 @@ use Rattle.cover_registers.proofs.take_luts.Goals as goal
 pub loop-g-init : goal.loop-g-init
 loop-g-init c =
     let s = c.args in
-    let a = kept_in s.s.inputs s.s.gates s.s.period s.labels.now s.rows.now [] in
+    let a = kept_in s.k.head.inputs s.k.head.gates s.k.head.period s.k.labels.now s.k.rows.now [] in
     took_same (sym (luts-none (lags_of a) a)) (took_none s.tally.places)
 
 pub loop-g-preserved : goal.loop-g-preserved
 loop-g-preserved c =
     let s = c.args in
-    let a = kept_in s.s.inputs s.s.gates s.s.period s.labels.now s.rows.now [] in
+    let a = kept_in s.k.head.inputs s.k.head.gates s.k.head.period s.k.labels.now s.k.rows.now [] in
     let l = c.loop-g in
     took_same (luts-more (lags_of a) a l.g) (took_then l.invariant c.take_gate-tally.ensures)

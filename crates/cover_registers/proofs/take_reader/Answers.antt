@@ -11,7 +11,7 @@ returns c =
     let start = c in
     let s = c.args in
     let p = c.requires.d_lt_depth_room in
-    let es = entries_in (marking s.s.inputs s.s.gates s.s.period s.labels.now s.rows.now) in
+    let es = entries_in (marking s.k.head.inputs s.k.head.gates s.k.head.period s.k.labels.now s.k.rows.now) in
     took_up s.u ((pos s.d +ℤ s.own) -ℤ lag_in es s.u) c.counted-number.result
     (moved-counted s.d p.1 c.lag_at-other.ensures c.moved.ensures p.0 c.counted-number.result c.counted-number.ensures)
     c.take.ensures
