@@ -9,41 +9,27 @@ ghost use Rattle.run_step.specs.Stepping.{Valued, next_byte, AdvanceAsked, Advan
 use inputs::byte_at;
 use net_marks::zero;
 use net_reader::{NetSizes, order_at};
-use run_values::{node_value, told_value};
+use run_values::{Sheet, node_value, told_value};
 
 // The values of all gates, in check 9's order: what drives a gate without a register is known before the gate, so that calls nest three deep: gate, pin, node.
-fn value_gates(
-    z: NetSizes,
-    net: &[usize],
-    tables: &[u64],
-    kept: &[u8],
-    word: u64,
-    known: &mut [usize],
-)
-    requires { StepReady (sheet z net.now tables.now kept.now word) known.old }
-    ensures { Valued (sheet z net.now tables.now kept.now word) known.old known.new }
+fn value_gates(s: Sheet, known: &mut [usize])
+    requires { StepReady (sheet s.z s.net.now s.tables.now s.kept.now s.word) known.old }
+    ensures { Valued (sheet s.entry.z s.entry.net.now s.entry.tables.now s.entry.kept.now s.entry.word) known.old known.new }
 {
-    let at = order_at(z, net);
-    for i in 0..z.gates {
-        let g = net[at + i];
-        node_value(z, net, tables, kept, word, known, z.inputs + g, 0);
+    let at = order_at(s.z, s.net);
+    for i in 0..s.z.gates {
+        let g = s.net[at + i];
+        node_value(s, known, s.z.inputs + g, 0);
     }
 }
 
 // The values of all gates, whatever was noted before.
-pub fn value_all(
-    z: NetSizes,
-    net: &[usize],
-    tables: &[u64],
-    kept: &[u8],
-    word: u64,
-    known: &mut [usize],
-)
-    requires { StepAsked z net.now tables.now kept.now known.old }
-    ensures { Valued (sheet z net.now tables.now kept.now word) known.old known.new }
+pub fn value_all(s: Sheet, known: &mut [usize])
+    requires { StepAsked s.z s.net.now s.tables.now s.kept.now known.old }
+    ensures { Valued (sheet s.entry.z s.entry.net.now s.entry.tables.now s.entry.kept.now s.entry.word) known.old known.new }
 {
     zero(known);
-    value_gates(z, net, tables, kept, word, known);
+    value_gates(s, known);
 }
 
 // A byte of what is kept, one step on.
@@ -77,7 +63,14 @@ pub fn step(
     requires { StepAsked z net.now tables.now kept.old known.old }
     ensures { StepTold (sheet z net.now tables.now kept.old word) kept.new known.old known.new }
 {
-    value_all(z, net, tables, kept, word, known);
+    let s = Sheet {
+        z,
+        net,
+        tables,
+        kept,
+        word,
+    };
+    value_all(s, known);
     advance(z, word, known, kept);
 }
 

@@ -11,6 +11,16 @@ use cone_words::value_at;
 use limits::PINS;
 use net_reader::NetSizes;
 
+// What a step is worked out from: the net in its slices, a byte a node of what is kept, and the inputs of the step as a number.
+#[derive(Clone, Copy)]
+pub struct Sheet<'a> {
+    pub z: NetSizes,
+    pub net: &'a [usize],
+    pub tables: &'a [u64],
+    pub kept: &'a [u8],
+    pub word: u64,
+}
+
 // Bit i of a number.
 fn bit_of(x: u64, i: usize) -> usize
     requires { i < 64 }
@@ -43,47 +53,30 @@ pub fn told_value(
 
 // Gate evaluation: the value of a node some steps back. A gate's value of this step comes from its pins, the last one first.
 #[cycle(node_value_pin_value)]
-pub fn node_value(
-    z: NetSizes,
-    net: &[usize],
-    tables: &[u64],
-    kept: &[u8],
-    word: u64,
-    known: &mut [usize],
-    v: usize,
-    back: usize,
-) -> usize
-    requires { NodeAsked (sheet z net.now tables.now kept.now word) known.old v back }
-    ensures { NodeTold (sheet z net.now tables.now kept.now word) known.old known.new v back result }
+pub fn node_value(s: Sheet, known: &mut [usize], v: usize, back: usize) -> usize
+    requires { NodeAsked (sheet s.z s.net.now s.tables.now s.kept.now s.word) known.old v back }
+    ensures { NodeTold (sheet s.entry.z s.entry.net.now s.entry.tables.now s.entry.kept.now s.entry.word) known.old known.new v back result }
 {
-    if let Some(value) = told_value(z, kept, word, known, v, back) {
+    if let Some(value) = told_value(s.z, s.kept, s.word, known, v, back) {
         return value;
     }
-    let g = v - z.inputs;
+    let g = v - s.z.inputs;
     let mut at = 0;
-    for j in (0..net[g]).rev() {
-        at = 2 * at + pin_value(z, net, tables, kept, word, known, PINS * g + j);
+    for j in (0..s.net[g]).rev() {
+        at = 2 * at + pin_value(s, known, PINS * g + j);
     }
-    let value = bit_of(tables[g], at);
+    let value = bit_of(s.tables[g], at);
     known[g] = value + 1;
     value
 }
 
 // Pin evaluation: the value of the node behind the pin, as many steps back as the pin has registers.
 #[cycle(node_value_pin_value)]
-fn pin_value(
-    z: NetSizes,
-    net: &[usize],
-    tables: &[u64],
-    kept: &[u8],
-    word: u64,
-    known: &mut [usize],
-    p: usize,
-) -> usize
-    requires { PinAsked (sheet z net.now tables.now kept.now word) known.old p }
-    ensures { PinTold (sheet z net.now tables.now kept.now word) known.old known.new p result }
+fn pin_value(s: Sheet, known: &mut [usize], p: usize) -> usize
+    requires { PinAsked (sheet s.z s.net.now s.tables.now s.kept.now s.word) known.old p }
+    ensures { PinTold (sheet s.entry.z s.entry.net.now s.entry.tables.now s.entry.kept.now s.entry.word) known.old known.new p result }
 {
-    let source = net[2 * z.gates + p];
-    let count = net[(2 + PINS) * z.gates + p];
-    node_value(z, net, tables, kept, word, known, source, count)
+    let source = s.net[2 * s.z.gates + p];
+    let count = s.net[(2 + PINS) * s.z.gates + p];
+    node_value(s, known, source, count)
 }

@@ -12,7 +12,7 @@ ghost use Rattle.text_bench.specs.BenchAsked.{DigitsAsked, DigitsTold, LineAsked
 use limits::STEPS;
 use net_reader::{NetSizes, delays_at, outs_at};
 use run_step::{advance, pair_at, steps_of, value_all};
-use run_values::node_value;
+use run_values::{Sheet, node_value};
 use text_digits::put_byte;
 
 // '0' or '1'.
@@ -24,23 +24,14 @@ fn bit_digit(value: usize) -> u8
 }
 
 // The digits of the outputs in a step.
-fn put_outputs(
-    z: NetSizes,
-    net: &[usize],
-    tables: &[u64],
-    kept: &[u8],
-    word: u64,
-    known: &mut [usize],
-    mut at: usize,
-    out: &mut [u8],
-) -> usize
-    requires { DigitsAsked (sheet z net.now tables.now kept.now word) known.old at out.old }
-    ensures { DigitsTold (sheet z net.now tables.now kept.now word) known.old known.new at out.old out.new result }
+fn put_outputs(s: Sheet, known: &mut [usize], mut at: usize, out: &mut [u8]) -> usize
+    requires { DigitsAsked (sheet s.z s.net.now s.tables.now s.kept.now s.word) known.old at out.old }
+    ensures { DigitsTold (sheet s.entry.z s.entry.net.now s.entry.tables.now s.entry.kept.now s.entry.word) known.old known.new at out.old out.new result }
 {
-    let a = outs_at(z, net);
-    let b = delays_at(z, net);
-    for o in 0..z.outputs {
-        let value = node_value(z, net, tables, kept, word, known, net[a + o], net[b + o]);
+    let a = outs_at(s.z, s.net);
+    let b = delays_at(s.z, s.net);
+    for o in 0..s.z.outputs {
+        let value = node_value(s, known, s.net[a + o], s.net[b + o]);
         at = put_byte(bit_digit(value), at, out);
     }
     at
@@ -60,8 +51,15 @@ fn put_step(
     requires { LineAsked z net.now tables.now kept.old known.old at out.old }
     ensures { LineTold (sheet z net.now tables.now kept.old word) kept.new known.old known.new at out.old out.new result }
 {
-    value_all(z, net, tables, kept, word, known);
-    let a = put_outputs(z, net, tables, kept, word, known, at, out);
+    let s = Sheet {
+        z,
+        net,
+        tables,
+        kept,
+        word,
+    };
+    value_all(s, known);
+    let a = put_outputs(s, known, at, out);
     advance(z, word, known, kept);
     put_byte(b'\n', a, out)
 }

@@ -6,5 +6,5 @@ use Rattle.run_step.proofs.value_gates.Goals as goal
 
 pub returns : goal.returns
 returns c =
-    let all : c.loop-i.i ≡ c.args.z.gates = omega arith in
-    ordering_all (subst (Ordering (sheet c.args.z c.args.net.now c.args.tables.now c.args.kept.now c.args.word) c.args.known.now c.loop-i.known) all c.loop-i.invariant)
+    let all : c.loop-i.i ≡ c.args.s.z.gates = omega arith in
+    ordering_all (subst (Ordering (sheet c.args.s.z c.args.s.net.now c.args.s.tables.now c.args.s.kept.now c.args.s.word) c.args.known.now c.loop-i.known) all c.loop-i.invariant)

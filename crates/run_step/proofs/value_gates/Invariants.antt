@@ -3,4 +3,4 @@ use Rattle.run_step.specs.Stepping.{Ordering}
 use Rattle.run_step.proofs.value_gates.Given as goal
 
 abbrev pub invariant-loop-i : goal.invariant-loop-i
-invariant-loop-i l = Ordering (sheet l.z l.net l.tables l.kept l.word) l.initial.known l.known l.i
+invariant-loop-i l = Ordering (sheet l.s.z l.s.net.now l.s.tables.now l.s.kept.now l.s.word) l.initial.known l.known l.i

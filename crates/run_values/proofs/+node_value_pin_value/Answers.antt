@@ -7,7 +7,7 @@ pub node_value-returns-in-Some : goal.node_value-returns-in-Some
 node_value-returns-in-Some t c =
     let a = c.args in
     let same : c.in-Some.value + 1 - 1 ≡ c.in-Some.value = omega arith in
-    subst (NodeTold (sheet a.z a.net.now a.tables.now a.kept.now a.word) a.known.now a.known.now a.v a.back) same (node-told c.requires (sym c.in-Some.ensures) (omega arith))
+    subst (NodeTold (sheet a.s.z a.s.net.now a.s.tables.now a.s.kept.now a.s.word) a.known.now a.known.now a.v a.back) same (node-told c.requires (sym c.in-Some.ensures) (omega arith))
 
 pub node_value-loop-j-init : goal.node_value-loop-j-init
 node_value-loop-j-init t c = (more-none c.requires.ready, node-none c.requires (sym c.in_default.ensures) (omega arith))
