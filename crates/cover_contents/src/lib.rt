@@ -21,7 +21,7 @@ ghost use Rattle.board_theory.specs.Contents.{contents_of};
 ghost use Rattle.cover_contents.specs.Traces.{samples_to, Sampled, Tracing, MostSamples, cells_back, tap_cells, CellsAsked, RegistersAsked, Contenting};
 
 use cover_registers::{counted, lag_at, moved};
-use cover_writer::CoverHead;
+use cover_writer::{CoverHead, KeptCover, Leaves};
 use limits::{COUNT, NODES, PINS};
 use net_reader::{NetSizes, delays_at, outs_at};
 use run_step::{run, step};
@@ -69,13 +69,13 @@ fn samples_to(lag: i64) -> usize
 }
 
 // Those of any node.
-fn most_samples(s: CoverHead, labels: &[i64], rows: &[usize]) -> usize
-    requires { LagsHeld (marking s.inputs s.gates s.period labels.now rows.now) }
-    ensures { MostSamples (marking s.inputs s.gates s.period labels.now rows.now) s.gates result }
+fn most_samples(k: KeptCover) -> usize
+    requires { LagsHeld (marking k.head.inputs k.head.gates k.head.period k.labels.now k.rows.now) }
+    ensures { MostSamples (marking k.entry.head.inputs k.entry.head.gates k.entry.head.period k.entry.labels.now k.entry.rows.now) k.entry.head.gates result }
 {
     let mut most = COUNT;
-    for g in 0..s.gates {
-        most = most.max(samples_to(lag_at(s, labels, rows, s.inputs + g)));
+    for g in 0..k.head.gates {
+        most = most.max(samples_to(lag_at(k.head, k.labels, k.rows, k.head.inputs + g)));
     }
     most
 }
@@ -96,130 +96,92 @@ fn write_cells(trace: &[u8], u: usize, top: usize, n: usize, area: &mut [u8]) ->
 
 // A connection, or an output with `own` 0: node u is read through d registers, before moving.
 fn write_connection(
-    s: CoverHead,
-    labels: &[i64],
-    rows: &[usize],
+    k: KeptCover,
     own: i64,
     u: usize,
     d: usize,
     trace: &[u8],
     area: &mut [u8],
 ) -> usize
-    requires lags_held { LagsHeld (marking s.inputs s.gates s.period labels.now rows.now) }
+    requires lags_held { LagsHeld (marking k.head.inputs k.head.gates k.head.period k.labels.now k.rows.now) }
     requires d_lt_depth_room { (d < depth_room) × Within 128 own }
-    requires cells_asked { CellsAsked trace.now (entries_in (marking s.inputs s.gates s.period labels.now rows.now)) (tap u ((pos d +ℤ own) -ℤ lag_in (entries_in (marking s.inputs s.gates s.period labels.now rows.now)) u) ∷ []) area.old }
-    ensures { Wrote (tap_cells trace.now (entries_in (marking s.inputs s.gates s.period labels.now rows.now)) (tap u ((pos d +ℤ own) -ℤ lag_in (entries_in (marking s.inputs s.gates s.period labels.now rows.now)) u) ∷ [])) area.old area.new result }
+    requires cells_asked { CellsAsked trace.now (entries_in (marking k.head.inputs k.head.gates k.head.period k.labels.now k.rows.now)) (tap u ((pos d +ℤ own) -ℤ lag_in (entries_in (marking k.head.inputs k.head.gates k.head.period k.labels.now k.rows.now)) u) ∷ []) area.old }
+    ensures { Wrote (tap_cells trace.now (entries_in (marking k.entry.head.inputs k.entry.head.gates k.entry.head.period k.entry.labels.now k.entry.rows.now)) (tap u ((pos d +ℤ own) -ℤ lag_in (entries_in (marking k.entry.head.inputs k.entry.head.gates k.entry.head.period k.entry.labels.now k.entry.rows.now)) u) ∷ [])) area.old area.new result }
 {
-    let other = lag_at(s, labels, rows, u);
+    let other = lag_at(k.head, k.labels, k.rows, u);
     let n = counted(moved(d, own, other)) as usize;
     write_cells(trace, u, samples_to(other), n, area)
 }
 
-// n leaves, from place p on, of a LUT with this lag, or with lag 0 n outputs.
-fn write_leaves(
-    s: CoverHead,
-    labels: &[i64],
-    rows: &[usize],
-    nodes: &[usize],
-    backs: &[usize],
-    own: i64,
-    p: usize,
-    n: usize,
-    trace: &[u8],
-    area: &mut [u8],
-) -> usize
-    requires lags_held { LagsHeld (marking s.inputs s.gates s.period labels.now rows.now) }
-    requires n_in_bounds { (p + n ≤ length nodes.now) × (p + n ≤ length backs.now) }
-    requires below { Below depth_room backs.now p n × Within 128 own }
-    requires cells_asked { CellsAsked trace.now (entries_in (marking s.inputs s.gates s.period labels.now rows.now)) (leaf_taps (entries_in (marking s.inputs s.gates s.period labels.now rows.now)) own (copies_from nodes.now backs.now p n)) area.old }
-    ensures { Wrote (tap_cells trace.now (entries_in (marking s.inputs s.gates s.period labels.now rows.now)) (leaf_taps (entries_in (marking s.inputs s.gates s.period labels.now rows.now)) own (copies_from nodes.now backs.now p n))) area.old area.new result }
+// Leaves of a LUT with this lag, or with lag 0 outputs.
+fn write_leaves(k: KeptCover, leaves: Leaves, own: i64, trace: &[u8], area: &mut [u8]) -> usize
+    requires lags_held { LagsHeld (marking k.head.inputs k.head.gates k.head.period k.labels.now k.rows.now) }
+    requires n_in_bounds { (leaves.at + leaves.n ≤ length leaves.nodes.now) × (leaves.at + leaves.n ≤ length leaves.backs.now) }
+    requires below { Below depth_room leaves.backs.now leaves.at leaves.n × Within 128 own }
+    requires cells_asked { CellsAsked trace.now (entries_in (marking k.head.inputs k.head.gates k.head.period k.labels.now k.rows.now)) (leaf_taps (entries_in (marking k.head.inputs k.head.gates k.head.period k.labels.now k.rows.now)) own (copies_from leaves.nodes.now leaves.backs.now leaves.at leaves.n)) area.old }
+    ensures { Wrote (tap_cells trace.now (entries_in (marking k.entry.head.inputs k.entry.head.gates k.entry.head.period k.entry.labels.now k.entry.rows.now)) (leaf_taps (entries_in (marking k.entry.head.inputs k.entry.head.gates k.entry.head.period k.entry.labels.now k.entry.rows.now)) own (copies_from leaves.entry.nodes.now leaves.entry.backs.now leaves.entry.at leaves.entry.n))) area.old area.new result }
 {
     let mut at = 0;
-    for j in 0..n {
-        let u = nodes[p + j];
-        let d = backs[p + j];
-        at += write_connection(s, labels, rows, own, u, d, trace, &mut area[at..]);
+    for j in 0..leaves.n {
+        let u = leaves.nodes[leaves.at + j];
+        let d = leaves.backs[leaves.at + j];
+        at += write_connection(k, own, u, d, trace, &mut area[at..]);
     }
     at
 }
 
 // The leaves of the LUT of gate g, where it has one.
-fn write_gate(
-    s: CoverHead,
-    labels: &[i64],
-    rows: &[usize],
-    g: usize,
-    trace: &[u8],
-    area: &mut [u8],
-) -> usize
-    requires leaves_held { LeavesHeld (kept_in s.inputs s.gates s.period labels.now rows.now []) }
-    requires g_lt_gates { (g < s.gates) × (row_room s.gates ≤ length rows.now) }
-    requires cells_asked { CellsAsked trace.now (entries_in (marking s.inputs s.gates s.period labels.now rows.now)) (lut_taps (entries_in (marking s.inputs s.gates s.period labels.now rows.now)) (entries_from (kept_in s.inputs s.gates s.period labels.now rows.now []) g 1)) area.old }
-    ensures { Wrote (tap_cells trace.now (entries_in (marking s.inputs s.gates s.period labels.now rows.now)) (lut_taps (entries_in (marking s.inputs s.gates s.period labels.now rows.now)) (entries_from (kept_in s.inputs s.gates s.period labels.now rows.now []) g 1))) area.old area.new result }
+fn write_gate(k: KeptCover, g: usize, trace: &[u8], area: &mut [u8]) -> usize
+    requires leaves_held { LeavesHeld (kept_in k.head.inputs k.head.gates k.head.period k.labels.now k.rows.now []) }
+    requires g_lt_gates { (g < k.head.gates) × (row_room k.head.gates ≤ length k.rows.now) }
+    requires cells_asked { CellsAsked trace.now (entries_in (marking k.head.inputs k.head.gates k.head.period k.labels.now k.rows.now)) (lut_taps (entries_in (marking k.head.inputs k.head.gates k.head.period k.labels.now k.rows.now)) (entries_from (kept_in k.head.inputs k.head.gates k.head.period k.labels.now k.rows.now []) g 1)) area.old }
+    ensures { Wrote (tap_cells trace.now (entries_in (marking k.entry.head.inputs k.entry.head.gates k.entry.head.period k.entry.labels.now k.entry.rows.now)) (lut_taps (entries_in (marking k.entry.head.inputs k.entry.head.gates k.entry.head.period k.entry.labels.now k.entry.rows.now)) (entries_from (kept_in k.entry.head.inputs k.entry.head.gates k.entry.head.period k.entry.labels.now k.entry.rows.now []) g 1))) area.old area.new result }
 {
-    if rows[g] == 0 {
+    if k.rows[g] == 0 {
         return 0;
     }
-    let own = lag_at(s, labels, rows, s.inputs + g);
-    let a = 2 * s.gates;
-    let b = (2 + PINS) * s.gates;
-    write_leaves(
-        s,
-        labels,
-        rows,
-        &rows[a..],
-        &rows[b..],
-        own,
-        PINS * g,
-        rows[s.gates + g],
-        trace,
-        area,
-    )
+    let own = lag_at(k.head, k.labels, k.rows, k.head.inputs + g);
+    let a = 2 * k.head.gates;
+    let b = (2 + PINS) * k.head.gates;
+    let leaves = Leaves {
+        nodes: &k.rows[a..],
+        backs: &k.rows[b..],
+        at: PINS * g,
+        n: k.rows[k.head.gates + g],
+    };
+    write_leaves(k, leaves, own, trace, area)
 }
 
 // The leaves of all LUTs.
-fn write_luts(s: CoverHead, labels: &[i64], rows: &[usize], trace: &[u8], area: &mut [u8]) -> usize
-    requires leaves_held { LeavesHeld (kept_in s.inputs s.gates s.period labels.now rows.now []) }
-    requires gates_in_bounds { row_room s.gates ≤ length rows.now }
-    requires cells_asked { CellsAsked trace.now (entries_in (marking s.inputs s.gates s.period labels.now rows.now)) (lut_taps (entries_in (marking s.inputs s.gates s.period labels.now rows.now)) (entries_from (kept_in s.inputs s.gates s.period labels.now rows.now []) 0 s.gates)) area.old }
-    ensures { Wrote (tap_cells trace.now (entries_in (marking s.inputs s.gates s.period labels.now rows.now)) (lut_taps (entries_in (marking s.inputs s.gates s.period labels.now rows.now)) (entries_from (kept_in s.inputs s.gates s.period labels.now rows.now []) 0 s.gates))) area.old area.new result }
+fn write_luts(k: KeptCover, trace: &[u8], area: &mut [u8]) -> usize
+    requires leaves_held { LeavesHeld (kept_in k.head.inputs k.head.gates k.head.period k.labels.now k.rows.now []) }
+    requires gates_in_bounds { row_room k.head.gates ≤ length k.rows.now }
+    requires cells_asked { CellsAsked trace.now (entries_in (marking k.head.inputs k.head.gates k.head.period k.labels.now k.rows.now)) (lut_taps (entries_in (marking k.head.inputs k.head.gates k.head.period k.labels.now k.rows.now)) (entries_from (kept_in k.head.inputs k.head.gates k.head.period k.labels.now k.rows.now []) 0 k.head.gates)) area.old }
+    ensures { Wrote (tap_cells trace.now (entries_in (marking k.entry.head.inputs k.entry.head.gates k.entry.head.period k.entry.labels.now k.entry.rows.now)) (lut_taps (entries_in (marking k.entry.head.inputs k.entry.head.gates k.entry.head.period k.entry.labels.now k.entry.rows.now)) (entries_from (kept_in k.entry.head.inputs k.entry.head.gates k.entry.head.period k.entry.labels.now k.entry.rows.now []) 0 k.entry.head.gates))) area.old area.new result }
 {
     let mut at = 0;
-    for g in 0..s.gates {
-        at += write_gate(s, labels, rows, g, trace, &mut area[at..]);
+    for g in 0..k.head.gates {
+        at += write_gate(k, g, trace, &mut area[at..]);
     }
     at
 }
 
 // The leaves of all LUTs, then all outputs.
-fn write_registers(
-    z: NetSizes,
-    net: &[usize],
-    s: CoverHead,
-    labels: &[i64],
-    rows: &[usize],
-    trace: &[u8],
-    area: &mut [u8],
-)
-    requires registers_asked { RegistersAsked z net.now (kept_in s.inputs s.gates s.period labels.now rows.now []) trace.now area.old }
-    requires gates_in_bounds { row_room s.gates ≤ length rows.now }
-    ensures { area.new ≡ written (tap_cells trace.now (lags_of (kept_in s.inputs s.gates s.period labels.now rows.now [])) (taps_of (kept_in s.inputs s.gates s.period labels.now rows.now []) (outs_of z net.now) (delays_of z net.now) z.outputs)) area.old }
+fn write_registers(z: NetSizes, net: &[usize], k: KeptCover, trace: &[u8], area: &mut [u8])
+    requires registers_asked { RegistersAsked z net.now (kept_in k.head.inputs k.head.gates k.head.period k.labels.now k.rows.now []) trace.now area.old }
+    requires gates_in_bounds { row_room k.head.gates ≤ length k.rows.now }
+    ensures { area.new ≡ written (tap_cells trace.now (lags_of (kept_in k.entry.head.inputs k.entry.head.gates k.entry.head.period k.entry.labels.now k.entry.rows.now [])) (taps_of (kept_in k.entry.head.inputs k.entry.head.gates k.entry.head.period k.entry.labels.now k.entry.rows.now []) (outs_of z net.now) (delays_of z net.now) z.outputs)) area.old }
 {
     let a = outs_at(z, net);
     let b = delays_at(z, net);
-    let at = write_luts(s, labels, rows, trace, area);
-    write_leaves(
-        s,
-        labels,
-        rows,
-        &net[a..],
-        &net[b..],
-        0,
-        0,
-        z.outputs,
-        trace,
-        &mut area[at..],
-    );
+    let at = write_luts(k, trace, area);
+    let outputs = Leaves {
+        nodes: &net[a..],
+        backs: &net[b..],
+        at: 0,
+        n: z.outputs,
+    };
+    write_leaves(k, outputs, 0, trace, &mut area[at..]);
 }
 
 // The contents of all registers of the forward cover kept at the step behind the pairs, in front of the contents; the bytes behind them are kept.
@@ -240,7 +202,12 @@ pub fn write_contents(
     ensures { contents.new ≡ written (contents_of (net_in (arrays_of z net.now tables.now)) (as_cover (net_in (arrays_of z net.now tables.now)) (entries_in (kept_in s.inputs s.gates s.period labels.now rows.now []))) (kept_after pairs.now (net_in (arrays_of z net.now tables.now)) kept.old)) contents.old }
 {
     run(z, net, tables, pairs, kept, known);
-    let n = most_samples(s, labels, rows);
+    let k = KeptCover {
+        head: s,
+        labels,
+        rows,
+    };
+    let n = most_samples(k);
     take_trace(z, net, tables, n, kept, known, work);
-    write_registers(z, net, s, labels, rows, work, contents);
+    write_registers(z, net, k, work, contents);
 }

@@ -15,7 +15,7 @@ write_cells-requires c =
     let lag-at = c.lag_at-other in
     let s = c.args in
     let p = c.requires in
-    let es = entries_in (marking s.s.inputs s.s.gates s.s.period s.labels.now s.rows.now) in
+    let es = entries_in (marking s.k.head.inputs s.k.head.gates s.k.head.period s.k.labels.now s.k.rows.now) in
     let parts = connection-asks s.trace.now es s.u ((pos s.d +ℤ s.own) -ℤ lag_in es s.u)
     (moved-counted s.d p.d_lt_depth_room.1 lag-at.ensures c.moved.ensures p.d_lt_depth_room.0 counted.result counted.ensures)
     (c.samples_to.ensures ∙ ap samples_to (told (omega arith) lag-at.ensures)) {area = s.area.now} p.cells_asked in
@@ -27,7 +27,7 @@ returns c =
     let lag-at = c.lag_at-other in
     let s = c.args in
     let p = c.requires in
-    let es = entries_in (marking s.s.inputs s.s.gates s.s.period s.labels.now s.rows.now) in
+    let es = entries_in (marking s.k.head.inputs s.k.head.gates s.k.head.period s.k.labels.now s.k.rows.now) in
     connection-wrote s.trace.now es s.u ((pos s.d +ℤ s.own) -ℤ lag_in es s.u)
     (moved-counted s.d p.d_lt_depth_room.1 lag-at.ensures c.moved.ensures p.d_lt_depth_room.0 counted.result counted.ensures)
     (c.samples_to.ensures ∙ ap samples_to (told (omega arith) lag-at.ensures)) c.write_cells.ensures

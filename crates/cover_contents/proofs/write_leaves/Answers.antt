@@ -30,21 +30,21 @@ module _ (es : List Entry) (r : ℤ) (nodes backs : List ℕ) (p : ℕ) where
 pub loop-j-init : goal.loop-j-init
 loop-j-init c =
     let s = c.args in
-    let es = entries_in (marking s.s.inputs s.s.gates s.s.period s.labels.now s.rows.now) in
-    rw (leaf-none es (to_z w64 (of_z w64 s.own)) s.nodes.now s.backs.now s.p) (rw (taps_none s.trace.now es) (wrote_none s.area.now))
+    let es = entries_in (marking s.k.head.inputs s.k.head.gates s.k.head.period s.k.labels.now s.k.rows.now) in
+    rw (leaf-none es (to_z w64 (of_z w64 s.own)) s.leaves.nodes.now s.leaves.backs.now s.leaves.at) (rw (taps_none s.trace.now es) (wrote_none s.area.now))
 
 pub write_connection-at-requires : goal.write_connection-at-requires
 write_connection-at-requires c =
     let s = c.args in
-    let es = entries_in (marking s.s.inputs s.s.gates s.s.period s.labels.now s.rows.now) in
+    let es = entries_in (marking s.k.head.inputs s.k.head.gates s.k.head.period s.k.labels.now s.k.rows.now) in
     let r = to_z w64 (of_z w64 s.own) in
-    let taken = taps es r s.nodes.now s.backs.now s.p in
-    let next = one es r s.nodes.now s.backs.now s.p in
-    let more = leaf-more es r s.nodes.now s.backs.now s.p in
+    let taken = taps es r s.leaves.nodes.now s.leaves.backs.now s.leaves.at in
+    let next = one es r s.leaves.nodes.now s.leaves.backs.now s.leaves.at in
+    let more = leaf-more es r s.leaves.nodes.now s.leaves.backs.now s.leaves.at in
     let e = told {m = 128} (omega arith) (record { same = refl; within = c.requires.below.1 }) in
-    let q = asked-same s.trace.now es (ap (λ (z : ℤ). leaf_taps es z (copies_from s.nodes.now s.backs.now s.p s.n)) (sym e)) c.requires.cells_asked in
+    let q = asked-same s.trace.now es (ap (λ (z : ℤ). leaf_taps es z (copies_from s.leaves.nodes.now s.leaves.backs.now s.leaves.at s.leaves.n)) (sym e)) c.requires.cells_asked in
     let l = c.loop-j in
-    let h : l.j < s.n = omega arith in
+    let h : l.j < s.leaves.n = omega arith in
     record {
       lags_held = c.requires.lags_held;
       d_lt_depth_room = (c.requires.below.0.each l.j h, rw e c.requires.below.1);
@@ -54,12 +54,12 @@ write_connection-at-requires c =
 pub loop-j-preserved : goal.loop-j-preserved
 loop-j-preserved c =
     let s = c.args in
-    let es = entries_in (marking s.s.inputs s.s.gates s.s.period s.labels.now s.rows.now) in
+    let es = entries_in (marking s.k.head.inputs s.k.head.gates s.k.head.period s.k.labels.now s.k.rows.now) in
     let r = to_z w64 (of_z w64 s.own) in
-    let taken = taps es r s.nodes.now s.backs.now s.p in
-    let next = one es r s.nodes.now s.backs.now s.p in
-    let more = leaf-more es r s.nodes.now s.backs.now s.p in
+    let taken = taps es r s.leaves.nodes.now s.leaves.backs.now s.leaves.at in
+    let next = one es r s.leaves.nodes.now s.leaves.backs.now s.leaves.at in
+    let more = leaf-more es r s.leaves.nodes.now s.leaves.backs.now s.leaves.at in
     let e = told {m = 128} (omega arith) (record { same = refl; within = c.requires.below.1 }) in
-    let q = asked-same s.trace.now es (ap (λ (z : ℤ). leaf_taps es z (copies_from s.nodes.now s.backs.now s.p s.n)) (sym e)) c.requires.cells_asked in
+    let q = asked-same s.trace.now es (ap (λ (z : ℤ). leaf_taps es z (copies_from s.leaves.nodes.now s.leaves.backs.now s.leaves.at s.leaves.n)) (sym e)) c.requires.cells_asked in
     let l = c.loop-j in
     part-wrote s.trace.now es taken next more q l.invariant (omega arith) c.write_connection-at.ensures

@@ -7,4 +7,4 @@ use Rattle.cover_contents.specs.Traces.{tap_cells}
 use Rattle.cover_contents.proofs.write_leaves.Given as goal
 
 abbrev pub invariant-loop-j : goal.invariant-loop-j
-invariant-loop-j l = Wrote (tap_cells l.trace (entries_in (marking l.s.inputs l.s.gates l.s.period l.labels l.rows)) (leaf_taps (entries_in (marking l.s.inputs l.s.gates l.s.period l.labels l.rows)) l.own (copies_from l.nodes l.backs l.p l.j))) l.initial.area l.area l.at
+invariant-loop-j l = Wrote (tap_cells l.trace (entries_in (marking l.k.head.inputs l.k.head.gates l.k.head.period l.k.labels.now l.k.rows.now)) (leaf_taps (entries_in (marking l.k.head.inputs l.k.head.gates l.k.head.period l.k.labels.now l.k.rows.now)) l.own (copies_from l.leaves.nodes.now l.leaves.backs.now l.leaves.at l.j))) l.initial.area l.area l.at

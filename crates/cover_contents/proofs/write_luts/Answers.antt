@@ -23,25 +23,25 @@ module _ (a : Kept) where
 pub loop-g-init : goal.loop-g-init
 loop-g-init c =
     let s = c.args in
-    let a = kept_in s.s.inputs s.s.gates s.s.period s.labels.now s.rows.now [] in
+    let a = kept_in s.k.head.inputs s.k.head.gates s.k.head.period s.k.labels.now s.k.rows.now [] in
     rw (luts-none (lags_of a) a) (rw (taps_none s.trace.now (lags_of a)) (wrote_none s.area.now))
 
 pub write_gate-at-requires : goal.write_gate-at-requires
 write_gate-at-requires c =
     let s = c.args in
-    let a = kept_in s.s.inputs s.s.gates s.s.period s.labels.now s.rows.now [] in
+    let a = kept_in s.k.head.inputs s.k.head.gates s.k.head.period s.k.labels.now s.k.rows.now [] in
     let es = lags_of a in
     let taken = taps a in
     let next = one a in
     let q = c.requires.cells_asked in
     let l = c.loop-g in
-    let h : l.g < s.s.gates = omega arith in
+    let h : l.g < s.k.head.gates = omega arith in
     record { leaves_held = c.requires.leaves_held; g_lt_gates = (h, c.requires.gates_in_bounds); cells_asked = part-asks s.trace.now es taken next (luts-more es a) q l.invariant h }
 
 pub loop-g-preserved : goal.loop-g-preserved
 loop-g-preserved c =
     let s = c.args in
-    let a = kept_in s.s.inputs s.s.gates s.s.period s.labels.now s.rows.now [] in
+    let a = kept_in s.k.head.inputs s.k.head.gates s.k.head.period s.k.labels.now s.k.rows.now [] in
     let es = lags_of a in
     let taken = taps a in
     let next = one a in
