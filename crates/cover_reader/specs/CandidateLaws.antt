@@ -1,5 +1,5 @@
 -- Laws of reading a cover record, one for each way out.
-use Rattle.std.specs.Prelude.{◌≡◌, refl, false, List, [], ℕ, ◌+◌, ◌*◌, ◌≤◌, ◌<◌, length, drop, replicate, Ok, Err}
+use Rattle.std.specs.Prelude.{◌≡◌, refl, false, List, [], ℕ, ℤ, ◌+◌, ◌*◌, ◌≤◌, ◌<◌, length, drop, replicate, Ok, Err}
 use Rattle.std.proofs.Common.{ap, ap₂, ◌∙◌, le_trans, arith}
 use Rattle.std.proofs.lemmas.List.{length-replicate}
 use Rattle.limits.specs.Courses.{Offered, is-long, is-short}
@@ -15,7 +15,8 @@ use Rattle.net_bytes.specs.Readers.{then-goes, then-stops}
 use Rattle.cover_records.specs.CoverBytes.{cover_reader, luts_reader}
 use Rattle.cover_records.specs.Held.{Held, luts_in}
 use Rattle.net_fields.specs.FieldLaws.{end_done, end_over}
-use Rattle.cover_reader.specs.Reads.{CoverKept, CoverBroken}
+use Rattle.cover_reader.specs.declared.Candidate.{Candidate}
+use Rattle.cover_reader.specs.Reads.{held_in, CoverKept, CoverBroken}
 use Rattle.cover_records.specs.CoverStages.{Front, front, front_reader, front_goes, front-stops, front_ranges, from_luts, from_front, cover_stages}
 use Rattle.cover_reader.specs.LutsStored.{LutsRead}
 use Rattle.cover_records.specs.CoverRefusals.{only-cover}
@@ -77,3 +78,8 @@ module _ {R : Rules} (o : Offered R) (s : List ℕ) (I G k : ℕ) where
             high_period = range.1;
             few = range.3;
           }
+
+-- equal arrays keep the same record
+pub cover-same : {R : Rules} {s : List ℕ} {I G k : ℕ} {c : Candidate} (n : ℕ) {rows rows' : List ℕ} {lags lags' : List ℤ} {tables tables' : List ℕ} → rows ≡ rows' → lags ≡ lags' → tables ≡ tables'
+    → CoverKept R s I G k c (held_in n rows' lags' tables') → CoverKept R s I G k c (held_in n rows lags tables)
+cover-same n e f g h = rw (e, f, g) h

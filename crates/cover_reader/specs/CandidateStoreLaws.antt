@@ -26,8 +26,9 @@ use Rattle.cover_records.specs.Held.{Held, lut_at, luts_from, luts_in}
 use Rattle.cover_records.specs.HeldLaws.{luts_in-next, luts_in-same}
 use Rattle.cover_rows.specs.declared.Row.{Row}
 use Rattle.cover_rows.specs.LutParts.{row_entry, Shallow, LutRead}
+use Rattle.cover_reader.specs.declared.Rows.{Rows}
 use Rattle.cover_reader.specs.Reads.{held_in}
-use Rattle.cover_reader.specs.LutsStored.{nodes_of, backs_of, RowStored, Narrow, Flat, LutStored}
+use Rattle.cover_reader.specs.LutsStored.{Same, nodes_of, backs_of, RowStored, Narrow, Flat, LutStored}
 use Rattle.net_fields.specs.declared.Read.{Read}
 
 -- ---- the places of a LUT in the slice
@@ -223,3 +224,14 @@ module _ (two : Bool) (s : List ℕ) (at nodes k I n : ℕ) where
 
     pub luts-small : n ≤ i → Flat z n
     luts-small h m l = let most = so.most in so.small m (omega arith)
+
+-- the arrays are still the lent ones after two steps
+pub same-then : {a b c : Rows} → Same a b → Same b c → Same a c
+same-then s t = record {
+  rows = t.rows ∙ s.rows;
+  lags = t.lags ∙ s.lags;
+  tables = t.tables ∙ s.tables;
+  rows_long = t.rows_long ∙ s.rows_long;
+  lags_long = t.lags_long ∙ s.lags_long;
+  tables_long = t.tables_long ∙ s.tables_long;
+}

@@ -5,6 +5,7 @@ use Rattle.refusals.specs.declared.Refusal.{Refusal}
 use Rattle.net_model.specs.Arrays.{stride}
 use Rattle.cover_records.specs.CoverBytes.{luts_reader}
 use Rattle.cover_records.specs.Held.{Held, luts_in}
+use Rattle.cover_reader.specs.declared.Rows.{Rows}
 use Rattle.cover_rows.specs.declared.Row.{Row}
 use Rattle.cover_rows.specs.LutParts.{Shallow, row_entry}
 use Rattle.net_bytes.specs.Reading.{got}
@@ -16,6 +17,15 @@ nodes_of n i = 2 * n + most_pins * i
 
 abbrev pub backs_of : ℕ → ℕ → ℕ
 backs_of n i = (2 + most_pins) * n + most_pins * i
+
+-- the arrays are the lent ones, and as long
+pub record Same (old new : Rows) : Type 0 where
+  pub rows : new.rows.ghost_name ≡ old.rows.ghost_name
+  pub lags : new.lags.ghost_name ≡ old.lags.ghost_name
+  pub tables : new.tables.ghost_name ≡ old.tables.ghost_name
+  pub rows_long : length new.rows.now ≡ length old.rows.now
+  pub lags_long : length new.lags.now ≡ length old.lags.now
+  pub tables_long : length new.tables.now ≡ length old.tables.now
 
 -- a row stands at the places of LUT i of n, and those of the LUTs below it are as before
 pub record RowStored (n i : ℕ) (row : Row) (old new : List ℕ) : Type 0 where

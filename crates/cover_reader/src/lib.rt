@@ -7,7 +7,7 @@ ghost use Rattle.limits.specs.Courses.{Offered};
 ghost use Rattle.limits.specs.Limits.{most_gates, most_inputs, most_k, most_luts, most_pins};
 ghost use Rattle.sequences.specs.Stored.{Stored};
 ghost use Rattle.cover_reader.specs.Reads.{Spacious, held_in, CoverRead};
-ghost use Rattle.cover_reader.specs.LutsStored.{RowStored, LutStored, LutsRead, Narrow};
+ghost use Rattle.cover_reader.specs.LutsStored.{Same, RowStored, LutStored, LutsRead, Narrow};
 
 use cover_rows::{Row, read_front, read_lut};
 use limits::{PINS, Rules};
@@ -19,6 +19,14 @@ use refusals::Refusal;
 pub struct Candidate {
     pub period: usize,
     pub luts: usize,
+}
+
+// The arrays that LUTs are stored in.
+#[derive(Drop)]
+struct Rows<'a> {
+    rows: &'a mut [usize],
+    lags: &'a mut [i64],
+    tables: &'a mut [u64],
 }
 
 // Root, number of leaves and leaves of LUT i of n.
@@ -33,15 +41,16 @@ fn store_row(rows: &mut [usize], n: usize, i: usize, row: Row)
 }
 
 // A row is stored as LUT i of n.
-fn store_lut(rows: &mut [usize], lags: &mut [i64], tables: &mut [u64], n: usize, i: usize, row: Row)
-    requires n_le_most_luts { (n ≤ most_luts) × (i < n) × Spacious n rows.old lags.old tables.old }
+fn store_lut(w: &mut Rows<'_>, n: usize, i: usize, row: Row)
+    requires n_le_most_luts { (n ≤ most_luts) × (i < n) × Spacious n w.old.rows.now w.old.lags.now w.old.tables.now }
     requires size_le_most_pins { row.size ≤ most_pins }
-    requires narrow { Narrow (held_in n rows.old lags.old tables.old) i }
-    ensures { LutStored i row (held_in n rows.old lags.old tables.old) (held_in n rows.new lags.new tables.new) }
+    requires narrow { Narrow (held_in n w.old.rows.now w.old.lags.now w.old.tables.now) i }
+    ensures same { Same w.old w.new }
+    ensures stored { LutStored i row (held_in n w.old.rows.now w.old.lags.now w.old.tables.now) (held_in n w.new.rows.now w.new.lags.now w.new.tables.now) }
 {
-    store_row(rows, n, i, row);
-    lags[i] = row.lag;
-    tables[i] = row.table;
+    store_row(w.rows, n, i, row);
+    w.lags[i] = row.lag;
+    w.tables[i] = row.table;
 }
 
 // The place behind n LUTs, each stored as it is read; each root is above the one before.
@@ -53,12 +62,11 @@ fn read_luts(
     inputs: usize,
     two: bool,
     n: usize,
-    rows: &mut [usize],
-    lags: &mut [i64],
-    tables: &mut [u64],
+    w: &mut Rows<'_>,
 ) -> Result<usize, Refusal>
-    requires { (k ≤ most_k) × (n ≤ most_luts) × Spacious n rows.old lags.old tables.old }
-    ensures { LutsRead two bytes.now at nodes k inputs n (held_in n rows.new lags.new tables.new) result }
+    requires { (k ≤ most_k) × (n ≤ most_luts) × Spacious n w.old.rows.now w.old.lags.now w.old.tables.now }
+    ensures same { Same w.old w.new }
+    ensures read { LutsRead two bytes.now at nodes k inputs n (held_in n w.new.rows.now w.new.lags.now w.new.tables.now) result }
 {
     let mut next = at;
     let mut least = inputs;
@@ -66,7 +74,7 @@ fn read_luts(
         let row = read_lut(bytes, next, nodes, k, least, two)?;
         next = row.at;
         least = row.value.root + 1;
-        store_lut(rows, lags, tables, n, i, row.value);
+        store_lut(w, n, i, row.value);
     }
     Ok(next)
 }
@@ -88,6 +96,7 @@ pub fn read_cover(
 {
     let front = read_front(bytes, rules)?;
     let n = front.value.luts;
+    let mut w = Rows { rows, lags, tables };
     let end = read_luts(
         bytes,
         front.at,
@@ -96,9 +105,7 @@ pub fn read_cover(
         inputs,
         rules.wide,
         n,
-        rows,
-        lags,
-        tables,
+        &mut w,
     )?;
     if end < bytes.len() {
         return Err(Refusal::Layout);
