@@ -12,29 +12,22 @@ ghost use Rattle.text_digits.specs.Put.{Put};
 
 use cone_words::low;
 use cover_registers::count_registers;
-use cover_writer::{CoverHead, count_luts};
+use cover_writer::{CoverHead, KeptCover, Leaves, count_luts};
 use limits::PINS;
 use signed::lag_of;
 use text_digits::{put_byte, put_field, put_signed_field, put_table, put_word};
 
 // ---- a LUT's line
 
-// n leaves, from place p on.
-fn put_leaves(
-    nodes: &[usize],
-    backs: &[usize],
-    p: usize,
-    n: usize,
-    mut at: usize,
-    out: &mut [u8],
-) -> usize
-    requires n_in_bounds { (p + n ≤ length nodes.now) × (p + n ≤ length backs.now) }
-    requires n_in_bounds_2 { at + 42 * n ≤ length out.old }
-    ensures { Put (42 * n) at (leaf_text (copies_from nodes.now backs.now p n)) out.old out.new result }
+// Leaves: of each its node and its d.
+fn put_leaves(leaves: Leaves, mut at: usize, out: &mut [u8]) -> usize
+    requires n_in_bounds { (leaves.at + leaves.n ≤ length leaves.nodes.now) × (leaves.at + leaves.n ≤ length leaves.backs.now) }
+    requires n_in_bounds_2 { at + 42 * leaves.n ≤ length out.old }
+    ensures { Put (42 * leaves.entry.n) at (leaf_text (copies_from leaves.entry.nodes.now leaves.entry.backs.now leaves.entry.at leaves.entry.n)) out.old out.new result }
 {
-    for j in 0..n {
-        let a = put_field(b" ", nodes[p + j], at, out);
-        at = put_field(b":", backs[p + j], a, out);
+    for j in 0..leaves.n {
+        let a = put_field(b" ", leaves.nodes[leaves.at + j], at, out);
+        at = put_field(b":", leaves.backs[leaves.at + j], a, out);
     }
     at
 }
@@ -51,68 +44,52 @@ fn put_front(root: usize, label: i64, lag: i64, at: usize, out: &mut [u8]) -> us
 }
 
 // The line from the table on.
-fn put_back(
-    n: usize,
-    table: u64,
-    nodes: &[usize],
-    backs: &[usize],
-    p: usize,
-    at: usize,
-    out: &mut [u8],
-) -> usize
-    requires n_le_most_pins { (n ≤ most_pins) × (p + n ≤ length nodes.now) × (p + n ≤ length backs.now) }
+fn put_back(leaves: Leaves, table: u64, at: usize, out: &mut [u8]) -> usize
+    requires n_le_most_pins { (leaves.n ≤ most_pins) × (leaves.at + leaves.n ≤ length leaves.nodes.now) × (leaves.at + leaves.n ≤ length leaves.backs.now) }
     requires at_in_bounds { at + 283 ≤ length out.old }
-    ensures { Put 283 at (line_back n table nodes.now backs.now p) out.old out.new result }
+    ensures { Put 283 at (line_back leaves.entry.n table leaves.entry.nodes.now leaves.entry.backs.now leaves.entry.at) out.old out.new result }
 {
     let a = put_word(b" table ", at, out);
-    let b = put_table(n, table, a, out);
+    let b = put_table(leaves.n, table, a, out);
     let c = put_word(b" leaves", b, out);
-    let d = put_leaves(nodes, backs, p, n, c, out);
+    let d = put_leaves(leaves, c, out);
     put_byte(b'\n', d, out)
 }
 
 // The line of gate g, where it has a LUT, with the short form of its table.
-fn put_gate(
-    s: CoverHead,
-    labels: &[i64],
-    rows: &[usize],
-    tables: &[u64],
-    g: usize,
-    at: usize,
-    out: &mut [u8],
-) -> usize
-    requires gate_asked { GateAsked (kept_in s.inputs s.gates s.period labels.now rows.now tables.now) g at out.old }
-    requires gates_in_bounds { row_room s.gates ≤ length rows.now }
-    ensures { Put 361 at (line_at (kept_in s.inputs s.gates s.period labels.now rows.now tables.now) g) out.old out.new result }
+fn put_gate(k: KeptCover, tables: &[u64], g: usize, at: usize, out: &mut [u8]) -> usize
+    requires gate_asked { GateAsked (kept_in k.head.inputs k.head.gates k.head.period k.labels.now k.rows.now tables.now) g at out.old }
+    requires gates_in_bounds { row_room k.head.gates ≤ length k.rows.now }
+    ensures { Put 361 at (line_at (kept_in k.entry.head.inputs k.entry.head.gates k.entry.head.period k.entry.labels.now k.entry.rows.now tables.now) g) out.old out.new result }
 {
-    if rows[g] == 0 {
+    if k.rows[g] == 0 {
         return at;
     }
-    let root = s.inputs + g;
-    let lag = lag_of(labels[root], s.period);
-    let c = put_front(root, labels[root], lag, at, out);
-    let n = rows[s.gates + g];
+    let root = k.head.inputs + g;
+    let label = k.labels[root];
+    let lag = lag_of(label, k.head.period);
+    let c = put_front(root, label, lag, at, out);
+    let n = k.rows[k.head.gates + g];
     let table = low(tables[g], n);
-    let a = 2 * s.gates;
-    let b = (2 + PINS) * s.gates;
-    put_back(n, table, &rows[a..], &rows[b..], PINS * g, c, out)
+    let a = 2 * k.head.gates;
+    let b = (2 + PINS) * k.head.gates;
+    let leaves = Leaves {
+        nodes: &k.rows[a..],
+        backs: &k.rows[b..],
+        at: PINS * g,
+        n,
+    };
+    put_back(leaves, table, c, out)
 }
 
 // The lines of all gates.
-fn put_lines(
-    s: CoverHead,
-    labels: &[i64],
-    rows: &[usize],
-    tables: &[u64],
-    mut at: usize,
-    out: &mut [u8],
-) -> usize
-    requires gates_asked { GatesAsked (kept_in s.inputs s.gates s.period labels.now rows.now tables.now) 0 at out.old }
-    requires gates_in_bounds { row_room s.gates ≤ length rows.now }
-    ensures { Put (361 * s.gates) at (lines_from (kept_in s.inputs s.gates s.period labels.now rows.now tables.now) 0) out.old out.new result }
+fn put_lines(k: KeptCover, tables: &[u64], mut at: usize, out: &mut [u8]) -> usize
+    requires gates_asked { GatesAsked (kept_in k.head.inputs k.head.gates k.head.period k.labels.now k.rows.now tables.now) 0 at out.old }
+    requires gates_in_bounds { row_room k.head.gates ≤ length k.rows.now }
+    ensures { Put (361 * k.entry.head.gates) at (lines_from (kept_in k.entry.head.inputs k.entry.head.gates k.entry.head.period k.entry.labels.now k.entry.rows.now tables.now) 0) out.old out.new result }
 {
-    for g in 0..s.gates {
-        at = put_gate(s, labels, rows, tables, g, at, out);
+    for g in 0..k.head.gates {
+        at = put_gate(k, tables, g, at, out);
     }
     at
 }
@@ -148,5 +125,10 @@ pub fn write_text(
     let count = count_luts(rows, s.gates);
     let registers = count_registers(s, labels, rows, outs, delays, n);
     let a = put_first(s.period, count, registers, out);
-    put_lines(s, labels, rows, tables, a, out)
+    let k = KeptCover {
+        head: s,
+        labels,
+        rows,
+    };
+    put_lines(k, tables, a, out)
 }

@@ -7,7 +7,7 @@ pub returns : goal.returns
 returns c =
     let start = c in
     let f = c.requires.n_le_most_pins.0 in
-    put-more 283 (omega arith) (put_same (back-text c.args.n c.args.table c.args.nodes.now c.args.backs.now c.args.p)
+    put-more 283 (omega arith) (put_same (back-text c.args.leaves.n c.args.table c.args.leaves.nodes.now c.args.leaves.backs.now c.args.leaves.at)
     (put_then (put_then (put_then (put_then c.put_word-a.ensures
     c.put_table-b.ensures)
     c.put_word-c.ensures)

@@ -52,18 +52,18 @@ module _ (a : Kept) (g at : ℕ) {out : List ℕ} (p : GateAsked a g at out) (m 
       → Put k at (line_front (a.inputs + g) label (lag a.period label)) before after r
   front z e w = put_same (ap₂ (line_front (a.inputs + g)) lent-label (lagged z e)) w
 
-pub returns-then-rows-g-eq0 : goal.returns-then-rows-g-eq0
-returns-then-rows-g-eq0 c =
+pub returns-then-k-g-eq0 : goal.returns-then-k-g-eq0
+returns-then-k-g-eq0 c =
     let a = c.args in
-    let k = (kept_in a.s.inputs a.s.gates a.s.period a.labels.now a.rows.now a.tables.now) in
-    put-more 361 (omega arith) (put_same (sym (line-none k a.g c.if-rows-g-eq0.true)) (put-none a.at a.out.now))
+    let k = (kept_in a.k.head.inputs a.k.head.gates a.k.head.period a.k.labels.now a.k.rows.now a.tables.now) in
+    put-more 361 (omega arith) (put_same (sym (line-none k a.g c.if-k-g-eq0.true)) (put-none a.at a.out.now))
 
 pub put_front-c-requires : goal.put_front-c-requires
 unfolding label
-put_front-c-requires c = let if1 = c.if-rows-g-eq0 in
+put_front-c-requires c = let if1 = c.if-k-g-eq0 in
     let start = c in
     let a = c.args in
-    let k = (kept_in a.s.inputs a.s.gates a.s.period a.labels.now a.rows.now a.tables.now) in
+    let k = (kept_in a.k.head.inputs a.k.head.gates a.k.head.period a.k.labels.now a.k.rows.now a.tables.now) in
     let r = c.requires.gate_asked.room in
     record { small = (rw (lent-label k a.g a.at c.requires.gate_asked if1.false) (lent k a.g a.at c.requires.gate_asked if1.false), rw (lagged k a.g a.at c.requires.gate_asked if1.false c.lag_of-lag.result c.lag_of-lag.ensures) (small-lag k a.g a.at c.requires.gate_asked if1.false)); at_in_bounds = omega arith }
 
@@ -72,11 +72,11 @@ unfolding label
 returns c =
     let put_front = c.put_front-c in
     let lag-of = c.lag_of-lag in
-    let if1 = c.if-rows-g-eq0 in
+    let if1 = c.if-k-g-eq0 in
     let start = c in
     let a = c.args in
-    let k = (kept_in a.s.inputs a.s.gates a.s.period a.labels.now a.rows.now a.tables.now) in
+    let k = (kept_in a.k.head.inputs a.k.head.gates a.k.head.period a.k.labels.now a.k.rows.now a.tables.now) in
     put_same (sym (line-some k a.g if1.false))
     (put_then (front k a.g a.at c.requires.gate_asked if1.false lag-of.result lag-of.ensures put_front.ensures)
-    (row-whole a.s.gates a.rows.now (λ (no ba : List ℕ) (n : ℕ). Put 283 put_front.result (line_back n (short_table n (get_or a.tables.now a.g 0)) no ba (stride * a.g)) put_front.new.out c.put_back.new.out c.put_back.result) a.g
+    (row-whole a.k.head.gates a.k.rows.now (λ (no ba : List ℕ) (n : ℕ). Put 283 put_front.result (line_back n (short_table n (get_or a.tables.now a.g 0)) no ba (stride * a.g)) put_front.new.out c.put_back.new.out c.put_back.result) a.g
     (rw c.low-table.ensures at c.put_back.ensures)))

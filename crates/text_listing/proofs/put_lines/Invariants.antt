@@ -7,5 +7,5 @@ use Rattle.text_listing.proofs.put_lines.Given as goal
 
 abbrev pub invariant-loop-g : goal.invariant-loop-g
 invariant-loop-g l =
-    let a = kept_in l.s.inputs l.s.gates l.s.period l.labels l.rows l.tables in
+    let a = kept_in l.k.head.inputs l.k.head.gates l.k.head.period l.k.labels.now l.k.rows.now l.tables in
     Put (361 * l.g) l.initial.at (lut_lines (label_at a) (entries_from a 0 l.g)) l.initial.out l.out l.at
