@@ -19,30 +19,7 @@ use refusals::Refusal;
 use text_bench::write_bench;
 use text_digits::write_refusal;
 
-// Checks 9 to 11, 21, and the text in front of out, the bytes behind it kept; on a refusal all are. A section of no bytes is none. The arrays lent have a number a gate.
-fn bench_lent(
-    z: NetSizes,
-    net: &mut [usize],
-    tables: &[u64],
-    section: &mut [u8],
-    pairs: &[u8],
-    seen: &mut [usize],
-    noted: &mut [usize],
-    out: &mut [u8],
-) -> Result<usize, Refusal>
-    requires benching { Benching z net.old tables.now section.old out.old }
-    requires gates_in_bounds { (z.gates ≤ length seen.old) × (z.gates ≤ length noted.old) }
-    ensures { BenchTold (bench_drawn (drawn (net_in (arrays_of z net.old tables.now)) section.old) pairs.now) out.old out.new result }
-{
-    let gates = z.gates;
-    check_graph(z, net, &mut seen[..gates], &mut noted[..gates])?;
-    if section.len() == 0 {
-        return Err(Refusal::NoSection);
-    }
-    Ok(write_bench(z, net, tables, pairs, section, &mut noted[..gates], out))
-}
-
-// The same for a net within document 01's limits.
+// Checks 9 to 11, 21, and the text in front of out, the bytes behind it kept; on a refusal all are. A section of no bytes is none.
 fn bench_read(
     z: NetSizes,
     net: &mut [usize],
@@ -56,7 +33,12 @@ fn bench_read(
 {
     let mut seen = [0usize; GATES];
     let mut noted = [0usize; GATES];
-    bench_lent(z, net, tables, section, pairs, &mut seen, &mut noted, out)
+    let gates = z.gates;
+    check_graph(z, net, &mut seen[..gates], &mut noted[..gates])?;
+    if section.len() == 0 {
+        return Err(Refusal::NoSection);
+    }
+    Ok(write_bench(z, net, tables, pairs, section, &mut noted[..gates], out))
 }
 
 // The same where the section may not be written: the run keeps its values in a copy.
