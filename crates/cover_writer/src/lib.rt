@@ -1,16 +1,16 @@
 // The cover kept, written as a cover record: each LUT into the part of the area that starts behind the last one.
 #![tactic(auto)]
 
-ghost use Rattle.std.specs.Prelude.{◌≡◌, cond, false, [], ◌∷◌, map, ◌+◌, ◌≤◌, ◌<◌, length};
+ghost use Rattle.std.specs.Prelude.{◌≡◌, cond, false, [], ◌∷◌, map, ◌+◌, ◌*◌, ◌≤◌, ◌<◌, length, get_or};
 ghost use Rattle.limits.specs.Courses.{long};
 ghost use Rattle.limits.specs.Limits.{depth_room, most_pins};
-ghost use Rattle.net_model.specs.Arrays.{copies_from};
+ghost use Rattle.net_model.specs.Arrays.{stride, copies_from};
 ghost use Rattle.net_model.specs.Copies.{Copy, copy};
 ghost use Rattle.net_model.specs.Tables.{as_number};
 ghost use Rattle.net_bytes.specs.Walk.{table_bytes};
 ghost use Rattle.cover_records.specs.CoverBytes.{to_bytes, not_zero, leaf_map, depths, is_zero, signed_number, lag_bytes, lut_bytes, all_lut_bytes, cover_bytes};
 ghost use Rattle.cover_records.specs.Kept.{entries_in};
-ghost use Rattle.cover_records.specs.Rows.{kept_in, row_room};
+ghost use Rattle.cover_records.specs.Rows.{sizes_in, nodes_in, backs_in, kept_in, row_room};
 ghost use Rattle.cover_records.specs.Outcomes.{written};
 ghost use Rattle.cover_records.specs.RoundTrip.{SmallLag};
 ghost use Rattle.cover_writer.specs.Writing.{Writable, Below, Wrote, leaf_bytes, value_bytes, LeavesAsked, LutAsked, lut_of, GateAsked, LutsAsked, bytes_at, marked};
@@ -189,6 +189,24 @@ fn write_lut(root: usize, leaves: Leaves, lag: i64, table: u64, area: &mut [u8])
     b + write_values(lag, table, leaves.n, &mut area[b..])
 }
 
+// The leaves of the LUT of gate g.
+pub fn leaves_of<'a>(k: KeptCover<'a>, g: usize) -> Leaves<'a>
+    requires { (g < k.head.gates) × (row_room k.head.gates ≤ length k.rows.now) }
+    ensures nodes { result.nodes.now ≡ nodes_in k.entry.head.gates k.entry.rows.now }
+    ensures backs { result.backs.now ≡ backs_in k.entry.head.gates k.entry.rows.now }
+    ensures place { result.at ≡ stride * g }
+    ensures count { result.n ≡ get_or (sizes_in k.entry.head.gates k.entry.rows.now) g 0 }
+{
+    let a = 2 * k.head.gates;
+    let b = (2 + PINS) * k.head.gates;
+    Leaves {
+        nodes: &k.rows[a..],
+        backs: &k.rows[b..],
+        at: PINS * g,
+        n: k.rows[k.head.gates + g],
+    }
+}
+
 // The LUT of gate g, where it has one, with the short form of its table.
 fn write_gate(k: KeptCover, tables: &[u64], g: usize, area: &mut [u8]) -> usize
     requires gate_asked { GateAsked (kept_in k.head.inputs k.head.gates k.head.period k.labels.now k.rows.now tables.now) g area.old }
@@ -200,16 +218,8 @@ fn write_gate(k: KeptCover, tables: &[u64], g: usize, area: &mut [u8]) -> usize
     }
     let root = k.head.inputs + g;
     let lag = lag_of(k.labels[root], k.head.period);
-    let n = k.rows[k.head.gates + g];
-    let table = low(tables[g], n);
-    let a = 2 * k.head.gates;
-    let b = (2 + PINS) * k.head.gates;
-    let leaves = Leaves {
-        nodes: &k.rows[a..],
-        backs: &k.rows[b..],
-        at: PINS * g,
-        n,
-    };
+    let leaves = leaves_of(k, g);
+    let table = low(tables[g], leaves.n);
     write_lut(root, leaves, lag, table, area)
 }
 

@@ -1,5 +1,4 @@
 use mathlib.Core.Path.{◌≡◌, ap, ◌∙◌}
-use mathlib.Core.Bool.{false}
 use mathlib.Core.List.{List}
 use Prim.Native.Nat.{ℕ, ◌≤◌, ◌+◌, ◌*◌}
 use native.Mathlib.Omega.{arith}
@@ -10,12 +9,10 @@ use mir.Val.{to_z, of_z}
 use Rattle.integers.specs.Lag.{lag}
 use Rattle.net_model.specs.Arrays.{stride}
 use Rattle.cover_records.specs.Kept.{Kept, short_table}
-use Rattle.cover_records.specs.CoverBytes.{lut_bytes}
 use Rattle.cover_records.specs.Rows.{kept_in}
-use Rattle.cover_records.specs.RowLaws.{row-lent, row-whole}
 use Rattle.signed.specs.Range.{Small, room}
 use Rattle.signed.specs.RangeLaws.{back, small-fits}
-use Rattle.cover_writer.specs.Writing.{LutAsked, lut_of, GateAsked, LutHeld, Wrote}
+use Rattle.cover_writer.specs.Writing.{LutAsked, GateAsked, LutHeld}
 use Rattle.cover_writer.specs.BytesBehind.{wrote_none}
 use Rattle.cover_writer.specs.LagBytesLaws.{lag-fits}
 use Rattle.cover_writer.specs.CoverBytesLaws.{at_none, at_some}
@@ -71,10 +68,9 @@ write_lut-requires c =
     let start = c in
     let a = c.args in
     let k = (kept_in a.k.head.inputs a.k.head.gates a.k.head.period a.k.labels.now a.k.rows.now a.tables.now) in
-    let v = lag a.k.head.period (get_or a.k.labels.now (a.k.head.inputs + a.g) (pos 0)) in
-    rw (c.low-table.ensures, lagged k a.g c.requires.gate_asked if1.false lag-of.result lag-of.ensures)
-    (row-lent a.k.head.gates a.k.rows.now (λ (no ba : List ℕ) (n : ℕ). LutAsked (a.k.head.inputs + a.g) no ba (stride * a.g) n v (short_table n (get_or a.tables.now a.g 0)) a.area.now) a.g
-    (lut-asked k a.g c.requires.gate_asked if1.false))
+    let e = c.leaves_of-leaves.ensures in
+    rw (c.low-table.ensures, e.nodes, e.backs, e.place, e.count, lagged k a.g c.requires.gate_asked if1.false lag-of.result lag-of.ensures)
+    (lut-asked k a.g c.requires.gate_asked if1.false)
 
 pub returns : goal.returns
 unfolding label
@@ -84,7 +80,6 @@ returns c =
     let start = c in
     let a = c.args in
     let k = (kept_in a.k.head.inputs a.k.head.gates a.k.head.period a.k.labels.now a.k.rows.now a.tables.now) in
-    let v = lag a.k.head.period (get_or a.k.labels.now (a.k.head.inputs + a.g) (pos 0)) in
+    let e = c.leaves_of-leaves.ensures in
     rw (at_some k a.g if1.false)
-    (row-whole a.k.head.gates a.k.rows.now (λ (no ba : List ℕ) (n : ℕ). Wrote (lut_bytes false (lut_of (a.k.head.inputs + a.g) no ba (stride * a.g) n v (short_table n (get_or a.tables.now a.g 0)))) a.area.now c.write_lut.new.area c.write_lut.result) a.g
-    (rw (c.low-table.ensures, lagged k a.g c.requires.gate_asked if1.false lag-of.result lag-of.ensures) at c.write_lut.ensures))
+    (rw (c.low-table.ensures, e.nodes, e.backs, e.place, e.count, lagged k a.g c.requires.gate_asked if1.false lag-of.result lag-of.ensures) at c.write_lut.ensures)
