@@ -14,8 +14,7 @@ ghost use Rattle.limits.specs.Limits.{depth_room};
 ghost use Rattle.cover_registers.specs.Counting.{Within, Counted, marking, registers_of, LagsHeld, LeavesHeld};
 
 use cover_tally::Tally;
-use cover_writer::{CoverHead, KeptCover, Leaves};
-use limits::PINS;
+use cover_writer::{CoverHead, KeptCover, Leaves, leaves_of};
 use signed::{lag_of, whole};
 
 // The registers of a connection after moving.
@@ -89,14 +88,7 @@ fn take_gate(tally: Tally, k: KeptCover, g: usize) -> Tally
         return tally;
     }
     let own = lag_at(k.head, k.labels, k.rows, k.head.inputs + g);
-    let a = 2 * k.head.gates;
-    let b = (2 + PINS) * k.head.gates;
-    let leaves = Leaves {
-        nodes: &k.rows[a..],
-        backs: &k.rows[b..],
-        at: PINS * g,
-        n: k.rows[k.head.gates + g],
-    };
+    let leaves = leaves_of(k, g);
     take_leaves(tally, k, leaves, own)
 }
 
