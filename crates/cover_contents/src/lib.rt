@@ -21,8 +21,8 @@ ghost use Rattle.board_theory.specs.Contents.{contents_of};
 ghost use Rattle.cover_contents.specs.Traces.{samples_to, Sampled, Tracing, MostSamples, cells_back, tap_cells, CellsAsked, RegistersAsked, Contenting};
 
 use cover_registers::{counted, lag_at, moved};
-use cover_writer::{CoverHead, KeptCover, Leaves};
-use limits::{COUNT, NODES, PINS};
+use cover_writer::{CoverHead, KeptCover, Leaves, leaves_of};
+use limits::{COUNT, NODES};
 use net_reader::{NetSizes, delays_at, outs_at};
 use run_step::{run, step};
 use run_values::told_value;
@@ -141,14 +141,7 @@ fn write_gate(k: KeptCover, g: usize, trace: &[u8], area: &mut [u8]) -> usize
         return 0;
     }
     let own = lag_at(k.head, k.labels, k.rows, k.head.inputs + g);
-    let a = 2 * k.head.gates;
-    let b = (2 + PINS) * k.head.gates;
-    let leaves = Leaves {
-        nodes: &k.rows[a..],
-        backs: &k.rows[b..],
-        at: PINS * g,
-        n: k.rows[k.head.gates + g],
-    };
+    let leaves = leaves_of(k, g);
     write_leaves(k, leaves, own, trace, area)
 }
 
