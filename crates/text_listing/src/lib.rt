@@ -12,8 +12,7 @@ ghost use Rattle.text_digits.specs.Put.{Put};
 
 use cone_words::low;
 use cover_registers::count_registers;
-use cover_writer::{CoverHead, KeptCover, Leaves, count_luts};
-use limits::PINS;
+use cover_writer::{CoverHead, KeptCover, Leaves, count_luts, leaves_of};
 use signed::lag_of;
 use text_digits::{put_byte, put_field, put_signed_field, put_table, put_word};
 
@@ -69,16 +68,8 @@ fn put_gate(k: KeptCover, tables: &[u64], g: usize, at: usize, out: &mut [u8]) -
     let label = k.labels[root];
     let lag = lag_of(label, k.head.period);
     let c = put_front(root, label, lag, at, out);
-    let n = k.rows[k.head.gates + g];
-    let table = low(tables[g], n);
-    let a = 2 * k.head.gates;
-    let b = (2 + PINS) * k.head.gates;
-    let leaves = Leaves {
-        nodes: &k.rows[a..],
-        backs: &k.rows[b..],
-        at: PINS * g,
-        n,
-    };
+    let leaves = leaves_of(k, g);
+    let table = low(tables[g], leaves.n);
     put_back(leaves, table, c, out)
 }
 

@@ -1,21 +1,19 @@
 use mathlib.Core.Path.{◌≡◌, sym, ap, ap₂, ◌∙◌}
 use mathlib.Core.List.{List}
-use Prim.Native.Nat.{ℕ, ◌+◌, ◌*◌}
+use Prim.Native.Nat.{ℕ, ◌+◌}
 use native.Mathlib.Omega.{arith}
 use lib.IntN.{ℤ}
 use lib.ListN.{get_or}
 use mir.Syntax.{w64}
 use mir.Val.{to_z, of_z}
 use Rattle.integers.specs.Lag.{lag}
-use Rattle.cover_records.specs.Kept.{Kept, short_table, label_at}
+use Rattle.cover_records.specs.Kept.{Kept, label_at}
 use Rattle.cover_records.specs.Rows.{kept_in}
-use Rattle.cover_records.specs.RowLaws.{row-whole}
 use Rattle.signed.specs.Range.{Small}
 use Rattle.signed.specs.RangeLaws.{back, small-fits}
-use Rattle.net_model.specs.Arrays.{stride}
 use Rattle.cover_writer.specs.Writing.{LutHeld}
 use Rattle.text_digits.specs.Put.{Put}
-use Rattle.text_listing.specs.Text.{GateAsked, line_front, line_back}
+use Rattle.text_listing.specs.Text.{GateAsked, line_front}
 use Rattle.cover_registers.specs.RegisterCountLaws.{lag-told, within-lag, within-small}
 use Rattle.text_digits.specs.PutLaws.{put-none, put_then, put-more, put_same}
 use Rattle.text_listing.specs.LineLaws.{line-none, line-some}
@@ -76,7 +74,7 @@ returns c =
     let start = c in
     let a = c.args in
     let k = (kept_in a.k.head.inputs a.k.head.gates a.k.head.period a.k.labels.now a.k.rows.now a.tables.now) in
+    let e = c.leaves_of-leaves.ensures in
     put_same (sym (line-some k a.g if1.false))
     (put_then (front k a.g a.at c.requires.gate_asked if1.false lag-of.result lag-of.ensures put_front.ensures)
-    (row-whole a.k.head.gates a.k.rows.now (λ (no ba : List ℕ) (n : ℕ). Put 283 put_front.result (line_back n (short_table n (get_or a.tables.now a.g 0)) no ba (stride * a.g)) put_front.new.out c.put_back.new.out c.put_back.result) a.g
-    (rw c.low-table.ensures at c.put_back.ensures)))
+    (rw (c.low-table.ensures, e.nodes, e.backs, e.place, e.count) at c.put_back.ensures))
