@@ -6,6 +6,7 @@ use Rattle.net_model.specs.Copies.{Copy, Rising}
 use Rattle.cone_copies.specs.CopyLists.{copies_in}
 use Rattle.cone_descent.specs.declared.Met.{Met}
 use Rattle.cone_descent.specs.declared.Met.TheVariants as met
+use Rattle.cone_descent.specs.declared.Stack.{Stack}
 use Rattle.cone_descent.specs.Descent.{nobody, place, Clear, Field, pin_of, pins_of, State, Denied}
 
 -- A copy y met by a pin.
@@ -16,6 +17,12 @@ pub data Meet (I border room size : ℕ) (L : List Copy) (y : Copy) (mark : ℕ)
   known : r ≡ met.Known → seen' ≡ seen → ¬ (mark ≡ 0) → Meet I border room size L y mark seen r seen'
   full : r ≡ met.NoCut → seen' ≡ seen → ¬ (y ∈ L) → I ≤ y.node → mark ≡ 0 → room ≤ size → Meet I border room size L y mark seen r seen'
   fresh : r ≡ met.New → seen' ≡ seen → ¬ (y ∈ L) → I ≤ y.node → y.back ≤ border → mark ≡ 0 → size < room → Meet I border room size L y mark seen r seen'
+
+-- the slices of the stack are as long
+pub record Long (old new : Stack) : Type 0 where
+  pub nodes : length new.nodes.now ≡ length old.nodes.now
+  pub backs : length new.backs.now ≡ length old.backs.now
+  pub turns : length new.turns.now ≡ length old.turns.now
 
 -- n leaves that rise, and a byte for each
 pub record Leaves (ln lb : List ℕ) (n : ℕ) (seen : List ℕ) : Type 0 where

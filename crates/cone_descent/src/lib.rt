@@ -12,7 +12,7 @@ ghost use Rattle.cone_copies.specs.CopyLists.{copies_in, SmallWires};
 ghost use Rattle.cone_walk.specs.WalkTold.{Walk};
 ghost use Rattle.cone_descent.specs.Descent.{place, seat_mark, Clear, Denied, Placed, Seat, Wiped};
 ghost use Rattle.cone_descent.specs.Descent as descent;
-ghost use Rattle.cone_descent.specs.DescentSteps.{Meet, Leaves, TopPin, Advances, Turn, Ran, Asked};
+ghost use Rattle.cone_descent.specs.DescentSteps.{Long, Meet, Leaves, TopPin, Advances, Turn, Ran, Asked};
 
 use cone_copies::{CopyList, is_copy};
 use cone_leaves::seek;
@@ -42,23 +42,22 @@ enum Met {
     New,
 }
 
+// The open copies, each with the number of its pins that were passed.
+#[derive(Drop)]
+struct Stack<'a> {
+    nodes: &'a mut [usize],
+    backs: &'a mut [usize],
+    turns: &'a mut [usize],
+}
+
 // The copy is put on the stack, no pin passed, and marked as open.
-fn push(
-    stack_nodes: &mut [usize],
-    stack_backs: &mut [usize],
-    turns: &mut [usize],
-    depth: usize,
-    marks: &mut [u8],
-    at: usize,
-    node: usize,
-    back: usize,
-)
-    requires { (depth < length stack_nodes.old) × (depth < length stack_backs.old) × (depth < length turns.old) × (at < length marks.old) }
-    ensures { (stack_nodes.new ≡ set stack_nodes.old depth node) × (stack_backs.new ≡ set stack_backs.old depth back) × (turns.new ≡ set turns.old depth 0) × (marks.new ≡ set marks.old at 1) }
+fn push(stack: &mut Stack<'_>, depth: usize, marks: &mut [u8], at: usize, node: usize, back: usize)
+    requires { (depth < length stack.old.nodes.now) × (depth < length stack.old.backs.now) × (depth < length stack.old.turns.now) × (at < length marks.old) }
+    ensures { (stack.new.nodes.now ≡ set stack.old.nodes.now depth node) × (stack.new.backs.now ≡ set stack.old.backs.now depth back) × (stack.new.turns.now ≡ set stack.old.turns.now depth 0) × (marks.new ≡ set marks.old at 1) }
 {
-    stack_nodes[depth] = node;
-    stack_backs[depth] = back;
-    turns[depth] = 0;
+    stack.nodes[depth] = node;
+    stack.backs[depth] = back;
+    stack.turns[depth] = 0;
     marks[at] = 1;
 }
 
@@ -120,41 +119,31 @@ fn advance(
     leaves: CopyList,
     seen: &mut [usize],
     len: usize,
-    stack_nodes: &mut [usize],
-    stack_backs: &mut [usize],
-    turns: &mut [usize],
+    stack: &mut Stack<'_>,
     top: usize,
     marks: &mut [u8],
 ) -> Option<usize>
-    requires { Leaves leaves.nodes.now leaves.backs.now leaves.len seen.old × TopPin q.inputs q.width q.room len (drop (sources_at q.gates) net.now) (drop (counts_at q.gates) net.now) stack_nodes.old stack_backs.old turns.old top marks.old }
-    ensures { Advances q.inputs q.width q.border q.room (drop (sources_at q.gates) net.now) (drop (counts_at q.gates) net.now) (copies_in leaves.entry.nodes.now leaves.entry.backs.now leaves.entry.len) len stack_nodes.old stack_backs.old turns.old top marks.old seen.old result stack_nodes.new stack_backs.new turns.new marks.new seen.new }
+    requires { Leaves leaves.nodes.now leaves.backs.now leaves.len seen.old × TopPin q.inputs q.width q.room len (drop (sources_at q.gates) net.now) (drop (counts_at q.gates) net.now) stack.old.nodes.now stack.old.backs.now stack.old.turns.now top marks.old }
+    ensures long { Long stack.old stack.new }
+    ensures moved { Advances q.inputs q.width q.border q.room (drop (sources_at q.gates) net.now) (drop (counts_at q.gates) net.now) (copies_in leaves.entry.nodes.now leaves.entry.backs.now leaves.entry.len) len stack.old.nodes.now stack.old.backs.now stack.old.turns.now top marks.old seen.old result stack.new.nodes.now stack.new.backs.now stack.new.turns.now marks.new seen.new }
 {
-    let j = turns[top];
+    let j = stack.turns[top];
     let next = j + 1;
-    let pin = PINS * (stack_nodes[top] - q.inputs) + j;
+    let pin = PINS * (stack.nodes[top] - q.inputs) + j;
     let node = net[2 * q.gates + pin];
-    let back = stack_backs[top] + net[(2 + PINS) * q.gates + pin];
+    let back = stack.backs[top] + net[(2 + PINS) * q.gates + pin];
     let at = node * q.width + back;
     let depth = top + 1;
     let met = meet(q, leaves, seen, marks, at, len + depth, node, back);
     match met {
         Met::NoCut => None,
         Met::Known => {
-            turns[top] = next;
+            stack.turns[top] = next;
             Some(depth)
         }
         Met::New => {
-            push(
-                stack_nodes,
-                stack_backs,
-                turns,
-                depth,
-                marks,
-                at,
-                node,
-                back,
-            );
-            turns[top] = next;
+            push(stack, depth, marks, at, node, back);
+            stack.turns[top] = next;
             Some(depth + 1)
         }
     }
@@ -168,48 +157,45 @@ fn run(
     seen: &mut [usize],
     nodes: &mut [usize],
     backs: &mut [usize],
-    stack_nodes: &mut [usize],
-    stack_backs: &mut [usize],
-    turns: &mut [usize],
+    stack: &mut Stack<'_>,
     marks: &mut [u8],
 ) -> Option<usize>
-    requires { Turn q.inputs q.gates q.width q.border q.room net.now (drop (sources_at q.gates) net.now) (drop (counts_at q.gates) net.now) leaves.nodes.now leaves.backs.now leaves.len (q.inputs + q.gate) nodes.old backs.old 0 stack_nodes.old stack_backs.old turns.old 1 seen.old marks.old }
-    ensures { MatchOption result (Clear marks.new × Denied q.inputs q.gates q.border net.now (drop (sources_at q.gates) net.now) (drop (counts_at q.gates) net.now) (copies_in leaves.entry.nodes.now leaves.entry.backs.now leaves.entry.len) (q.inputs + q.gate)) (λ len. Ran q.inputs q.gates q.width q.border q.room net.now (drop (sources_at q.gates) net.now) (drop (counts_at q.gates) net.now) leaves.entry.nodes.now leaves.entry.backs.now leaves.entry.len (q.inputs + q.gate) nodes.new backs.new len stack_nodes.new stack_backs.new turns.new 0 seen.new marks.new) }
+    requires { Turn q.inputs q.gates q.width q.border q.room net.now (drop (sources_at q.gates) net.now) (drop (counts_at q.gates) net.now) leaves.nodes.now leaves.backs.now leaves.len (q.inputs + q.gate) nodes.old backs.old 0 stack.old.nodes.now stack.old.backs.now stack.old.turns.now 1 seen.old marks.old }
+    ensures { MatchOption result (Clear marks.new × Denied q.inputs q.gates q.border net.now (drop (sources_at q.gates) net.now) (drop (counts_at q.gates) net.now) (copies_in leaves.entry.nodes.now leaves.entry.backs.now leaves.entry.len) (q.inputs + q.gate)) (λ len. Ran q.inputs q.gates q.width q.border q.room net.now (drop (sources_at q.gates) net.now) (drop (counts_at q.gates) net.now) leaves.entry.nodes.now leaves.entry.backs.now leaves.entry.len (q.inputs + q.gate) nodes.new backs.new len stack.new.nodes.now stack.new.backs.now stack.new.turns.now 0 seen.new marks.new) }
 {
     let mut len = 0;
     let mut depth = 1;
     while 0 < depth {
         let top = depth - 1;
-        let node = stack_nodes[top];
-        if turns[top] < net[node - q.inputs] {
-            let next = advance(
-                q,
-                net,
-                leaves,
-                seen,
-                len,
-                stack_nodes,
-                stack_backs,
-                turns,
-                top,
-                marks,
-            );
+        let node = stack.nodes[top];
+        if stack.turns[top] < net[node - q.inputs] {
+            let next = advance(q, net, leaves, seen, len, stack, top, marks);
             match next {
                 None => {
                     clear(nodes, backs, len, q.width, marks);
-                    clear(stack_nodes, stack_backs, depth, q.width, marks);
+                    close(stack, depth, q.width, marks);
                     return None;
                 }
                 Some(d) => depth = d,
             }
         } else {
-            let back = stack_backs[top];
+            let back = stack.backs[top];
             leave(nodes, backs, len, marks, node * q.width + back, node, back);
             len += 1;
             depth = top;
         }
     }
     Some(len)
+}
+
+// The marks of the open copies go.
+fn close(stack: &Stack<'_>, depth: usize, width: usize, marks: &mut [u8])
+    requires { (depth ≤ length stack.now.nodes.now) × (depth ≤ length stack.now.backs.now) × ((p : ℕ) → p < depth → place width (copy_at stack.now.nodes.now stack.now.backs.now p) < length marks.old) }
+    ensures { Wiped width stack.now.nodes.now stack.now.backs.now depth marks.old marks.new }
+{
+    for p in 0..depth {
+        marks[stack.nodes[p] * width + stack.backs[p]] = 0;
+    }
 }
 
 // The marks of the first len copies go.
@@ -251,33 +237,18 @@ pub fn descend(
     if let Some(_) = seek(leaf_nodes, leaf_backs, q.leaves, root, 0) {
         return None;
     }
-    push(
-        stack_nodes,
-        stack_backs,
+    let mut stack = Stack {
+        nodes: stack_nodes,
+        backs: stack_backs,
         turns,
-        0,
-        marks,
-        root * q.width,
-        root,
-        0,
-    );
+    };
+    push(&mut stack, 0, marks, root * q.width, root, 0);
     let leaves = CopyList {
         nodes: leaf_nodes,
         backs: leaf_backs,
         len: q.leaves,
     };
-    let len = run(
-        q,
-        net,
-        leaves,
-        seen,
-        nodes,
-        backs,
-        stack_nodes,
-        stack_backs,
-        turns,
-        marks,
-    )?;
+    let len = run(q, net, leaves, seen, nodes, backs, &mut stack, marks)?;
     if untouched(seen, q.leaves) {
         clear(nodes, backs, len, q.width, marks);
         return None;

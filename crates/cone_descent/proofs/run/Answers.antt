@@ -7,41 +7,46 @@ use Rattle.cone_descent.proofs.run.Goals as goal
 pub advance-next-requires : goal.advance-next-requires
 advance-next-requires c =
     let t = c.loop-depth.invariant.0 in
-    (t.leaves, top-pin t (omega arith) c.if-turns-top.true)
+    (t.leaves, top-pin t (omega arith) c.if-stack-top.true)
 
 pub clear-requires : goal.clear-requires
 clear-requires c =
     let t = c.loop-depth.invariant.0 in
     let k = c.advance-next.auto in
-    let r = run-denied t (omega arith) c.advance-next.result _ _ _ _ _ c.if-turns-top.true c.advance-next.ensures k.stack_nodes k.stack_backs k.turns k.marks k.seen c.in-None.is in
+    let y = c.advance-next.ensures.long in
+    let r = run-denied t (omega arith) c.advance-next.result _ _ _ _ _ c.if-stack-top.true c.advance-next.ensures.moved y.nodes y.backs y.turns k.marks k.seen c.in-None.is in
     (omega (arith, r.turn.fits, r.turn.list_nodes), omega (arith, r.turn.fits, r.turn.list_backs), list-table r)
 
-pub clear-requires-in-None : goal.clear-requires-in-None
-clear-requires-in-None c =
+pub close-requires : goal.close-requires
+close-requires c =
     let t = c.loop-depth.invariant.0 in
     let k = c.advance-next.auto in
-    let r = run-denied t (omega arith) c.advance-next.result _ _ _ _ _ c.if-turns-top.true c.advance-next.ensures k.stack_nodes k.stack_backs k.turns k.marks k.seen c.in-None.is in
+    let y = c.advance-next.ensures.long in
+    let r = run-denied t (omega arith) c.advance-next.result _ _ _ _ _ c.if-stack-top.true c.advance-next.ensures.moved y.nodes y.backs y.turns k.marks k.seen c.in-None.is in
     (omega (arith, r.turn.fits, r.turn.nodes), omega (arith, r.turn.fits, r.turn.backs), λ p h. omega (arith, stack_table r p h, c.clear.auto.marks))
 
 pub returns-in-None : goal.returns-in-None
 returns-in-None c =
     let t = c.loop-depth.invariant.0 in
     let k = c.advance-next.auto in
-    let r = run-denied t (omega arith) c.advance-next.result _ _ _ _ _ c.if-turns-top.true c.advance-next.ensures k.stack_nodes k.stack_backs k.turns k.marks k.seen c.in-None.is in
-    told-stop r _ _ c.loop-depth-test.true c.clear.ensures c.clear-in-None.ensures
+    let y = c.advance-next.ensures.long in
+    let r = run-denied t (omega arith) c.advance-next.result _ _ _ _ _ c.if-stack-top.true c.advance-next.ensures.moved y.nodes y.backs y.turns k.marks k.seen c.in-None.is in
+    told-stop r _ _ c.loop-depth-test.true c.clear.ensures c.close.ensures
 
 pub loop-depth-smaller-in-Some : goal.loop-depth-smaller-in-Some
 loop-depth-smaller-in-Some c =
     let t = c.loop-depth.invariant.0 in
     let k = c.advance-next.auto in
-    let r = run_moved t (omega arith) c.advance-next.result _ _ _ _ _ c.if-turns-top.true c.advance-next.ensures k.stack_nodes k.stack_backs k.turns k.marks k.seen c.in-Some.d c.in-Some.is in
+    let y = c.advance-next.ensures.long in
+    let r = run_moved t (omega arith) c.advance-next.result _ _ _ _ _ c.if-stack-top.true c.advance-next.ensures.moved y.nodes y.backs y.turns k.marks k.seen c.in-Some.d c.in-Some.is in
     r.1
 
 pub loop-depth-preserved-in-Some : goal.loop-depth-preserved-in-Some
 loop-depth-preserved-in-Some c =
     let t = c.loop-depth.invariant.0 in
     let k = c.advance-next.auto in
-    let r = run_moved t (omega arith) c.advance-next.result _ _ _ _ _ c.if-turns-top.true c.advance-next.ensures k.stack_nodes k.stack_backs k.turns k.marks k.seen c.in-Some.d c.in-Some.is in
+    let y = c.advance-next.ensures.long in
+    let r = run_moved t (omega arith) c.advance-next.result _ _ _ _ _ c.if-stack-top.true c.advance-next.ensures.moved y.nodes y.backs y.turns k.marks k.seen c.in-Some.d c.in-Some.is in
     (r.0, k.seen ∙ c.loop-depth.invariant.1, k.marks ∙ c.loop-depth.invariant.2)
 
 pub overflow_add-node : goal.overflow_add-node
@@ -52,7 +57,7 @@ overflow_add-node c =
       arith,
       top-table t (omega arith),
       loop.invariant.2,
-      c.well_formed.1.1.1.1.1.1.1.1.1.0.1,
+      c.well_formed.1.1.1.1.1.1.1.0.1,
     )
 
 pub leave-requires : goal.leave-requires
@@ -72,7 +77,7 @@ loop-depth-preserved c =
     let loop = c.loop-depth in
     let t = loop.invariant.0 in
     let e = leave.ensures in (
-      run-left t (omega arith) (omega (arith, c.if-turns-top.false)) e.0 e.1
+      run-left t (omega arith) (omega (arith, c.if-stack-top.false)) e.0 e.1
           e.2,
       loop.invariant.1,
       leave.auto.marks ∙ loop.invariant.2,
