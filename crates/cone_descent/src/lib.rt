@@ -193,9 +193,7 @@ fn close(stack: &Stack<'_>, depth: usize, width: usize, marks: &mut [u8])
     requires { (depth ≤ length stack.now.nodes.now) × (depth ≤ length stack.now.backs.now) × ((p : ℕ) → p < depth → place width (copy_at stack.now.nodes.now stack.now.backs.now p) < length marks.old) }
     ensures { Wiped width stack.now.nodes.now stack.now.backs.now depth marks.old marks.new }
 {
-    for p in 0..depth {
-        marks[stack.nodes[p] * width + stack.backs[p]] = 0;
-    }
+    clear(stack.nodes, stack.backs, depth, width, marks);
 }
 
 // The marks of the first len copies go.
