@@ -21,7 +21,11 @@ fn compare(
     requires { (j < length leaf_nodes.now) × (j < length leaf_backs.now) }
     ensures { Seen (copy node back) (copy_at leaf_nodes.now leaf_backs.now j) result }
 {
-    (leaf_nodes[j], leaf_backs[j]).cmp(&(node, back))
+    if leaf_nodes[j] == node {
+        leaf_backs[j].cmp(&back)
+    } else {
+        leaf_nodes[j].cmp(&node)
+    }
 }
 
 // The place of the copy among n leaves. Of leaves that do not rise only those up to the first one beyond the copy count, and none behind it is read.

@@ -106,21 +106,17 @@ fn read_head(bytes: &[u8], at: usize, k: usize) -> Result<Read<Head>, Refusal>
 }
 
 // Leaf i takes the next stored d where its bit is set, else 0.
-fn spread_one(so: SpreadSoFar, map: u8, depths: [usize; ITEMS], i: usize) -> SpreadSoFar
+fn spread_one(so: &mut SpreadSoFar, map: u8, depths: [usize; ITEMS], i: usize)
     requires i_lt_most_pins { i < most_pins }
-    requires spreading { Spreading map depths i so }
-    ensures { Spreading map depths (i + 1) result }
+    requires spreading { Spreading map depths i so.old }
+    ensures { Spreading map depths (i + 1) so.new }
 {
-    let SpreadSoFar { mut backs, used } = so;
     if has(map, i) {
-        backs[i] = depths[used];
-        return SpreadSoFar {
-            backs,
-            used: used + 1,
-        };
+        so.backs[i] = depths[so.used];
+        so.used += 1;
+        return;
     }
-    backs[i] = 0;
-    SpreadSoFar { backs, used }
+    so.backs[i] = 0;
 }
 
 // The d's of n leaves: those whose bit is set take the stored d's in turn, the others have 0.
@@ -133,7 +129,7 @@ fn spread(map: u8, n: usize, depths: [usize; ITEMS]) -> [usize; ITEMS]
         used: 0,
     };
     for i in 0..n {
-        so = spread_one(so, map, depths, i);
+        spread_one(&mut so, map, depths, i);
     }
     so.backs
 }

@@ -1,4 +1,5 @@
 // The fields of a net record and of a cover record, the bytes that may stand in them and the numbers of one or two bytes: each tested when read.
+// Tests and readers of one field are inlined: a caller names its field, and its own test alone is left there.
 #![tactic(auto)]
 
 ghost use Rattle.std.specs.Prelude.{◌≡◌, Bool, true, false, ◌&&◌, List, ℕ, ◌+◌, ◌*◌, ◌^◌, ◌≤◌, ◌<◌, leb, ltb, drop, IfOk};
@@ -80,6 +81,7 @@ pub fn ones_of(map: u8) -> u32
 }
 
 // Whether a byte may stand in a field of a net.
+#[inline(always)]
 fn net_allowed(field: NetField, byte: u8) -> bool
     ensures { result ≡ allowed_of (Field.Net field) byte }
 {
@@ -90,8 +92,8 @@ fn net_allowed(field: NetField, byte: u8) -> bool
         NetField::RegisterMap(pins) => within(byte, pins),
         NetField::Count => matches!(byte, 1..=COUNT_BYTE),
         NetField::Table(pins) => table_byte(pins, byte),
-        NetField::OutputMap => byte <= 1,
-        NetField::Past => byte <= 7,
+        NetField::OutputMap => matches!(byte, 0..=1),
+        NetField::Past => matches!(byte, 0..=7),
     }
 }
 
@@ -103,6 +105,7 @@ fn inputs_byte(byte: u8) -> bool
 }
 
 // Whether a byte may stand in a field of a cover.
+#[inline(always)]
 fn cover_allowed(field: CoverField, byte: u8) -> bool
     ensures { result ≡ allowed_of (Field.Cover field) byte }
 {
@@ -114,6 +117,7 @@ fn cover_allowed(field: CoverField, byte: u8) -> bool
 }
 
 // Whether a byte may stand in a field.
+#[inline(always)]
 fn allowed(field: Field, byte: u8) -> bool
     ensures { result ≡ allowed_of field byte }
 {
@@ -136,9 +140,9 @@ fn table_byte(pins: usize, byte: u8) -> bool
     ensures { result ≡ table_byte pins byte }
 {
     match pins {
-        0 => byte <= 1,
-        1 => byte <= 3,
-        2 => byte <= 15,
+        0 => matches!(byte, 0..=1),
+        1 => matches!(byte, 0..=3),
+        2 => matches!(byte, 0..=15),
         _ => true,
     }
 }
@@ -174,6 +178,7 @@ fn early(field: Field) -> Refusal
 }
 
 // The byte at a place: refused where the bytes end, or where it may not stand in the field.
+#[inline(always)]
 pub fn read_byte(bytes: &[u8], at: usize, field: Field) -> Result<Read<u8>, Refusal>
     ensures { field_byte field (drop at bytes.now) ≡ outcome (λ b. b) bytes.now result }
 {
@@ -211,6 +216,7 @@ pub fn read_items(
 }
 
 // Whether a number may stand in a field.
+#[inline(always)]
 fn number_allowed(field: NumberField, value: usize) -> bool
     ensures { result ≡ allowed_number field value }
 {
@@ -277,6 +283,7 @@ pub fn luts_field(rules: Rules) -> NumberField
 }
 
 // A number behind its last byte, tested.
+#[inline(always)]
 fn tested(field: NumberField, value: usize, behind: usize) -> Result<Read<usize>, Refusal>
     ensures same { (s : List ℕ) → check (allowed_number field value) (number_refusal field) value (drop behind s) ≡ outcome (λ n. n) s result }
     ensures small { IfOk result (λ r. r.value ≡ value) }
@@ -295,6 +302,7 @@ fn paired(low: u8, high: u8) -> usize
 }
 
 // The number of one byte at a place.
+#[inline(always)]
 fn read_one(bytes: &[u8], at: usize, field: NumberField) -> Result<Read<usize>, Refusal>
     ensures { NumberRead false bytes.now at field result }
 {
@@ -306,6 +314,7 @@ fn read_one(bytes: &[u8], at: usize, field: NumberField) -> Result<Read<usize>, 
 }
 
 // The number of two bytes at a place.
+#[inline(always)]
 fn read_two(bytes: &[u8], at: usize, field: NumberField) -> Result<Read<usize>, Refusal>
     ensures { NumberRead true bytes.now at field result }
 {
@@ -321,6 +330,7 @@ fn read_two(bytes: &[u8], at: usize, field: NumberField) -> Result<Read<usize>, 
 }
 
 // The number at a place, of one byte or of two: refused where the bytes end, or where it may not stand in the field.
+#[inline(always)]
 pub fn read_number(
     bytes: &[u8],
     at: usize,

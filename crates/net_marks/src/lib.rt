@@ -53,5 +53,7 @@ pub fn store(from: &[usize], n: usize, net: &mut [usize], at: usize)
     requires n_in_bounds_2 { at + n ≤ length net.old }
     ensures { Stored net.old at from.now n net.new }
 {
-    net[at..at + n].copy_from_slice(&from[..n]);
+    for i in 0..n {
+        net[at + i] = from[i];
+    }
 }

@@ -55,33 +55,22 @@ pub struct OutputRow {
 }
 
 // Place i of the maps: a pin with the next count, a pin with none, or no pin.
-fn spread_one(so: SpreadSoFar, maps: Maps, counts: [u8; ITEMS], i: usize) -> SpreadSoFar
+fn spread_one(so: &mut SpreadSoFar, maps: Maps, counts: [u8; ITEMS], i: usize)
     requires i_lt_most_pins { i < most_pins }
-    requires spreading { Spreading maps.pins maps.registers counts i so }
-    ensures { Spreading maps.pins maps.registers counts (i + 1) result }
+    requires spreading { Spreading maps.pins maps.registers counts i so.old }
+    ensures { Spreading maps.pins maps.registers counts (i + 1) so.new }
 {
     if !has(maps.pins, i) {
-        return so;
+        return;
     }
-    let SpreadSoFar {
-        counts: mut spread,
-        pin,
-        used,
-    } = so;
     if has(maps.registers, i) {
-        spread[pin] = counts[used];
-        return SpreadSoFar {
-            counts: spread,
-            pin: pin + 1,
-            used: used + 1,
-        };
+        so.counts[so.pin] = counts[so.used];
+        so.pin += 1;
+        so.used += 1;
+        return;
     }
-    spread[pin] = 0;
-    SpreadSoFar {
-        counts: spread,
-        pin: pin + 1,
-        used,
-    }
+    so.counts[so.pin] = 0;
+    so.pin += 1;
 }
 
 // The counts of a gate's pins, rising: those with a register bit take the counts in turn, the others have 0.
@@ -95,7 +84,7 @@ fn spread(maps: Maps, counts: [u8; ITEMS]) -> [u8; ITEMS]
         used: 0,
     };
     for i in 0..PINS {
-        so = spread_one(so, maps, counts, i);
+        spread_one(&mut so, maps, counts, i);
     }
     so.counts
 }
