@@ -39,6 +39,6 @@ pub record Found (M : Mode) (C : Circuit) (k target : ℕ) (tops os oc : List �
 abbrev pub Missed : Mode → Circuit → ℕ → ℕ → List ℕ → List ℕ → List ℕ → ℕ → Type 0
 Missed M C k target tops os oc n = (1 ≤ target) × ((N : Net) → Suits M C k tops N → N.outputs ≡ pins_in os oc 0 n → ¬ ReachableIn M N k target)
 
--- the period, where there is one
+-- the period, where there is one; the labels have their length and bounds in any case
 abbrev pub PeriodFound : Mode → Circuit → ℕ → ℕ → List ℕ → List ℕ → List ℕ → ℕ → List ℤ → Option ℕ → Type 0
-PeriodFound M C k target tops os oc n ls r = MatchOption r (Missed M C k target tops os oc n) (λ φ. Found M C k target tops os oc n ls φ)
+PeriodFound M C k target tops os oc n ls r = MatchOption r (Fine C ls × Missed M C k target tops os oc n) (λ φ. Found M C k target tops os oc n ls φ)

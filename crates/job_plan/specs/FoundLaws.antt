@@ -7,7 +7,7 @@ use Rattle.cut_circuit.specs.Circuit.{Circuit}
 use Rattle.label_sweep.specs.Sweeps.{Labelled}
 use Rattle.label_period.specs.PeriodSearch.{Period}
 use Rattle.cut_circuit.specs.declared.Extent.{Extent}
-use Rattle.label_visit.specs.LabelVisits.{wiring, tops_in}
+use Rattle.label_visit.specs.LabelVisits.{wiring, tops_in, Fine}
 use Rattle.job_plan.specs.Found.{cap_in, Found, Missed}
 
 module _ {M : Mode} {C : Circuit} {k target : ℕ} {tops os oc : List ℕ} {n : ℕ} {ls : List ℤ} where
@@ -34,8 +34,8 @@ module _ {M : Mode} {C : Circuit} {k target : ℕ} {tops os oc : List ℕ} {n : 
     labels = λ N S P o. l.found e N S o;
   }
 
-  pub found_none : {b : Bool} → ¬ (target ≡ 0) → Labelled M C k target tops os oc n ls b → b ≡ false → Missed M C k target tops os oc n
-  found_none z l e = (omega arith, l.none e)
+  pub found_none : {b : Bool} → ¬ (target ≡ 0) → Labelled M C k target tops os oc n ls b → b ≡ false → Fine C ls × Missed M C k target tops os oc n
+  found_none z l e = (l.fine, (omega arith, l.none e))
 
 -- the ceilings of a mode
 module _ {M : Mode} {cap : Option ℕ} {k target : ℕ} (s : Extent) (net : List ℕ) (e : cap ≡ cap_in M) where

@@ -36,7 +36,7 @@ tabulate-requires c = let choose = c.choose in
     record { tabulates = (engine_tabulates e c.requires.roomy rows (found_cap c.args.s c.args.net.now c.cap_of-cap.ensures c.in_ok-phi.ensures.period_found) choose.ensures.chosen, c.requires.roomy.at_luts); gates_in_bounds = (omega (arith, e.parts), omega (arith, rows, c.requires.roomy.at_rows)); most_table_in_bounds = (omega (arith, m, l, e.size), clear_behind y (x ++ drop n t) n choose.ensures.rest.cleared.zero (clear_behind x t n c.in_ok-phi.ensures.at_rest_2.cleared.zero e.clear)) }
 
 pub returns-in_err-phi : goal.returns-in_err-phi
-returns-in_err-phi c = rw c.from_residual.ensures (told_none (missed_cap c.args.s c.args.net.now c.cap_of-cap.ensures _ _ _ c.in_err-phi.ensures.period_found))
+returns-in_err-phi c = rw c.from_residual.ensures (told_none (missed_cap c.args.s c.args.net.now c.cap_of-cap.ensures _ _ _ c.in_err-phi.ensures.period_found.1))
 
 pub returns : goal.returns
 returns c = told-cover c.requires.engine.few (found_cap c.args.s c.args.net.now c.cap_of-cap.ensures c.in_ok-phi.ensures.period_found) c.choose.ensures.chosen c.tabulate.ensures.tabulated
