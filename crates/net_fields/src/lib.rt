@@ -193,6 +193,7 @@ pub fn read_byte(bytes: &[u8], at: usize, field: Field) -> Result<Read<u8>, Refu
 }
 
 // The next n bytes, each of one field; the first refusal ends it. The values behind them are 0.
+#[inline(always)]
 pub fn read_items(
     bytes: &[u8],
     at: usize,
@@ -347,6 +348,7 @@ pub fn read_number(
 }
 
 // The next n numbers, each of one field; the first refusal ends it. The values behind them are 0.
+#[inline(always)]
 pub fn read_numbers(
     bytes: &[u8],
     at: usize,
